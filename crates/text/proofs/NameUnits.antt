@@ -1,0 +1,101 @@
+-- Lemmas for the id of a name: its units one by one, their bytes as they are written, and the turns of the hash over them. Assumes nothing.
+use mathlib.Core.Path.{_≡_, sym, _∙_, ap}
+use mathlib.Core.Bool.{Bool}
+use mathlib.Core.List.{List, _++_, append-assoc, append-nil}
+use Prim.Native.Nat.{ℕ, _+_, _*_, _-_, _/_, _%_, _≤_, _<_}
+use native.Mathlib.Numerals.{add-one}
+use native.Mathlib.Omega.{arith}
+use lib.Dec.{lit≤}
+use lib.ListN.{length, set, getD, take, drop, length-append, length-take, length-drop, drop-of-length-le, List·getD-append}
+use lib.Seq.{take-suc, take-all, getD-append-add}
+use Rattle.text.specs.Number.{leAt}
+use Rattle.text.specs.NumberLaws.{leAt-part}
+use Rattle.text.specs.Output.{over, Wrote}
+use Rattle.text.specs.OutputLaws.{take-over, wrote-byte, wrote-as, wrote-count}
+use Rattle.text.specs.Utf16.{unitBytes}
+use Rattle.text.specs.Lower.{lower, lowered}
+use Rattle.text.specs.LowerLaws.{lowered-length, lowered-at}
+use Rattle.text.specs.City.{turn, turns, start, finish, cityHash64}
+use Rattle.text.specs.CityLaws.{turns-at, long-is}
+use Rattle.text.specs.declared.city.State.{State}
+use Rattle.text.specs.Units.{unitsOf, nameUnits}
+use Rattle.text.specs.IdLaws.{unitBytes-length, unitBytes-append, unitBytes-take, unitBytes-drop}
+
+module _ (wide : Bool) (part suffix : List ℕ) where
+  pub name-length : length (nameUnits wide part suffix) ≡ length (unitsOf wide part) + length suffix
+  unfolding nameUnits
+  name-length = rw (length-append, lowered-length)
+
+  -- a unit of the part
+  pub part-unit : (i : ℕ) → i < length (unitsOf wide part) → getD (nameUnits wide part suffix) i 0 ≡ lower (getD (unitsOf wide part) i 0)
+  unfolding nameUnits
+  part-unit i h =
+      let l : i < length (lowered (unitsOf wide part)) = rw lowered-length h in
+      List·getD-append (lowered (unitsOf wide part)) suffix 0 i l ∙ lowered-at (unitsOf wide part) i h
+
+  -- a unit of the suffix
+  pub suffix-unit : (i : ℕ) → length (unitsOf wide part) ≤ i → getD (nameUnits wide part suffix) i 0 ≡ getD suffix (i - length (unitsOf wide part)) 0
+  unfolding nameUnits
+  suffix-unit i h =
+      let us : List ℕ = unitsOf wide part in
+      let e : i ≡ length (lowered us) + (i - length us) = omega (arith, lowered-length us) in
+      ap (λ (k : ℕ). getD (lowered us ++ suffix) k 0) e ∙ getD-append-add (lowered us) suffix (i - length us) 0
+
+-- ---- writing
+
+-- one unit more
+pub wrote-unit : {s o : List ℕ} {at : ℕ} (us : List ℕ) (i : ℕ) → Wrote s (unitBytes (take i us)) o at → i < length us → at + 2 ≤ length s
+    → Wrote s (unitBytes (take (i + 1) us)) (set (set o at (getD us i 0 % 256)) (at + 1) (getD us i 0 / 256)) (at + 2)
+wrote-unit {s} {o} {at} us i w h l =
+    let u : ℕ = getD us i 0 in
+    wrote-count
+    (wrote-as (wrote-byte (wrote-byte w (omega arith) (u % 256)) (omega arith) (u / 256)) (rw (add-one, take-suc us i 0 h, unitBytes-append, append-assoc)))
+    (omega arith)
+
+-- how many bytes n units take
+pub units-size : (us : List ℕ) (from n : ℕ) → from + n ≤ length us → length (unitBytes (take n (drop from us))) ≡ 2 * n
+units-size us from n h = rw unitBytes-length (simp (length-take, length-drop) (omega arith))
+
+-- a buffer that they fill
+pub wrote-whole : {s o : List ℕ} {r : ℕ} (us : List ℕ) (from n : ℕ) → Wrote s (unitBytes (take n (drop from us))) o r → from + n ≤ length us → length s ≡ 2 * n
+    → o ≡ unitBytes (take n (drop from us))
+unfolding over
+wrote-whole {s} us from n w h e =
+    let l : length s ≤ length (unitBytes (take n (drop from us))) = omega (arith, units-size us from n h) in
+    w .is ∙ rw (drop-of-length-le s l, append-nil)
+
+-- the front of a buffer is what was written
+pub wrote-taken : {s a o : List ℕ} {n : ℕ} → Wrote s a o n → take n o ≡ a
+wrote-taken {s} {a} {o} {n} w = ap (take n) (w .is) ∙ take-over s a n (sym (w .size))
+
+pub taken-length : {s a o : List ℕ} {n : ℕ} → Wrote s a o n → n ≡ length (take n o)
+taken-length w = w .size ∙ ap length (sym (wrote-taken w))
+
+-- all units, written from the first on
+pub wrote-all : {s o : List ℕ} {r : ℕ} (us : List ℕ) (n : ℕ) → Wrote s (unitBytes (take n (drop 0 us))) o r → length us ≤ n → take r o ≡ unitBytes us
+wrote-all us n w h = wrote-taken w ∙ ap unitBytes (take-all n us h)
+
+-- ---- hashing
+
+-- the first word of a text stands in the bytes of its first four units
+pub first-bytes : (us : List ℕ) → leAt 8 (unitBytes (take 4 us)) 0 ≡ leAt 8 (unitBytes us) 0
+first-bytes us = ap (λ (s : List ℕ). leAt 8 s 0) (unitBytes-take 4 us) ∙ leAt-part 8 0 8 (unitBytes us) 0 (lit≤ tt)
+
+-- the 64 bytes of 32 units
+pub chunk-bytes : (from : ℕ) (us : List ℕ) → unitBytes (take 32 (drop from us)) ≡ take 64 (drop (2 * from) (unitBytes us))
+chunk-bytes from us = unitBytes-take 32 (drop from us) ∙ ap (take 64) (unitBytes-drop from us)
+
+-- one turn, and those that are left
+pub turns-next : (k from : ℕ) (us : List ℕ) (t : State) → 0 < k
+    → turns (k - 1) (drop (2 * (from + 32)) (unitBytes us)) (turn (unitBytes (take 32 (drop from us))) t) ≡ turns k (drop (2 * from) (unitBytes us)) t
+turns-next k from us t h =
+    let d : 2 * (from + 32) ≡ 2 * from + 64 = omega arith in
+    rw (chunk-bytes, d) (sym (turns-at k (unitBytes us) (2 * from) t h))
+
+-- the hash of more than 32 units, as the code computes it
+pub long-units : (us : List ℕ) (n : ℕ) → n ≡ length us → 32 < n
+    → cityHash64 (unitBytes us) ≡ finish (turns ((2 * n - 1) / 64) (unitBytes us) (start (2 * n) (unitBytes (take 32 (drop (n - 32) us))) (leAt 8 (unitBytes us) 0)))
+long-units us n e h =
+    let l : length (unitBytes us) ≡ 2 * n = unitBytes-length us ∙ ap (λ (k : ℕ). 2 * k) (sym e) in
+    let d : 2 * (n - 32) ≡ 2 * n - 64 = omega arith in
+    rw (chunk-bytes, d, ← l) (long-is (unitBytes us) (omega arith))

@@ -1,0 +1,54 @@
+-- `id::name_unit`: a unit of the part, lowered, or a byte of the suffix. Assumes nothing.
+use mathlib.Core.Path.{_∙_, ap, sym}
+use Prim.Native.Nat.{ℕ, _-_}
+use native.Mathlib.Omega.{arith}
+use borrow.Author.Needs.{needs}
+use lib.ListN.{getD}
+use Rattle.text.specs.Lower.{lower}
+use Rattle.text.specs.LowerLaws.{lower-unit}
+use Rattle.text.proofs.NameUnits.{name-length, part-unit, suffix-unit}
+use Rattle.text.proofs.id.name_unit.Statement.{statement}
+use Rattle.text.proofs.id.name_unit.Tie as tie
+
+unit-count-requires : tie.Need-unit-count-requires
+unit-count-requires c κs = search needs
+
+unit-at-requires : tie.Need-unit-at-requires
+unit-at-requires c κs = search needs
+
+lower-scalar-requires : tie.Need-lower-scalar-requires
+lower-scalar-requires c κs = search needs
+
+returns : tie.Need-returns
+returns c =
+    let a = c .before .before .before .before .before .before .args in (
+      c .lower-scalar .ensures ∙ ap lower (c .before .unit-at .ensures .0) ∙ sym (part-unit (a .wide) (a .part .now) (a .suffix .now) (a .i) (search needs)),
+      rw (c .lower-scalar .ensures) (lower-unit (c .before .unit-at .result) (c .before .unit-at .ensures .1)),
+    )
+
+shared-slice-read-wide : tie.Need-shared-slice-read-wide
+shared-slice-read-wide c =
+    let a = c .before .before .before .before .before .args in
+    omega (arith, name-length (a .wide) (a .part .now) (a .suffix .now))
+
+wide-requires : tie.Need-wide-requires
+wide-requires c κs = search needs
+
+returns-2 : tie.Need-returns-2
+returns-2 c =
+    let a = c .before .before .before .before .before .before .args in (
+      c .wide .ensures .0 ∙ ap (λ (n : ℕ). getD (a .suffix .now) (a .i - n) 0) (c .before .before .before .unit-count .ensures) ∙ sym (suffix-unit (a .wide) (a .part .now) (a .suffix .now) (a .i) (search needs)),
+      search needs,
+    )
+
+pub name-unit-spec : {M : Type 1} → statement M
+name-unit-spec =
+    tie.close
+    (tie.spec
+    unit-count-requires
+    unit-at-requires
+    lower-scalar-requires
+    returns
+    shared-slice-read-wide
+    wide-requires
+    returns-2)

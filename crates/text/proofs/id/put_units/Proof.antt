@@ -1,0 +1,98 @@
+-- `id::put_units`: after i turns the buffer's front has the bytes of the first i units, 2 * i of them. Assumes nothing.
+use mathlib.Core.Path.{_≡_, sym, _∙_}
+use mathlib.Core.List.{List}
+use Prim.Native.Nat.{ℕ, _*_, _-_, _≤_}
+use native.Mathlib.Omega.{arith}
+use borrow.Author.Needs.{needs}
+use lib.ListN.{length, take, drop, getD, length-set, length-drop}
+use lib.Seq.{getD-drop}
+use Rattle.text.specs.Output.{Wrote}
+use Rattle.text.specs.OutputLaws.{wrote-none}
+use Rattle.text.specs.Utf16.{unitBytes}
+use Rattle.text.specs.Units.{nameUnits}
+use Rattle.text.specs.UnitsLaws.{unitsOf-bound}
+use Rattle.text.proofs.NameUnits.{name-length, wrote-unit}
+use Rattle.text.proofs.id.put_units.Statement.{statement}
+use Rattle.text.proofs.id.put_units.Tie as tie
+
+abbrev Inv-loop : tie.InvT-loop
+Inv-loop out₀ part wide suffix from n at₀ i₀ out at i = (i ≤ n) × (at ≡ 2 * i) × Wrote out₀ (unitBytes (take i (drop from (nameUnits wide part suffix)))) out at × (length out ≡ length out₀)
+
+abbrev μ-loop : tie.MeasureT-loop
+μ-loop out₀ part wide suffix from n at₀ i₀ out at i = n - i
+
+loop-holds : tie.Need-loop-holds Inv-loop μ-loop
+loop-holds c = (search needs, search needs, wrote-none _, search needs)
+
+add-name-unit : tie.Need-add-name-unit Inv-loop μ-loop
+add-name-unit c =
+    let a = c .before .before .before .before .before .args in
+    omega (arith, name-length (a .wide) (a .part .now) (a .suffix .now), unitsOf-bound (a .wide) (a .part .now))
+
+name-unit-requires : tie.Need-name-unit-requires Inv-loop μ-loop
+name-unit-requires c κs = omega arith
+
+cast-out : tie.Need-cast-out Inv-loop μ-loop
+cast-out c = omega arith
+
+slice-write-out : tie.Need-slice-write-out Inv-loop μ-loop
+slice-write-out c = omega arith
+
+cast-out-2 : tie.Need-cast-out-2 Inv-loop μ-loop
+cast-out-2 c = omega arith
+
+add-out : tie.Need-add-out Inv-loop μ-loop
+add-out c = omega arith
+
+slice-write-out-2 : tie.Need-slice-write-out-2 Inv-loop μ-loop
+slice-write-out-2 c = simp length-set (omega arith)
+
+add-at : tie.Need-add-at Inv-loop μ-loop
+add-at c = omega arith
+
+add-i : tie.Need-add-i Inv-loop μ-loop
+add-i c = omega arith
+
+loop-less : tie.Need-loop-less Inv-loop μ-loop
+loop-less c = omega arith
+
+loop-again : tie.Need-loop-again Inv-loop μ-loop
+loop-again c =
+    let a = c .before .before .before .before .before .before .args in
+    let us : List ℕ = nameUnits (a .wide) (a .part .now) (a .suffix .now) in
+    let i : ℕ = c .before .before .loop .i in
+    let e : c .name-unit .result ≡ getD (drop (a .from) us) i 0 = c .name-unit .ensures .0 ∙ sym (getD-drop (a .from) us i 0) in (
+      omega arith,
+      omega arith,
+      rw e (wrote-unit (drop (a .from) us) i (c .before .before .loop .inv .2) (simp length-drop (omega arith)) (omega arith)),
+      simp length-set (omega arith),
+    )
+
+same-length : tie.Need-same-length Inv-loop μ-loop
+same-length c = omega arith
+
+returns : tie.Need-returns Inv-loop μ-loop
+returns c =
+    let e : c .before .before .before .before .before .args .n ≡ c .before .loop .i = omega arith in
+    rw e (c .before .loop .inv .2)
+
+pub put-units-spec : {M : Type 1} → statement M
+put-units-spec =
+    tie.close
+    (tie.spec
+    Inv-loop
+    μ-loop
+    loop-holds
+    add-name-unit
+    name-unit-requires
+    cast-out
+    slice-write-out
+    cast-out-2
+    add-out
+    slice-write-out-2
+    add-at
+    add-i
+    loop-less
+    loop-again
+    same-length
+    returns)

@@ -1,0 +1,56 @@
+// Numbers in decimal and in hexadecimal digits.
+ghost use mathlib.Core.Path.{_≡_};
+ghost use Prim.Native.Nat.{_≤_, _<_};
+ghost use lib.ListN.{length};
+ghost use Rattle.text.specs.Output.{Wrote};
+ghost use Rattle.text.specs.Digits.{decimal, hexDigit, hex};
+
+// How many digits a number has in decimal.
+pub fn decimal_len(n: u64) -> usize
+    ensures { λ r. ⌜ (r ≡ length (decimal n)) × (r ≤ 20) ⌝ }
+{
+    let mut rest = n;
+    let mut count: usize = 1;
+    while 10 <= rest {
+        rest = rest / 10;
+        count += 1;
+    }
+    count
+}
+
+// A number in decimal.
+pub fn put_decimal(out: &mut [u8], n: u64) -> usize
+    requires { ⌜ length (decimal n) ≤ length (now out) ⌝ }
+    ensures { λ r. ⌜ Wrote (now (out .entry)) (decimal n) (now (out .exit)) r ⌝ }
+{
+    if n < 10 {
+        out[0] = (48 + n) as u8;
+        return 1;
+    }
+    let at = put_decimal(out, n / 10);
+    out[at] = (48 + n % 10) as u8;
+    at + 1
+}
+
+fn hex_digit(d: u64) -> u8
+    requires { ⌜ d < 16 ⌝ }
+    ensures { λ r. ⌜ r ≡ hexDigit d ⌝ }
+{
+    if d < 10 {
+        return (48 + d) as u8;
+    }
+    (87 + d) as u8
+}
+
+// The last k hexadecimal digits of a number.
+pub fn put_hex(out: &mut [u8], n: u64, k: usize) -> usize
+    requires { ⌜ k ≤ length (now out) ⌝ }
+    ensures { λ r. ⌜ Wrote (now (out .entry)) (hex k n) (now (out .exit)) r ⌝ }
+{
+    if k == 0 {
+        return 0;
+    }
+    let at = put_hex(out, n / 16, k - 1);
+    out[at] = hex_digit(n % 16);
+    at + 1
+}

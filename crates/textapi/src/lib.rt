@@ -1,0 +1,47 @@
+// Layer 1's functions for tests and benchmarks in other languages.
+ghost use mathlib.Core.Path.{_≡_};
+ghost use lib.ListN.{length};
+ghost use Rattle.text.specs.City.{cityHash64};
+ghost use Rattle.textapi.specs.Answers.{fine, idAnswer, nameAnswer, nameAfter};
+
+#[no_mangle]
+pub extern "C" fn text_city_hash64(s: &[u8]) -> u64
+    ensures { λ r. ⌜ r ≡ cityHash64 (now (s .entry)) ⌝ }
+{
+    text::city::city_hash64(s)
+}
+
+// Whether a part is a text that the functions below take.
+fn is_fine(part: &[u8], wide: bool) -> bool
+    ensures { λ r. ⌜ r ≡ fine wide (now (part .entry)) ⌝ }
+{
+    if part.len() < 0x1_0000_0000 {
+        return text::utf16::is_text(part, wide);
+    }
+    false
+}
+
+// The id of a name; 0 where it is no text.
+#[no_mangle]
+pub extern "C" fn text_name_id(part: &[u8], wide: bool, number: u32) -> u64
+    ensures { λ r. ⌜ r ≡ idAnswer wide (now (part .entry)) number ⌝ }
+{
+    if is_fine(part, wide) {
+        return text::id::name_id(part, wide, number);
+    }
+    0
+}
+
+// The rendered name in UTF-8 at the front of the buffer, and its length; where it is no text or has no room, 2^64 - 1 and
+// the buffer as it was.
+#[no_mangle]
+pub extern "C" fn text_put_name(out: &mut [u8], part: &[u8], wide: bool, number: u32) -> u64
+    ensures { λ r. ⌜ (r ≡ nameAnswer (length (now (out .entry))) wide (now (part .entry)) number) × (now (out .exit) ≡ nameAfter (now (out .entry)) wide (now (part .entry)) number) ⌝ }
+{
+    if is_fine(part, wide) {
+        if text::name::name_len(part, wide, number) <= out.len() {
+            return text::name::put_name(out, part, wide, number) as u64;
+        }
+    }
+    0xffff_ffff_ffff_ffff
+}

@@ -1,0 +1,112 @@
+//! Corpora that go step by step to a limit and past it.
+use super::names::{ODD, package_id};
+use crate::{Described, Export, NULL, Package, Text, import_index, script_index};
+
+/// A package of this name, and beside it the names `Own` (1) and `Row_GEN_VARIABLE` (2).
+fn package(name: &str) -> Package {
+    Package {
+        names: [name, "Own", "Row_GEN_VARIABLE"].map(Text::of).to_vec(),
+        ..Package::default()
+    }
+}
+
+/// A candidate with this class.
+fn row(number: u32, class: u64) -> Export {
+    Export {
+        name: 2,
+        number,
+        outer: NULL,
+        class,
+        super_index: NULL,
+        hash: 0,
+    }
+}
+
+/// A class with this super, and hash 1.
+fn class(super_index: u64) -> Export {
+    Export {
+        name: 1,
+        number: 0,
+        outer: NULL,
+        class: script_index(1),
+        super_index,
+        hash: 1,
+    }
+}
+
+/// Script objects `/S`, `/S.Class` and `/S.Native`, numbered from 0.
+fn natives() -> Described {
+    let mut corpus = Described::default();
+    for (i, (name, outer)) in [
+        ("/S", NULL),
+        ("Class", script_index(0)),
+        ("Native", script_index(0)),
+    ]
+    .iter()
+    .enumerate()
+    {
+        corpus.add_object(Text::of(name), 0, script_index(i as u64), *outer);
+    }
+    corpus
+}
+
+/// Rows whose classes are paths of 1 to 66 objects; the last is one too long.
+pub fn paths() -> Described {
+    let mut corpus = Described::default();
+    let mut p = package("/P");
+    let mut outer = NULL;
+    for i in 0..66 {
+        let name = ODD.get(i as usize % 10).copied().unwrap_or("D");
+        outer = corpus.add_object(Text::of(name), 0, script_index(i), outer);
+        p.exports.push(row(i as u32, outer));
+    }
+    corpus.packages.push((1, p));
+    corpus
+}
+
+/// Rows whose chains have 0 to 67 classes, each in a package of its own; classes of the same package and imported ones.
+pub fn chains() -> Described {
+    let mut corpus = natives();
+    let name = |i: u64| format!("/C{i}");
+    for i in 0..67 {
+        let mut p = package(&name(i));
+        let super_index = match i {
+            0 => {
+                p.exports.push(row(1, script_index(2)));
+                script_index(2)
+            }
+            _ => {
+                p.imported.push((Text::of(&name(i - 1)), 0));
+                p.hashes.push(1);
+                p.exports.push(row(2, import_index(0, 0)));
+                import_index(0, 0)
+            }
+        };
+        let own = p.exports.len() as u64;
+        p.exports.push(class(super_index));
+        p.exports.push(row(0, own));
+        corpus.packages.push((package_id(&name(i)), p));
+    }
+    corpus
+}
+
+/// Classes in a ring of this many packages, with a row for each; a ring of script objects.
+pub fn ring(packages: u64) -> Described {
+    let mut corpus = natives();
+    for i in 0..packages {
+        let mut p = package(&format!("/R{i}"));
+        let next = format!("/R{}", (i + 1) % packages);
+        p.imported.push((Text::of(&next), 0));
+        p.hashes.push(1);
+        p.exports = vec![
+            class(import_index(0, 0)),
+            row(0, 0),
+            row(2, script_index(3)),
+        ];
+        corpus.packages.push((package_id(&format!("/R{i}")), p));
+    }
+    let (one, other) = (script_index(3), script_index(4));
+    corpus.add_object(Text::of("Ring"), 0, one, other);
+    corpus.add_object(Text::of("Ring"), 0, other, one);
+    corpus
+}

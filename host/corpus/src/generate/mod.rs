@@ -1,0 +1,42 @@
+//! Corpora from a seed. `generate` makes large ones like a game's build, `dense` small ones in which everything meets,
+//! `ladder` those that go step by step to a limit.
+mod dense;
+pub mod ladder;
+mod names;
+mod objects;
+mod packages;
+mod parts;
+
+pub use crate::random::Random;
+pub use dense::{dense, dense_described};
+pub use names::package_id;
+
+use crate::corpus;
+use objects::Objects;
+use packages::Plan;
+
+/// From this size on a corpus holds a path of each length and a class chain of each length.
+pub const LARGE: usize = 300_000;
+
+/// An accepted corpus of about `bytes` bytes, a twentieth of them script objects.
+pub fn generate(seed: u64, bytes: usize) -> Vec<u8> {
+    let mut random = Random(seed);
+    let large = bytes >= LARGE;
+    let objects = Objects::new(&mut random, (bytes / 20 / 66).max(40), large);
+    let plan = Plan {
+        seed,
+        // A package is some 3 kB: an estimate, from which imports are picked.
+        total: (bytes / 2850).max(1) as u64,
+        large,
+        objects: &objects,
+    };
+    let mut packages = Vec::new();
+    let mut size = objects.block.len();
+    while size < bytes {
+        let (id, package) = plan.package(&mut random, packages.len() as u64);
+        let block = package.bytes();
+        size += block.len() + 12;
+        packages.push((id, block));
+    }
+    corpus(&objects.block, &packages)
+}

@@ -1,0 +1,108 @@
+//! The call: the questions in order, then the report.
+use std::collections::HashMap;
+
+use crate::classes::{Candidate, candidate, is_class};
+use crate::frame::frame;
+use crate::package::{Package, package_block};
+use crate::reader::Refusal;
+use crate::report::{row, section_head};
+use crate::resolve::{Classes, World};
+use crate::script::{Script, script_block};
+
+/// How many class lookups a chain and how many objects a path may have.
+#[derive(Clone, Copy)]
+pub struct Limits {
+    pub lookups: u32,
+    pub objects: u32,
+}
+
+/// The limits of the base call.
+pub const BASE: Limits = Limits {
+    lookups: 64,
+    objects: 65,
+};
+
+/// The longest report: its 4-byte length counts what follows.
+const MOST: u64 = 4_294_967_299;
+
+/// The report, or the refusal and the block; `work` and `buffer` are the two buffers' lengths.
+pub fn class_report(corpus: &[u8], work: u64, buffer: u64) -> Result<Vec<u8>, Refusal> {
+    class_report_within(BASE, corpus, work, buffer)
+}
+
+/// The call with limits of its own.
+pub fn class_report_within(
+    limits: Limits,
+    corpus: &[u8],
+    work: u64,
+    buffer: u64,
+) -> Result<Vec<u8>, Refusal> {
+    let frame = frame(corpus)?;
+    let script = &script_block(frame.script)?;
+    let mut packages = Vec::new();
+    for (block, (id, bytes)) in (2..).zip(frame.packages) {
+        packages.push(package_block(bytes, id, block)?);
+    }
+    let classes = classes(&packages, script, limits)?;
+    let candidates: Vec<Vec<Candidate>> = packages.iter().map(candidates).collect();
+    let rows: usize = candidates.iter().map(Vec::len).sum();
+    if work < 64 * (script.count() + classes.len() + rows) as u64 {
+        return Err((25, 0));
+    }
+    let world = World {
+        script,
+        classes,
+        limits,
+    };
+    report(&world, &packages, &candidates, MOST.min(buffer))
+}
+
+/// The classes by key; question 24: no class key twice?
+fn classes<'a>(
+    packages: &'a [Package],
+    script: &Script,
+    limits: Limits,
+) -> Result<Classes<'a>, Refusal> {
+    let mut classes = HashMap::new();
+    for package in packages {
+        for export in &package.exports {
+            if !is_class(script, export, limits.objects) {
+                continue;
+            }
+            let key = (package.id, export.hash);
+            if classes.insert(key, (package, export)).is_some() {
+                return Err((24, package.block));
+            }
+        }
+    }
+    Ok(classes)
+}
+
+fn candidates(package: &Package) -> Vec<Candidate<'_>> {
+    let of = |export| candidate(package, export);
+    package.exports.iter().filter_map(of).collect()
+}
+
+/// The report, unless it is longer than `most` (question 26). As that is asked last, the first byte too many settles it.
+fn report(
+    world: &World,
+    packages: &[Package],
+    candidates: &[Vec<Candidate>],
+    most: u64,
+) -> Result<Vec<u8>, Refusal> {
+    let mut rest = vec![1];
+    rest.extend((packages.len() as u32).to_be_bytes());
+    for (package, candidates) in packages.iter().zip(candidates) {
+        rest.extend(section_head(package, candidates.len()));
+        for candidate in candidates {
+            rest.extend(row(world, package, candidate));
+            if 4 + rest.len() as u64 > most {
+                return Err((26, 0));
+            }
+        }
+    }
+    if 4 + rest.len() as u64 > most {
+        return Err((26, 0));
+    }
+    Ok([&(rest.len() as u32).to_be_bytes(), &rest[..]].concat())
+}

@@ -1,0 +1,18 @@
+//! Document 01 read afresh: from its text, with no code of the reference, for clarity and not for speed.
+//! One file for each of its headings; texts are UTF-8 bytes throughout.
+mod call;
+mod city;
+mod classes;
+mod frame;
+mod names;
+mod package;
+mod reader;
+mod references;
+mod report;
+mod resolve;
+mod script;
+mod text;
+
+pub use call::{BASE, Limits, class_report, class_report_within};
+pub use city::city_hash64;
+pub use reader::Refusal;
