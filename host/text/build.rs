@@ -12,8 +12,14 @@ fn main() {
     let archive = dir.join("libtextapi.a");
     println!("cargo::rerun-if-changed={}", archive.display());
     if !archive.is_file() {
-        panic!("{} is not there: run `rt staticlib textapi` first", archive.display());
+        panic!(
+            "{} is not there: run `rt staticlib textapi` first",
+            archive.display()
+        );
     }
-    println!("cargo::rustc-link-search=native={}", dir.canonicalize().unwrap().display());
+    println!(
+        "cargo::rustc-link-search=native={}",
+        dir.canonicalize().unwrap().display()
+    );
     println!("cargo::rustc-link-lib=static=textapi");
 }

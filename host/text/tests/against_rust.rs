@@ -32,7 +32,9 @@ fn part(r: &mut Random, units: usize, wide: bool) -> Vec<u8> {
             0..6 => b'A' as u32 + r.below(26) as u32,
             6..9 => b'a' as u32 + r.below(26) as u32,
             9 => r.below(256) as u32,
-            10 => *r.pick(&[0x7f, 0x80, 0x7ff, 0x800, 0xd7ff, 0xe000, 0xfeff, 0xffff, 0x10000, 0x10ffff]),
+            10 => *r.pick(&[
+                0x7f, 0x80, 0x7ff, 0x800, 0xd7ff, 0xe000, 0xfeff, 0xffff, 0x10000, 0x10ffff,
+            ]),
             _ => r.below(0x110000) as u32,
         };
         if !wide {
@@ -53,7 +55,17 @@ fn number(r: &mut Random) -> u32 {
     match r.below(4) {
         0 => 0,
         1 => 1 + r.below(200) as u32,
-        2 => *r.pick(&[1, 10, 11, 100, 101, 1_000_000_000, 1_000_000_001, 0x8000_0000, u32::MAX]),
+        2 => *r.pick(&[
+            1,
+            10,
+            11,
+            100,
+            101,
+            1_000_000_000,
+            1_000_000_001,
+            0x8000_0000,
+            u32::MAX,
+        ]),
         _ => r.next() as u32,
     }
 }
@@ -107,12 +119,17 @@ fn names() {
 /// Every way in which two units can be surrogates or not, alone, at the start, and at the end.
 #[test]
 fn surrogates() {
-    let edges = [0x0041, 0xd7ff, 0xd800, 0xdbff, 0xdc00, 0xdfff, 0xe000, 0xffff];
+    let edges = [
+        0x0041, 0xd7ff, 0xd800, 0xdbff, 0xdc00, 0xdfff, 0xe000, 0xffff,
+    ];
     for a in edges {
         same(&u16::to_le_bytes(a), true, 0);
         for b in edges {
             for c in edges {
-                let p: Vec<u8> = [a, b, c].iter().flat_map(|u: &u16| u.to_le_bytes()).collect();
+                let p: Vec<u8> = [a, b, c]
+                    .iter()
+                    .flat_map(|u: &u16| u.to_le_bytes())
+                    .collect();
                 same(&p, true, 0);
                 same(&p[..4], true, 1);
             }
@@ -127,6 +144,12 @@ fn latin1() {
         assert!(same(&[b], false, 0));
         let mut out = [0; 2];
         let n = put_name(&mut out, &[b], false, 0).unwrap();
-        assert_eq!(std::str::from_utf8(&out[..n]).unwrap().chars().collect::<Vec<_>>(), [b as char]);
+        assert_eq!(
+            std::str::from_utf8(&out[..n])
+                .unwrap()
+                .chars()
+                .collect::<Vec<_>>(),
+            [b as char]
+        );
     }
 }

@@ -59,14 +59,20 @@ fn main() {
         line("CityHash64", n, rattle, rust);
     }
     for n in [8, 24, 40, 80, 1_000, 32_767] {
-        for (what, wide, number) in [("id, one-byte", false, 0), ("id, wide and numbered", true, 12)] {
+        for (what, wide, number) in [
+            ("id, one-byte", false, 0),
+            ("id, wide and numbered", true, 12),
+        ] {
             let text: String = (0..n).map(|i| (b'A' + (i % 50) as u8) as char).collect();
             let part: Vec<u8> = match wide {
                 false => text.bytes().collect(),
                 true => text.encode_utf16().flat_map(u16::to_le_bytes).collect(),
             };
             let rendered = text::plain::rendered(&part, wide, number).unwrap();
-            assert_eq!(text::name_id(&part, wide, number), text::plain::id(&rendered));
+            assert_eq!(
+                text::name_id(&part, wide, number),
+                text::plain::id(&rendered)
+            );
             let rattle = best(|| text::name_id(black_box(&part), wide, number));
             let rust = best(|| text::plain::id(black_box(&rendered)));
             line(what, part.len(), rattle, rust);
