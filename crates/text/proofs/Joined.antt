@@ -8,7 +8,7 @@ use lib.Dec.{eqb, leb, lit≤}
 use lib.Pow.{shl-exact}
 use lib.Bits.{bitOr, or-shifted}
 use borrow.Author.Tests.{eq-eqb, ne-eqb, le-leb, lt-leb}
-use Rattle.text.specs.SignedLaws.{lt-or-le}
+use Rattle.text.specs.Choose.{lt-or-le}
 
 -- `hi << k | lo` at w bits, of a hi of j bits and a lo of k
 pub or-cat : (j k w hi lo : ℕ) → hi < 2 ^ j → lo < 2 ^ k → j + k ≤ w → bitOr ((hi * 2 ^ k) % 2 ^ w) lo ≡ lo + hi * 2 ^ k

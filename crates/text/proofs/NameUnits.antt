@@ -11,7 +11,7 @@ use lib.Seq.{take-suc, take-all, getD-append-add}
 use Rattle.text.specs.Number.{leAt}
 use Rattle.text.specs.NumberLaws.{leAt-part}
 use Rattle.text.specs.Output.{over, Wrote}
-use Rattle.text.specs.OutputLaws.{take-over, wrote-byte, wrote-as, wrote-count}
+use Rattle.text.specs.OutputLaws.{wrote-byte, wrote-as, wrote-count, wrote-taken}
 use Rattle.text.specs.Utf16.{unitBytes}
 use Rattle.text.specs.Lower.{lower, lowered}
 use Rattle.text.specs.LowerLaws.{lowered-length, lowered-at}
@@ -63,13 +63,6 @@ unfolding over
 wrote-whole {s} us from n w h e =
     let l : length s ≤ length (unitBytes (take n (drop from us))) = omega (arith, units-size us from n h) in
     w .is ∙ rw (drop-of-length-le s l, append-nil)
-
--- the front of a buffer is what was written
-pub wrote-taken : {s a o : List ℕ} {n : ℕ} → Wrote s a o n → take n o ≡ a
-wrote-taken {s} {a} {o} {n} w = ap (take n) (w .is) ∙ take-over s a n (sym (w .size))
-
-pub taken-length : {s a o : List ℕ} {n : ℕ} → Wrote s a o n → n ≡ length (take n o)
-taken-length w = w .size ∙ ap length (sym (wrote-taken w))
 
 -- all units, written from the first on
 pub wrote-all : {s o : List ℕ} {r : ℕ} (us : List ℕ) (n : ℕ) → Wrote s (unitBytes (take n (drop 0 us))) o r → length us ≤ n → take r o ≡ unitBytes us

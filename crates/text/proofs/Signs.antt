@@ -14,9 +14,10 @@ use mir.Syntax.{Width}
 use mir.Val.{Fits, SFits, bits, hbits, toZ, ofZ, sel}
 use mir.Facts.{toZ-pos, toZ-ofZ, sfits-toZ, fits-natAbs}
 use borrow.Author.Tests.{le-ltb, ltb-true}
+use Rattle.text.specs.Choose.{lt-or-le}
 use Rattle.text.specs.Signed.{twos}
 use Rattle.text.specs.SignedSize.{sizeOf}
-use Rattle.text.specs.SignedLaws.{lt-or-le, twos-low, twos-high}
+use Rattle.text.specs.SignedLaws.{twos-low, twos-high}
 use Rattle.text.specs.declared.signed.Size.the-variants.{Of, Negative}
 
 -- -1 - m

@@ -1,25 +1,22 @@
 -- Laws of what a text starts and ends with: of the tests, of the units of a text, and of names. Assumes nothing.
 use mathlib.Core.Path.{_≡_, refl, sym, _∙_, ap, ap₂, subst}
-use mathlib.Core.Bool.{Bool, true, false, _&&_}
+use mathlib.Core.Bool.{Bool, true, false, _&&_, and-eq-true-iff}
 use mathlib.Core.List.{List, [], _∷_, _++_, append-nil, append-assoc}
 use mathlib.Core.Logic.{_⊎_, inl, inr}
 use Prim.Native.Nat.{ℕ, zero, suc, _+_, _-_, _*_, _/_, _%_, _≤_, _<_}
 use native.Mathlib.Omega.{arith}
-use borrow.Author.Tests.{lt-ltb, le-ltb, le-leb, ltb-true, ltb-false, eqb-true, eq-eqb, ne-eqb}
-use lib.Dec.{eqb, ltb, leb}
+use borrow.Author.Tests.{le-ltb, ltb-true, ltb-false, eqb-true, eq-eqb, ne-eqb}
+use lib.Dec.{eqb, ltb}
 use lib.ListN.{length, take, drop, length-append, take-append-drop, drop-of-length-le}
 use lib.Seq.{drop-drop, drop-at, take-nil, take-at, getD-append-seam}
 use Rattle.text.specs.NumberLaws.{Bytes}
 use Rattle.text.specs.Utf16.{well, isWell, utf16, units, encodeOne, encode16, Scalars}
-use Rattle.text.specs.Digits.{digits, decimal}
+use Rattle.text.specs.Utf16Laws.{encode-append, encode-ascii, decode-encode}
+use Rattle.text.specs.DigitsLaws.{isDigit, digit-last}
 use Rattle.text.specs.Name.{decoded, base, suffix}
 use Rattle.text.specs.Units.{unitsOf}
-use Rattle.text.specs.UnitsLaws.{unitsOf-words, unitsOf-length, decoded-units, encode-decode, decode-encode}
+use Rattle.text.specs.UnitsLaws.{unitsOf-length, base-units}
 use Rattle.text.specs.Affix.{startsWith, endsWith, allAscii}
-
-both : (a b : Bool) → (a && b) ≡ true → (a ≡ true) × (b ≡ true)
-both true b e = (refl, e)
-both false b e = (e, cc)
 
 same-test : (a b : Bool) → (a ≡ true → b ≡ true) → (b ≡ true → a ≡ true) → a ≡ b
 same-test true b f g = sym (f refl)
@@ -36,7 +33,7 @@ pub starts-true : (t p : List ℕ) → startsWith t p ≡ true → t ≡ p ++ dr
 starts-true t [] h = refl
 starts-true [] (x ∷ p) h = cc
 starts-true (c ∷ t) (x ∷ p) h =
-    let e = both (eqb c x) (startsWith t p) h in
+    let e = and-eq-true-iff (eqb c x) (startsWith t p) .0 h in
     ap₂ _∷_ (eqb-true c x (e .0)) (starts-true t p (e .1))
 
 -- a text shorter than p does not start with p
@@ -109,7 +106,7 @@ unfolding encode16
 starts-encode t [] a = refl
 starts-encode [] (x ∷ p) a = refl
 starts-encode (c ∷ t) (x ∷ p) a =
-    let l = both (ltb x 128) (allAscii p) a in
+    let l = and-eq-true-iff (ltb x 128) (allAscii p) .0 a in
     go (l .0) (starts-encode t p (l .1)) (encode-cons c t)
   where
     go : ltb x 128 ≡ true → startsWith (encode16 t) p ≡ startsWith t p → Encoded c t → startsWith (encode16 (c ∷ t)) (x ∷ p) ≡ (eqb c x && startsWith t p)
@@ -125,20 +122,6 @@ ascii-encode (c ∷ t) = go (ascii-encode t) (encode-cons c t)
     go : allAscii (encode16 t) ≡ allAscii t → Encoded c t → allAscii (encode16 (c ∷ t)) ≡ (ltb c 128 && allAscii t)
     go ih (inl e) = rw (e, ih)
     go ih (inr r) = rw (r .is, le-ltb (r .high) 128 (r .high-above), le-ltb c 128 (r .above))
-
--- an ASCII text is its own units
-pub encode-ascii : (t : List ℕ) → allAscii t ≡ true → encode16 t ≡ t
-unfolding encode16 encodeOne
-encode-ascii [] a = refl
-encode-ascii (c ∷ t) a =
-    let l = both (ltb c 128) (allAscii t) a in
-    let h : c < 0x10000 = omega (arith, ltb-true c 128 (l .0)) in
-    rw (lt-ltb c 0x10000 h, encode-ascii t (l .1))
-
-encode-append : (f e : List ℕ) → encode16 (f ++ e) ≡ encode16 f ++ encode16 e
-unfolding encode16
-encode-append [] e = refl
-encode-append (c ∷ f) e = rw (encode-append f e) (sym (append-assoc (encodeOne c) (encode16 f) (encode16 e)))
 
 abbrev Ended : List ℕ → List ℕ → Type 0
 Ended t e = (f : List ℕ) × (t ≡ f ++ e)
@@ -157,7 +140,7 @@ ends-decode (c ∷ t) (x ∷ v) e a q = go (λ w. ends-decode t w e a) (encode-c
 
     after : ((w : List ℕ) → encode16 t ≡ w ++ e → Ended t e) → (w : List ℕ) (u : ℕ) → 128 ≤ u → u ∷ encode16 t ≡ w ++ e → Ended t e
     after ih [] u h r =
-        let l = both (ltb u 128) (allAscii (encode16 t)) (ap allAscii r ∙ a) in
+        let l = and-eq-true-iff (ltb u 128) (allAscii (encode16 t)) .0 (ap allAscii r ∙ a) in
         absurd (omega (arith, ltb-true u 128 (l .0)))
     after ih (y ∷ w) u h r = ih w (cc)
 
@@ -181,21 +164,15 @@ ends-encode t e a = same-test (endsWith (encode16 t) e) (endsWith t e) back fort
         rw us (ends-append (encode16 f) e)
 
 module _ (wide : Bool) (part : List ℕ) (b : Bytes part) (w : isWell (decoded wide part) ≡ true) where
-  -- the units of a base encode it, and it is made of scalar values
-  pub base-units : (encode16 (base wide part) ≡ unitsOf wide part) × Scalars (base wide part)
-  base-units =
-      rw (decoded-units wide part b)
-      (encode-decode (unitsOf wide part) (unitsOf-words wide part b) (rw (decoded-units wide part b) at w))
-
-  -- so it starts with, ends in and is the ASCII that its units do
+  -- a base starts with, ends in and is the ASCII that its units do
   pub base-starts : (p : List ℕ) → allAscii p ≡ true → startsWith (unitsOf wide part) p ≡ startsWith (base wide part) p
-  base-starts p a = rw (← base-units .0) (starts-encode (base wide part) p a)
+  base-starts p a = rw (← base-units wide part b w .0) (starts-encode (base wide part) p a)
 
   pub base-ends : (e : List ℕ) → allAscii e ≡ true → endsWith (unitsOf wide part) e ≡ endsWith (base wide part) e
-  base-ends e a = rw (← base-units .0) (ends-encode (base wide part) e a)
+  base-ends e a = rw (← base-units wide part b w .0) (ends-encode (base wide part) e a)
 
   pub base-ascii : allAscii (unitsOf wide part) ≡ allAscii (base wide part)
-  base-ascii = rw (← base-units .0) (ascii-encode (base wide part))
+  base-ascii = rw (← base-units wide part b w .0) (ascii-encode (base wide part))
 
 -- how many bytes a unit has
 abbrev pub unitSize : Bool → ℕ
@@ -234,25 +211,6 @@ base-rest true part e b w a h =
     let us : units part ≡ encode16 f ++ e = sym (u .0) ∙ ap encode16 front ∙ rw (encode-append f e, encode-ascii e a) in
     let n : (length part - 2 * length e) / 2 ≡ length (units part) - length e = omega (arith, unitsOf-length part) in
     rw (units-take (length part - 2 * length e) part, n) (rest-units (units part) f e us (subst Scalars front (u .1)))
-
--- a decimal digit
-abbrev pub isDigit : ℕ → Bool
-isDigit c = leb 48 c && leb c 57
-
-is-digit : (d : ℕ) → d < 10 → isDigit (48 + d) ≡ true
-is-digit d h =
-    let low : 48 ≤ 48 + d = omega arith in
-    let high : 48 + d ≤ 57 = omega arith in
-    rw (le-leb 48 (48 + d) low, le-leb (48 + d) 57 high)
-
--- the last character of a decimal number is a digit
-pub digit-last : (n : ℕ) → (g : List ℕ) × (d : ℕ) × (decimal n ≡ g ++ d ∷ []) × (isDigit d ≡ true)
-unfolding decimal digits
-digit-last n = go (ltb n 10) refl
-  where
-    go : (b : Bool) → ltb n 10 ≡ b → (g : List ℕ) × (d : ℕ) × (decimal n ≡ g ++ d ∷ []) × (isDigit d ≡ true)
-    go true e = ([], 48 + n, rw e, is-digit n (ltb-true n 10 e))
-    go false e = (digits 19 (n / 10), 48 + n % 10, rw e, is-digit (n % 10) (omega arith))
 
 last-same : (f g : List ℕ) (x y : ℕ) → f ++ x ∷ [] ≡ g ++ y ∷ [] → x ≡ y
 last-same f g x y q =

@@ -1,13 +1,13 @@
 -- Laws of decimal and hexadecimal digits. Assumes nothing.
 use mathlib.Core.Path.{_≡_, refl, ap, sym, _∙_}
-use mathlib.Core.Bool.{Bool, true, false, cond, and-eq-true-iff}
+use mathlib.Core.Bool.{Bool, true, false, cond, _&&_, and-eq-true-iff}
 use mathlib.Core.List.{List, [], _∷_, _++_}
 use Prim.Native.Nat.{ℕ, zero, suc, _+_, _*_, _-_, _/_, _%_, _^_, _≤_, _<_}
 use native.Mathlib.Nat.{pow-succ'}
 use native.Mathlib.Numerals.{sub-one}
 use native.Mathlib.Omega.{arith}
-use borrow.Author.Tests.{lt-ltb, le-ltb, ltb-true, ltb-false}
-use lib.Dec.{ltb}
+use borrow.Author.Tests.{lt-ltb, le-ltb, le-leb, ltb-true, ltb-false}
+use lib.Dec.{leb, ltb}
 use lib.ListN.{length, length-append}
 use Rattle.text.specs.Affix.{allAscii}
 use Rattle.text.specs.Digits.{digits, decimal, hexDigit, hex}
@@ -94,6 +94,25 @@ digits-ascii (suc f) n = go (ltb n 10) refl (digits-ascii f (n / 10))
 pub decimal-ascii : (n : ℕ) → allAscii (decimal n) ≡ true
 unfolding decimal
 decimal-ascii n = digits-ascii 20 n
+
+-- a decimal digit
+abbrev pub isDigit : ℕ → Bool
+isDigit c = leb 48 c && leb c 57
+
+is-digit : (d : ℕ) → d < 10 → isDigit (48 + d) ≡ true
+is-digit d h =
+    let low : 48 ≤ 48 + d = omega arith in
+    let high : 48 + d ≤ 57 = omega arith in
+    rw (le-leb 48 (48 + d) low, le-leb (48 + d) 57 high)
+
+-- the last character of a decimal number is a digit
+pub digit-last : (n : ℕ) → (g : List ℕ) × (d : ℕ) × (decimal n ≡ g ++ d ∷ []) × (isDigit d ≡ true)
+unfolding decimal digits
+digit-last n = go (ltb n 10) refl
+  where
+    go : (b : Bool) → ltb n 10 ≡ b → (g : List ℕ) × (d : ℕ) × (decimal n ≡ g ++ d ∷ []) × (isDigit d ≡ true)
+    go true e = ([], 48 + n, rw e, is-digit n (ltb-true n 10 e))
+    go false e = (digits 19 (n / 10), 48 + n % 10, rw e, is-digit (n % 10) (omega arith))
 
 -- the number that digits denote, after those that denote a
 abbrev pub number : ℕ → List ℕ → ℕ

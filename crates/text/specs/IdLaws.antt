@@ -1,45 +1,24 @@
 -- Laws of the id of a name: lowering and encoding change places, so that the id is the hash of units that are read one at
 -- a time; and the bytes of units, in parts. Assumes nothing.
 use mathlib.Core.Path.{_≡_, refl}
-use mathlib.Core.Bool.{Bool, true, and-eq-true-iff}
-use mathlib.Core.List.{List, [], _∷_, _++_, append-assoc}
+use mathlib.Core.Bool.{Bool, true}
+use mathlib.Core.List.{List, [], _∷_, _++_}
 use mathlib.Core.Logic.{by-cases}
 use Prim.Native.Nat.{ℕ, zero, suc, _+_, _*_, _-_, _%_, _/_, _<_}
 use native.Mathlib.Decide.{decLt}
 use native.Mathlib.Omega.{arith}
-use lib.Dec.{ltb}
 use lib.ListN.{length, take, drop}
-use borrow.Author.Tests.{lt-ltb, le-ltb, ltb-true}
+use borrow.Author.Tests.{lt-ltb, le-ltb}
 use Rattle.text.specs.NumberLaws.{Bytes}
-use Rattle.text.specs.Utf16.{isWell, utf16, encodeOne, encode16, unitBytes}
+use Rattle.text.specs.Utf16.{isWell, encodeOne, encode16, unitBytes}
+use Rattle.text.specs.Utf16Laws.{encode-append, encode-ascii}
 use Rattle.text.specs.Digits.{digits, decimal}
-use Rattle.text.specs.Name.{decoded, base, suffix, rendered}
+use Rattle.text.specs.Name.{decoded, suffix, rendered}
 use Rattle.text.specs.NameLaws.{suffix-ascii}
-use Rattle.text.specs.Affix.{allAscii}
 use Rattle.text.specs.Lower.{lower, lowered}
 use Rattle.text.specs.LowerLaws.{lower-above, lower-below, lower-unit, lowered-append}
-use Rattle.text.specs.Units.{unitsOf, nameUnits}
-use Rattle.text.specs.UnitsLaws.{decoded-units, unitsOf-words, encode-decode}
-
--- ---- encoding
-
--- a value up to FFFF is one unit
-encode-one : (c : ℕ) → c < 65536 → encodeOne c ≡ c ∷ []
-unfolding encodeOne
-encode-one c h = rw (lt-ltb c 65536 h)
-
-pub encode-append : (t u : List ℕ) → encode16 (t ++ u) ≡ encode16 t ++ encode16 u
-unfolding encode16
-encode-append [] u = refl
-encode-append (c ∷ t) u = rw (encode-append t u, append-assoc)
-
--- ASCII is its own encoding
-pub encode-ascii : (t : List ℕ) → allAscii t ≡ true → encode16 t ≡ t
-unfolding encode16
-encode-ascii [] e = refl
-encode-ascii (c ∷ t) e =
-    let both = and-eq-true-iff (ltb c 128) (allAscii t) .0 e in
-    rw (encode-one c (omega (arith, ltb-true c 128 (both .0))), encode-ascii t (both .1))
+use Rattle.text.specs.Units.{nameUnits}
+use Rattle.text.specs.UnitsLaws.{base-units}
 
 -- ---- lowering
 
@@ -77,17 +56,11 @@ suffix-lowered (suc n) = rw (lower-above 95 (omega arith), digits-lowered)
 
 -- ---- names
 
--- a well-formed part is the encoding of its text
-pub encode-base : (wide : Bool) (part : List ℕ) → Bytes part → isWell (decoded wide part) ≡ true → encode16 (base wide part) ≡ unitsOf wide part
-encode-base wide part b h =
-    let e : decoded wide part ≡ utf16 (unitsOf wide part) = decoded-units wide part b in
-    rw e (encode-decode (unitsOf wide part) (unitsOf-words wide part b) (rw e at h) .0)
-
 -- the units of a lowered name: those of its part, lowered, and those of its number
 pub name-units : (wide : Bool) (part : List ℕ) (number : ℕ) → Bytes part → isWell (decoded wide part) ≡ true → encode16 (lowered (rendered wide part number)) ≡ nameUnits wide part (suffix number)
 unfolding nameUnits
 name-units wide part number b h =
-    rw (encode-lowered, encode-append, lowered-append, encode-base wide part b h, encode-ascii (suffix number) (suffix-ascii number), suffix-lowered)
+    rw (encode-lowered, encode-append, lowered-append, base-units wide part b h .0, encode-ascii (suffix number) (suffix-ascii number), suffix-lowered)
 
 -- ---- the bytes of units
 

@@ -1,35 +1,49 @@
+-- Layer 1's definitions, each with its laws beside it.
+
+-- ---- Choosing by a test
+pub mod Choose
+-- ---- Numbers: in bytes, signed, written to the front of a buffer
 pub mod Number
 pub mod NumberLaws
 pub mod Signed
 pub mod SignedSize
 pub mod SignedLaws
+pub mod Output
+pub mod OutputLaws
+-- ---- Indices and answers
 pub mod Index
 pub mod IndexLaws
 pub mod Answer
-pub mod Output
-pub mod OutputLaws
+-- ---- Text: UTF-16, UTF-8, digits, names, affixes, lowering
 pub mod Utf16
-pub mod Utf16Reading
+pub mod Utf16Cases
 pub mod Utf16Laws
+pub mod Literal
+pub mod Units
+pub mod UnitsLaws
 pub mod Utf8
 pub mod Utf8Laws
 pub mod Digits
 pub mod DigitsLaws
 pub mod Name
 pub mod NameLaws
-pub mod Units
-pub mod UnitsLaws
 pub mod Affix
 pub mod AffixLaws
 pub mod Lower
 pub mod LowerLaws
+-- ---- Hash: words of 64 bits, CityHash64, the id of a name
 pub mod Word
 pub mod City
 pub mod CityLaws
 pub mod CityExamples
 pub mod Id
 pub mod IdLaws
+-- ---- Readings: blocks as programs of reads, arrays of records, which bytes count
 pub mod Reading
 pub mod ReadingLaws
 pub mod ReadingRows
+pub mod ReadingFront
+pub mod ReadingGives
 pub mod ReadingMarks
+pub mod ReadingRewrite
+pub mod ReadingTrail

@@ -75,7 +75,7 @@ le-lt : (l : List ℕ) → Bytes l → le l < 256 ^ length l
 le-lt [] b = zero-lt-suc 0
 le-lt (x ∷ l) b = rw (pow-succ' 256 (length l)) (omega (arith, b zero, le-lt l (λ i. b (suc i))))
 
-be-lt : (l : List ℕ) → Bytes l → be l < 256 ^ length l
+pub be-lt : (l : List ℕ) → Bytes l → be l < 256 ^ length l
 be-lt [] b = zero-lt-suc 0
 be-lt (x ∷ l) b = rw (pow-succ' 256 (length l)) (digits-lt (b zero) (be-lt l (λ i. b (suc i))))
 

@@ -34,6 +34,13 @@ pub wrote-length : {s a o : List ℕ} {n : ℕ} → Wrote s a o n → length o �
 unfolding over
 wrote-length {s} {a} {o} {n} w = rw (w .is) (simp (length-append, length-drop) (omega arith))
 
+-- the front of the buffer is what was written
+pub wrote-taken : {s a o : List ℕ} {n : ℕ} → Wrote s a o n → take n o ≡ a
+wrote-taken {s} {a} {o} {n} w = ap (take n) (w .is) ∙ take-over s a n (sym (w .size))
+
+pub taken-length : {s a o : List ℕ} {n : ℕ} → Wrote s a o n → n ≡ length (take n o)
+taken-length w = w .size ∙ ap length (sym (wrote-taken w))
+
 -- the bytes, said in another way
 pub wrote-as : {s a b o : List ℕ} {n : ℕ} → Wrote s a o n → a ≡ b → Wrote s b o n
 wrote-as w e = record { size = rw (← e) (w .size); fits = w .fits; is = rw (← e) (w .is) }

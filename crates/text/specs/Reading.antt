@@ -3,9 +3,9 @@ use mathlib.Core.List.{List, [], _∷_}
 use mathlib.Core.Bool.{Bool, true, false}
 use Prim.Native.Nat.{ℕ, zero, suc, _+_, _*_, _-_, _%_, _^_}
 use lib.ListN.{length, take, drop, getD}
-use lib.Dec.{leb, ltb, eqb}
+use lib.Dec.{leb}
+use Rattle.text.specs.Choose.{choose, pick}
 use Rattle.text.specs.Number.{le}
-use Rattle.text.specs.Utf16.{choose}
 
 pub data Out (A : Type 0) : Type 0 where
   refused : ℕ → Out A
@@ -29,11 +29,6 @@ pub data Reading (A : Type 0) : Type 0 where
   left : (ℕ → Reading A) → Reading A
   -- the number of bytes before this place
   here : (ℕ → Reading A) → Reading A
-
-module _ {A : Type 0} where
-  abbrev pub pick : Bool → A → A → A
-  pick true a b = a
-  pick false a b = b
 
 module _ {A : Type 0} where
   -- THE MEANING: front to back, at the number of bytes before

@@ -1,17 +1,17 @@
 -- Laws of readings: by position and front to back are one; one reading after another.
-use mathlib.Core.Path.{_≡_, refl, sym, _∙_, ap}
-use mathlib.Core.List.{List, [], _∷_}
+use mathlib.Core.Path.{_≡_, refl}
+use mathlib.Core.List.{List}
 use mathlib.Core.Bool.{Bool, true, false}
-use Prim.Native.Nat.{ℕ, zero, suc, _+_, _*_, _-_, _%_, _^_, _≤_, _<_}
+use Prim.Native.Nat.{ℕ, _+_, _-_, _%_, _^_, _≤_}
 use native.Mathlib.Omega.{arith}
 use native.Mathlib.Decide.{decLe}
 use native.Mathlib.Numerals.{add-one}
-use borrow.Author.Tests.{le-leb, lt-leb, leb-true, leb-false, eqb-true}
-use lib.Dec.{leb, eqb}
+use borrow.Author.Tests.{le-leb, lt-leb, leb-true}
+use lib.Dec.{leb}
 use lib.ListN.{length, take, drop, getD, length-drop, drop-of-length-le}
 use lib.Seq.{drop-drop, drop-cons}
-use Rattle.text.specs.Utf16.{choose}
-use Rattle.text.specs.Reading.{Out, refused, gives, Got, bad, got, Reading, give, refuse, bytes, part, pass, left, here, pick, run, walk, _>>=_, _>>_, ask}
+use Rattle.text.specs.Choose.{pick}
+use Rattle.text.specs.Reading.{Out, refused, gives, Got, bad, got, Reading, give, refuse, bytes, part, pass, left, here, run, walk, _>>=_, _>>_, ask}
 
 module _ {A B : Type 0} where
   abbrev pub chain : Got A → (A → ℕ → Got B) → Got B

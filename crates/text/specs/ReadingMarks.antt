@@ -2,18 +2,17 @@
 use mathlib.Core.Path.{_≡_, refl, sym, _∙_, ap, ap₂}
 use mathlib.Core.List.{List, [], _∷_, _++_}
 use mathlib.Core.Bool.{Bool, true, false}
-use Prim.Native.Nat.{ℕ, zero, suc, _+_, _*_, _-_, _%_, _^_, _≤_, _<_, min}
+use Prim.Native.Nat.{ℕ, zero, suc, _+_, _-_, _%_, _^_, _≤_, min}
 use native.Mathlib.Omega.{arith}
-use native.Mathlib.Nat.{zero-add, suc-add}
-use borrow.Author.Tests.{le-leb, lt-leb, leb-true, leb-false}
+use borrow.Author.Tests.{leb-true}
 use lib.Dec.{leb}
-use lib.ListN.{length, take, drop, getD, replicate, length-append, length-replicate, length-drop, length-take, drop-of-length-le}
+use lib.ListN.{length, take, drop, getD, replicate, length-append, length-replicate, length-drop, length-take}
 use native.Mathlib.Decide.{decLe}
 use lib.Seq.{take-all, take-take, getD-take}
-use Rattle.text.specs.Utf16.{choose}
-use Rattle.text.specs.Reading.{Out, refused, gives, Got, bad, got, Reading, give, refuse, bytes, part, pass, left, here, pick, run, walk, Block, from, runBlock}
+use Rattle.text.specs.Choose.{choose}
+use Rattle.text.specs.Reading.{refused, Got, bad, got, Reading, give, refuse, bytes, part, pass, left, here, run, walk, Block, from, runBlock}
 use Rattle.text.specs.NumberLaws.{drop-take}
-use Rattle.text.specs.ReadingLaws.{pick-by, bad-got}
+use Rattle.text.specs.ReadingLaws.{pick-by, bad-got, out, run-walk}
 
 pub data Mark : Type 0 where
   -- every bit counts; only the low k; none
@@ -36,24 +35,26 @@ Agree (m ∷ ms) (x ∷ s) [] = ⊥
 Agree (m ∷ ms) (x ∷ s) (y ∷ t) = Same m x y × Agree ms s t
 
 module _ {A : Type 0} where
+  -- what a reading does not reach, behind its end or behind a refusal, does not count
   abbrev pub marks : Reading A → ℕ → List ℕ → List Mark
-  marks (give a) at s = replicate (length s) whole
-  marks (refuse e) at s = replicate (length s) whole
-  marks (bytes n f) at s = choose (leb n (length s)) (λ _. replicate n whole ++ marks (f (take n s)) (at + n) (drop n s)) (λ _. replicate (length s) whole)
+  marks (give a) at s = replicate (length s) none
+  marks (refuse e) at s = replicate (length s) none
+  marks (bytes n f) at s = choose (leb n (length s)) (λ _. replicate n whole ++ marks (f (take n s)) (at + n) (drop n s)) (λ _. replicate (length s) none)
   marks (part k f) at [] = []
   marks (part k f) at (x ∷ s) = low k ∷ marks (f (x % 2 ^ k)) (at + 1) s
-  marks (pass n p) at s = choose (leb n (length s)) (λ _. replicate n none ++ marks p (at + n) (drop n s)) (λ _. replicate (length s) whole)
+  marks (pass n p) at s = choose (leb n (length s)) (λ _. replicate n none ++ marks p (at + n) (drop n s)) (λ _. replicate (length s) none)
   marks (left f) at s = marks (f (length s)) at s
   marks (here f) at s = marks (f at) at s
 
-  abbrev pub marksFrom : (ℕ → Reading A) → List ℕ → Got ℕ → List Mark
-  marksFrom k b (bad r) = replicate (length b) whole
-  marksFrom k b (got size at) = replicate at whole ++ (marks (k size) at (drop at (take size b)) ++ replicate (length b - at - (size - at)) none)
+module _ {A : Type 0} where
+  abbrev pub marksFrom : Block A → List ℕ → Got ℕ → List Mark
+  marksFrom c b (bad r) = marks (c .start) 0 b
+  marksFrom c b (got size at) = replicate at whole ++ (marks (c .rest size) at (drop at (take size b)) ++ replicate (length b - at - (size - at)) none)
 
   unfoldable pub marksBlock : Block A → List ℕ → List Mark
-  marksBlock c b = marksFrom (c .rest) b (walk (c .start) b 0)
+  marksBlock c b = marksFrom c b (walk (c .start) b 0)
 
-agree-length : (ms : List Mark) (s t : List ℕ) → Agree ms s t → length s ≡ length t
+pub agree-length : (ms : List Mark) (s t : List ℕ) → Agree ms s t → length s ≡ length t
 agree-length [] [] [] a = refl
 agree-length [] [] (y ∷ t) a = absurd a
 agree-length [] (x ∷ s) t a = absurd a
@@ -88,7 +89,7 @@ module _ {A : Type 0} where
   agree-same (refuse e) at s t g = refl
   agree-same (bytes n f) at s t g = rw (← agree-length (marks (bytes n f) at s) s t g) (go (leb n (length s)) g (λ a. agree-same (f (take n s)) (at + n) (drop n s) (drop n t) a))
     where
-      go : (b : Bool) → Agree (choose b (λ _. replicate n whole ++ marks (f (take n s)) (at + n) (drop n s)) (λ _. replicate (length s) whole)) s t
+      go : (b : Bool) → Agree (choose b (λ _. replicate n whole ++ marks (f (take n s)) (at + n) (drop n s)) (λ _. replicate (length s) none)) s t
           → (Agree (marks (f (take n s)) (at + n) (drop n s)) (drop n s) (drop n t) → run (f (take n s)) (at + n) (drop n t) ≡ run (f (take n s)) (at + n) (drop n s))
           → choose b (λ _. run (f (take n t)) (at + n) (drop n t)) (λ _. refused 3) ≡ choose b (λ _. run (f (take n s)) (at + n) (drop n s)) (λ _. refused 3)
       go true g ih = let (e, r) = agree-whole n (marks (f (take n s)) (at + n) (drop n s)) s t g in rw (← e) (ih r)
@@ -99,7 +100,7 @@ module _ {A : Type 0} where
   agree-same (part k f) at (x ∷ s) (y ∷ t) g = rw (← g .0) (agree-same (f (x % 2 ^ k)) (at + 1) s t (g .1))
   agree-same (pass n p) at s t g = rw (← agree-length (marks (pass n p) at s) s t g) (go (leb n (length s)) g (λ a. agree-same p (at + n) (drop n s) (drop n t) a))
     where
-      go : (b : Bool) → Agree (choose b (λ _. replicate n none ++ marks p (at + n) (drop n s)) (λ _. replicate (length s) whole)) s t
+      go : (b : Bool) → Agree (choose b (λ _. replicate n none ++ marks p (at + n) (drop n s)) (λ _. replicate (length s) none)) s t
           → (Agree (marks p (at + n) (drop n s)) (drop n s) (drop n t) → run p (at + n) (drop n t) ≡ run p (at + n) (drop n s))
           → choose b (λ _. run p (at + n) (drop n t)) (λ _. refused 3) ≡ choose b (λ _. run p (at + n) (drop n s)) (λ _. refused 3)
       go true g ih = ih (agree-none n (marks p (at + n) (drop n s)) s t g)
@@ -108,22 +109,22 @@ module _ {A : Type 0} where
   agree-same (here f) at s t g = agree-same (f at) at s t g
 
   pub marks-length : (p : Reading A) (at : ℕ) (s : List ℕ) → length (marks p at s) ≡ length s
-  marks-length (give a) at s = length-replicate (length s) whole
-  marks-length (refuse e) at s = length-replicate (length s) whole
+  marks-length (give a) at s = length-replicate (length s) none
+  marks-length (refuse e) at s = length-replicate (length s) none
   marks-length (bytes n f) at s = go (leb n (length s)) refl (marks-length (f (take n s)) (at + n) (drop n s))
     where
       go : (b : Bool) → leb n (length s) ≡ b → length (marks (f (take n s)) (at + n) (drop n s)) ≡ length (drop n s)
-          → length (choose b (λ _. replicate n whole ++ marks (f (take n s)) (at + n) (drop n s)) (λ _. replicate (length s) whole)) ≡ length s
+          → length (choose b (λ _. replicate n whole ++ marks (f (take n s)) (at + n) (drop n s)) (λ _. replicate (length s) none)) ≡ length s
       go true e ih = let l = leb-true n (length s) e in rw (length-append (replicate n whole) (marks (f (take n s)) (at + n) (drop n s)), length-replicate n whole, ih, length-drop n s) (omega arith)
-      go false e ih = length-replicate (length s) whole
+      go false e ih = length-replicate (length s) none
   marks-length (part k f) at [] = refl
   marks-length (part k f) at (x ∷ s) = ap suc (marks-length (f (x % 2 ^ k)) (at + 1) s)
   marks-length (pass n p) at s = go (leb n (length s)) refl (marks-length p (at + n) (drop n s))
     where
       go : (b : Bool) → leb n (length s) ≡ b → length (marks p (at + n) (drop n s)) ≡ length (drop n s)
-          → length (choose b (λ _. replicate n none ++ marks p (at + n) (drop n s)) (λ _. replicate (length s) whole)) ≡ length s
+          → length (choose b (λ _. replicate n none ++ marks p (at + n) (drop n s)) (λ _. replicate (length s) none)) ≡ length s
       go true e ih = let l = leb-true n (length s) e in rw (length-append (replicate n none) (marks p (at + n) (drop n s)), length-replicate n none, ih, length-drop n s) (omega arith)
-      go false e ih = length-replicate (length s) whole
+      go false e ih = length-replicate (length s) none
   marks-length (left f) at s = marks-length (f (length s)) at s
   marks-length (here f) at s = marks-length (f at) at s
 
@@ -172,11 +173,11 @@ take-min n l = go (decLe n (length l))
     go (yes h) = let e : min n (length l) ≡ n = omega arith in rw e
     go (no h) = let e : min n (length l) ≡ length l = omega arith in rw e (take-all (length l) l (omega arith) ∙ sym (take-all n l (omega arith)))
 
-agree-all : (s t : List ℕ) → Agree (replicate (length s) whole) s t → t ≡ s
-agree-all [] [] a = refl
-agree-all [] (y ∷ t) a = absurd a
-agree-all (x ∷ s) [] a = absurd a
-agree-all (x ∷ s) (y ∷ t) a = ap₂ (λ x l. x ∷ l) (sym (a .0)) (agree-all s t (a .1))
+module _ {A : Type 0} where
+  -- a block whose start is refused
+  from-bad : (k : ℕ → Reading A) (t : List ℕ) (w : Got ℕ) {r : ℕ} → out w ≡ refused r → from k t w ≡ refused r
+  from-bad k t (bad e) {r} q = let z : e ≡ r = cc in rw z
+  from-bad k t (got a n) q = absurd (let z : _≡_ {A = ℕ} 0 1 = cc in omega arith)
 
 module _ {A : Type 0} (c : Block A) (s t : List ℕ) where
   -- THE THEOREM for a block whose start says how much of it counts
@@ -184,10 +185,12 @@ module _ {A : Type 0} (c : Block A) (s t : List ℕ) where
   unfolding marksBlock runBlock
   block-same g = go (walk (c .start) s 0) refl g
     where
-      go : (w : Got ℕ) → walk (c .start) s 0 ≡ w → Agree (marksFrom (c .rest) s w) s t → from (c .rest) t (walk (c .start) t 0) ≡ from (c .rest) s (walk (c .start) s 0)
-      go (bad r) e a = rw (agree-all s t a)
+      go : (w : Got ℕ) → walk (c .start) s 0 ≡ w → Agree (marksFrom c s w) s t → from (c .rest) t (walk (c .start) t 0) ≡ from (c .rest) s (walk (c .start) s 0)
+      go (bad r) e a =
+          let h : (t : List ℕ) → run (c .start) 0 t ≡ out (walk (c .start) t 0) = λ t. run-walk (c .start) t 0 (omega arith) in
+          rw e (from-bad (c .rest) t (walk (c .start) t 0) (sym (h t) ∙ (agree-same (c .start) 0 s t a ∙ (h s ∙ ap out e))))
       go (got size at) e a =
-          let l : length s ≡ length t = agree-length (marksFrom (c .rest) s (got size at)) s t a in
+          let l : length s ≡ length t = agree-length (marksFrom c s (got size at)) s t a in
           let p = marks (c .rest size) at (drop at (take size s)) in
           let (u, v) = agree-whole at (p ++ replicate (length s - at - (size - at)) none) s t a in
           let w = agree-take p (replicate (length s - at - (size - at)) none) (drop at s) (drop at t) v in

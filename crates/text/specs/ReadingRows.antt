@@ -1,13 +1,12 @@
 -- Records of one size, one after another: the i-th is read at its place.
-use mathlib.Core.Path.{_≡_, refl, sym, _∙_, ap, ap₂}
+use mathlib.Core.Path.{_≡_, refl, sym, _∙_, ap}
 use mathlib.Core.List.{List, [], _∷_}
-use mathlib.Core.Bool.{Bool, true, false}
-use Prim.Native.Nat.{ℕ, zero, suc, _+_, _*_, _-_, _≤_, _<_}
+use Prim.Native.Nat.{ℕ, zero, suc, _+_, _*_, _≤_, _<_}
 use native.Mathlib.Omega.{arith}
 use native.Mathlib.Nat.{mul-suc}
 use native.Mathlib.Decide.{decLe}
-use lib.ListN.{length, take, drop, getD}
-use Rattle.text.specs.Reading.{Got, bad, got, Reading, give, bytes, part, pass, walk, _>>=_, _>>_, onto, rowsOn, rows}
+use lib.ListN.{length, getD}
+use Rattle.text.specs.Reading.{Got, bad, got, Reading, walk, onto, rowsOn, rows}
 use Rattle.text.specs.ReadingLaws.{chain, walk-bind, chain-by, bad-got}
 
 -- f at n places, size apart

@@ -1,7 +1,7 @@
 -- Laws of two's complement: exactly when it is negative, its values at the edges of the sign, and its size. Assumes nothing.
 use mathlib.Core.Path.{_≡_, refl, sym, ap, _∙_}
 use mathlib.Core.Bool.{Bool, true, false, cond}
-use mathlib.Core.Logic.{_⊎_, inl, inr, ⊎-elim}
+use mathlib.Core.Logic.{⊎-elim}
 use Prim.Native.Nat.{ℕ, zero, suc, _-_, _*_, _^_, _≤_, _<_}
 use native.Mathlib.Nat.{pow-suc}
 use native.Mathlib.Omega.{arith}
@@ -9,17 +9,10 @@ use lib.Dec.{ltb, leb}
 use lib.IntN.{ℤ, pos, negsuc, negℤ, _-ℤ_}
 use lib.Signed.{ltZ, nonNeg}
 use borrow.Author.Tests.{le-leb, lt-leb, lt-ltb, le-ltb, ltb-true, ltb-false}
+use Rattle.text.specs.Choose.{lt-or-le}
 use Rattle.text.specs.Signed.{twos}
 use Rattle.text.specs.SignedSize.{sizeOf, sizeIn}
 use Rattle.text.specs.declared.signed.Size.the-variants.{Of, Negative}
-
--- below, or not
-pub lt-or-le : (a b : ℕ) → (a < b) ⊎ (b ≤ a)
-lt-or-le a b = go (ltb a b) refl
-  where
-    go : (t : Bool) → ltb a b ≡ t → (a < b) ⊎ (b ≤ a)
-    go true e = inl (ltb-true a b e)
-    go false e = inr (ltb-false a b e)
 
 -- n less a larger N
 below : (n N : ℕ) → n < N → pos n -ℤ pos N ≡ negsuc (N - suc n)

@@ -2,7 +2,8 @@
 use mathlib.Core.Bool.{Bool, true, false}
 use mathlib.Core.List.{List, [], _∷_, _++_}
 use Prim.Native.Nat.{ℕ}
-use Rattle.text.specs.Utf16.{isHigh, isLow, ofPair, choose, units}
+use Rattle.text.specs.Choose.{choose}
+use Rattle.text.specs.Utf16.{isHigh, isLow, ofPair, units}
 use Rattle.text.specs.Lower.{lowered}
 use Rattle.text.specs.declared.utf16.Scalar.{Scalar}
 use Rattle.text.specs.declared.utf16.Scalar.the-variants.{One, Two, Ill}

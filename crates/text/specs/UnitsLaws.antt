@@ -8,14 +8,14 @@ use native.Mathlib.Omega.{arith}
 use lib.ListN.{length, drop, getD}
 use Rattle.text.specs.NumberLaws.{Bytes}
 use Rattle.text.specs.Number.{leAt}
-use Rattle.text.specs.Utf16.{Decoded, well, ill, isWell, more, ofPair, utf16, units, Scalars}
+use Rattle.text.specs.Utf16.{Decoded, well, ill, isWell, more, ofPair, utf16, units, encode16, Scalars}
 use Rattle.text.specs.Name.{decoded, base}
 use Rattle.text.specs.Units.{unitsOf, scalarOf}
 use Rattle.text.specs.declared.utf16.Scalar.{Scalar}
 use Rattle.text.specs.declared.utf16.Scalar.the-variants.{One, Two, Ill}
-use Rattle.text.specs.Utf16Reading.{High, Low, Single, NoLow, Reading, none, single, pair, stray, lone, reading, high, low, low-high, single-high, single-low, no-low, utf16-single, utf16-pair, utf16-stray, utf16-lone}
+use Rattle.text.specs.Utf16Cases.{High, Low, Single, NoLow, Cases, none, single, pair, stray, lone, cases, high, low, low-high, single-high, single-low, no-low, utf16-single, utf16-pair, utf16-stray, utf16-lone}
 use Rattle.text.specs.Utf16Laws.{decode-length}
-pub use Rattle.text.specs.Utf16Reading.{Words, words-drop, utf16-none, isWell-more, scalars-more}
+pub use Rattle.text.specs.Utf16Cases.{Words, words-drop, utf16-none, isWell-more, scalars-more}
 pub use Rattle.text.specs.Utf16Laws.{decode-encode, encode-decode, ill-formed, no-encoding}
 
 -- the units of bytes are words
@@ -41,15 +41,16 @@ unfolding decoded unitsOf
 decoded-units false part b = sym (latin1 part b)
 decoded-units true part b = refl
 
--- Latin-1 is always a text; a text is of scalar values, no more of them than units
+-- the units of a text encode it, and it is of scalar values
+pub base-units : (wide : Bool) (part : List ℕ) → Bytes part → isWell (decoded wide part) ≡ true → (encode16 (base wide part) ≡ unitsOf wide part) × Scalars (base wide part)
+base-units wide part b e =
+    let q = decoded-units wide part b in
+    rw q (encode-decode (unitsOf wide part) (unitsOf-words wide part b) (rw q at e))
+
+-- Latin-1 is always a text; a text has no more scalar values than units
 pub latin1-well : (part : List ℕ) → isWell (decoded false part) ≡ true
 unfolding decoded
 latin1-well part = refl
-
-pub base-scalars : (wide : Bool) (part : List ℕ) → Bytes part → isWell (decoded wide part) ≡ true → Scalars (base wide part)
-base-scalars wide part b e =
-    let q = decoded-units wide part b in
-    rw q (encode-decode (unitsOf wide part) (unitsOf-words wide part b) (rw q at e) .1)
 
 pub base-length : (wide : Bool) (part : List ℕ) → length (base wide part) ≤ length (unitsOf wide part)
 unfolding decoded unitsOf
@@ -104,7 +105,7 @@ after (One c) us = more c (utf16 (drop 1 us))
 after (Two c) us = more c (utf16 (drop 2 us))
 after Ill us = ill
 
-first : {u : ℕ} {us : List ℕ} → Reading (u ∷ us) → utf16 (u ∷ us) ≡ after (scalarOf (u ∷ us)) (u ∷ us)
+first : {u : ℕ} {us : List ℕ} → Cases (u ∷ us) → utf16 (u ∷ us) ≡ after (scalarOf (u ∷ us)) (u ∷ us)
 first (single {u} {us} p r) = rw (utf16-single u us p, scalar-single u us p)
 first (pair {u} {v} {us} p q r) = rw (utf16-pair u v us p q, scalar-pair u v us p q)
 first (stray {u} {us} p) = rw (utf16-stray u us p, scalar-stray u us p)
@@ -112,7 +113,7 @@ first (lone {u} {us} p q) = rw (utf16-lone u us p q, scalar-lone u us p q)
 
 scalar-first : (us : List ℕ) (s : Scalar) → 0 < length us → scalarOf us ≡ s → utf16 us ≡ after s us
 scalar-first [] s l e = absurd (omega arith)
-scalar-first (u ∷ us) s l e = first (reading (u ∷ us)) ∙ ap (λ (s : Scalar). after s (u ∷ us)) e
+scalar-first (u ∷ us) s l e = first (cases (u ∷ us)) ∙ ap (λ (s : Scalar). after s (u ∷ us)) e
 
 pub scalar-one : (us : List ℕ) {c : ℕ} → scalarOf us ≡ One c → utf16 us ≡ more c (utf16 (drop 1 us))
 unfolding scalarOf
@@ -133,7 +134,7 @@ Fits (One c) us = (1 ≤ length us) × (c < 0x10000)
 Fits (Two c) us = (2 ≤ length us) × (c < 0x110000)
 Fits Ill us = Unit {0}
 
-fits : {us : List ℕ} → Reading us → Words us → Fits (scalarOf us) us
+fits : {us : List ℕ} → Cases us → Words us → Fits (scalarOf us) us
 unfolding scalarOf
 fits none w = tt
 fits (single {u} {us} p r) w = rw (scalar-single u us p) (omega arith, w 0)
@@ -142,7 +143,7 @@ fits (stray {u} {us} p) w = rw (scalar-stray u us p) tt
 fits (lone {u} {us} p q) w = rw (scalar-lone u us p q) tt
 
 pub one-fits : (us : List ℕ) {c : ℕ} → Words us → scalarOf us ≡ One c → (1 ≤ length us) × (c < 0x10000)
-one-fits us w e = rw e at (fits (reading us) w)
+one-fits us w e = rw e at (fits (cases us) w)
 
 pub two-fits : (us : List ℕ) {c : ℕ} → Words us → scalarOf us ≡ Two c → (2 ≤ length us) × (c < 0x110000)
-two-fits us w e = rw e at (fits (reading us) w)
+two-fits us w e = rw e at (fits (cases us) w)

@@ -4,6 +4,7 @@ use mathlib.Core.List.{List, [], _∷_, _++_}
 use mathlib.Core.Logic.{_⊎_}
 use Prim.Native.Nat.{ℕ, _+_, _*_, _-_, _/_, _%_, _≤_, _<_}
 use lib.Dec.{leb, ltb}
+use Rattle.text.specs.Choose.{choose}
 
 -- D76: a Unicode scalar value is any code point but a surrogate
 abbrev pub Scalar : ℕ → Type 0
@@ -47,11 +48,6 @@ more c ill = ill
 
 abbrev pub ofPair : ℕ → ℕ → ℕ
 ofPair u v = 0x10000 + (u - 0xD800) * 0x400 + (v - 0xDC00)
-
--- the case that the test picks; the cases wait behind a λ, so that only the one picked is computed
-abbrev pub choose : {A : Type 0} → Bool → (Unit {0} → A) → (Unit {0} → A) → A
-choose true a b = a tt
-choose false a b = b tt
 
 -- ill-formed exactly where a surrogate has no partner
 unfoldable pub utf16 : List ℕ → Decoded

@@ -1,7 +1,7 @@
 -- Laws of UTF-16 (the Unicode Standard, D91): decoding and encoding are inverse, and ill-formed is what is no encoding. Assumes nothing.
 use mathlib.Core.Path.{_≡_, refl, _∙_, ap}
-use mathlib.Core.Bool.{Bool, true, false}
-use mathlib.Core.List.{List, [], _∷_, _++_}
+use mathlib.Core.Bool.{Bool, true, false, and-eq-true-iff}
+use mathlib.Core.List.{List, [], _∷_, _++_, append-assoc}
 use mathlib.Core.Logic.{inl, inr}
 use Prim.Native.Nat.{ℕ, suc, _+_, _-_, _/_, _%_, _≤_, _<_}
 use native.Mathlib.Omega.{arith}
@@ -9,7 +9,8 @@ use lib.Dec.{ltb}
 use lib.ListN.{length}
 use borrow.Author.Tests.{lt-ltb, le-ltb, ltb-true, ltb-false}
 use Rattle.text.specs.Utf16.{Decoded, well, ill, isWell, scalars, more, ofPair, utf16, encodeOne, encode16, Scalar, Scalars}
-use Rattle.text.specs.Utf16Reading.{Words, High, Low, Single, Reading, none, single, pair, stray, lone, reading, utf16-none, utf16-single, utf16-pair, utf16-stray, utf16-lone}
+use Rattle.text.specs.Affix.{allAscii}
+use Rattle.text.specs.Utf16Cases.{Words, High, Low, Single, Cases, none, single, pair, stray, lone, cases, utf16-none, utf16-single, utf16-pair, utf16-stray, utf16-lone}
 
 -- the encoding of one scalar value
 one-unit : (c : ℕ) (us : List ℕ) → c < 0x10000 → encodeOne c ++ us ≡ c ∷ us
@@ -19,6 +20,19 @@ one-unit c us l = rw (lt-ltb _ _ l)
 two-units : (c : ℕ) (us : List ℕ) → 0x10000 ≤ c → encodeOne c ++ us ≡ (0xD800 + (c - 0x10000) / 0x400) ∷ (0xDC00 + (c - 0x10000) % 0x400) ∷ us
 unfolding encodeOne
 two-units c us l = rw (le-ltb _ _ l)
+
+-- the encoding of a text in parts, and of ASCII, which is its own
+pub encode-append : (t u : List ℕ) → encode16 (t ++ u) ≡ encode16 t ++ encode16 u
+unfolding encode16
+encode-append [] u = refl
+encode-append (c ∷ t) u = rw (encode-append t u, append-assoc)
+
+pub encode-ascii : (t : List ℕ) → allAscii t ≡ true → encode16 t ≡ t
+unfolding encode16
+encode-ascii [] e = refl
+encode-ascii (c ∷ t) e =
+    let p = and-eq-true-iff (ltb c 128) (allAscii t) .0 e in
+    rw (one-unit c (encode16 t) (omega (arith, ltb-true c 128 (p .0))), encode-ascii t (p .1))
 
 -- the example of D91
 pub d91 : encode16 (0x004D ∷ 0x0430 ∷ 0x4E8C ∷ 0x10302 ∷ []) ≡ 0x004D ∷ 0x0430 ∷ 0x4E8C ∷ 0xD800 ∷ 0xDF02 ∷ []
@@ -70,7 +84,7 @@ means-pair u v us (well t) p q m =
     (two-units (ofPair u v) (encode16 t) (omega arith) ∙ rw (x, y, m .0), (inr (omega arith, omega arith), m .1))
 means-pair u v us ill p q m = tt
 
-means : {us : List ℕ} → Reading us → Words us → Means us (utf16 us)
+means : {us : List ℕ} → Cases us → Words us → Means us (utf16 us)
 unfolding encode16
 means none w = rw utf16-none (refl, tt)
 means (single {u} {us} p r) w = rw (utf16-single u us p) (means-single u us (utf16 us) (w 0) p (means r (λ i. w (suc i))))
@@ -80,7 +94,7 @@ means (lone {u} {us} p q) w = rw (utf16-lone u us p q) tt
 
 -- well-formed units are the encoding of what they mean, which are scalar values
 pub encode-decode : (us : List ℕ) → Words us → isWell (utf16 us) ≡ true → (encode16 (scalars (utf16 us)) ≡ us) × Scalars (scalars (utf16 us))
-encode-decode us w e = go (utf16 us) e (means (reading us) w)
+encode-decode us w e = go (utf16 us) e (means (cases us) w)
   where
     go : (d : Decoded) → isWell d ≡ true → Means us d → (encode16 (scalars d) ≡ us) × Scalars (scalars d)
     go (well t) e m = m
@@ -88,7 +102,7 @@ encode-decode us w e = go (utf16 us) e (means (reading us) w)
 
 -- units that are no encoding are ill-formed
 pub no-encoding : (us : List ℕ) → Words us → ((t : List ℕ) → Scalars t → encode16 t ≡ us → ⊥) → utf16 us ≡ ill
-no-encoding us w f = go (utf16 us) (means (reading us) w)
+no-encoding us w f = go (utf16 us) (means (cases us) w)
   where
     go : (d : Decoded) → Means us d → d ≡ ill
     go (well t) m = absurd (f t (m .1) (m .0))
@@ -100,9 +114,9 @@ fewer c n (well t) l = omega arith
 fewer c n ill l = omega arith
 
 pub decode-length : (us : List ℕ) → length (scalars (utf16 us)) ≤ length us
-decode-length us = go (reading us)
+decode-length us = go (cases us)
   where
-    go : {us : List ℕ} → Reading us → length (scalars (utf16 us)) ≤ length us
+    go : {us : List ℕ} → Cases us → length (scalars (utf16 us)) ≤ length us
     go none = rw utf16-none (omega arith)
     go (single {u} {us} p r) = rw (utf16-single u us p) (fewer u (length us) (utf16 us) (go r))
     go (pair {u} {v} {us} p q r) = rw (utf16-pair u v us p q) (let l = fewer (ofPair u v) (length us) (utf16 us) (go r) in omega arith)

@@ -1,13 +1,14 @@
 -- Laws of UTF-8: the bytes of a scalar value by cases, and that decoding gives back what was encoded. Assumes nothing.
 use mathlib.Core.Path.{_≡_, refl, _∙_, ap}
-use mathlib.Core.Bool.{Bool, true, false, _||_, and-eq-true-iff}
+use mathlib.Core.Bool.{true, _||_, and-eq-true-iff}
 use mathlib.Core.List.{List, [], _∷_, _++_, append-assoc}
-use mathlib.Core.Logic.{_⊎_, inl, inr, ⊎-elim}
+use mathlib.Core.Logic.{inl, inr, ⊎-elim}
 use Prim.Native.Nat.{ℕ, suc, _+_, _*_, _-_, _/_, _%_, _≤_, _<_}
 use native.Mathlib.Omega.{arith}
-use borrow.Author.Tests.{lt-ltb, le-ltb, le-leb, ltb-true, ltb-false}
+use borrow.Author.Tests.{lt-ltb, le-ltb, le-leb, ltb-true}
 use lib.Dec.{leb, ltb}
 use lib.ListN.{length}
+use Rattle.text.specs.Choose.{lt-or-le}
 use Rattle.text.specs.Affix.{allAscii}
 use Rattle.text.specs.Utf16.{well, more, Scalar, Scalars}
 use Rattle.text.specs.Utf8.{utf8One, utf8, fromUtf8On, fromUtf8}
@@ -41,13 +42,6 @@ pub data Sized : ℕ → Type 0 where
   two : {c : ℕ} → 0x80 ≤ c → c < 0x800 → Sized c
   three : {c : ℕ} → 0x800 ≤ c → c < 0x10000 → Sized c
   four : {c : ℕ} → 0x10000 ≤ c → Sized c
-
-lt-or-le : (c k : ℕ) → (c < k) ⊎ (k ≤ c)
-lt-or-le c k = go (ltb c k) refl
-  where
-    go : (b : Bool) → ltb c k ≡ b → (c < k) ⊎ (k ≤ c)
-    go true e = inl (ltb-true c k e)
-    go false e = inr (ltb-false c k e)
 
 pub sized : (c : ℕ) → Sized c
 sized c =

@@ -5,6 +5,7 @@ ghost use lib.ListN.{length};
 ghost use Rattle.text.specs.City.{shiftMix, hashLen16Mul, hashLen16, mulOf, len1to3, len4to7, len8to16, len0to16, mix4, len17to32, swapMul, mixU, mixV, mixY, mixLast, mix8, len33to64, weak32, weakAt, nextX, nextY, nextZ, nextV, nextW, turn, start, finish, longer, cityHash64};
 use super::number::le32;
 use super::number::le64;
+use super::number::wide64;
 use super::word::add;
 use super::word::mul;
 use super::word::rotate;
@@ -17,12 +18,6 @@ const K1: u64 = 0xb492_b66f_be98_f273;
 const K2: u64 = 0x9ae1_6a3b_2f90_404f;
 
 const K_MUL: u64 = 0x9ddf_ea08_eb38_2d69;
-
-fn wide(b: u8) -> u64
-    ensures { λ r. ⌜ (r ≡ b) × (r < 256) ⌝ }
-{
-    b as u64
-}
 
 pub fn shift_mix(x: u64) -> u64
     ensures { λ r. ⌜ r ≡ shiftMix x ⌝ }
@@ -56,8 +51,8 @@ fn hash_len1to3(s: &[u8]) -> u64
     ensures { λ r. ⌜ r ≡ len1to3 (now (s .entry)) ⌝ }
 {
     let n = s.len();
-    let y = wide(s[0]) + (wide(s[n >> 1]) << 8);
-    let z = n as u64 + (wide(s[n - 1]) << 2);
+    let y = wide64(s[0]) + (wide64(s[n >> 1]) << 8);
+    let z = n as u64 + (wide64(s[n - 1]) << 2);
     mul(shift_mix(mul(y, K2) ^ mul(z, K0)), K2)
 }
 
@@ -316,19 +311,34 @@ fn hash_longer(s: &[u8]) -> u64
     last_mix(t)
 }
 
+// CityHash64 of up to 32 bytes: apart from the longer branches, which have registers to save.
+pub fn hash_len0to32(s: &[u8]) -> u64
+    requires { ⌜ length (now s) ≤ 32 ⌝ }
+    ensures { λ r. ⌜ r ≡ cityHash64 (now (s .entry)) ⌝ }
+{
+    if s.len() <= 16 {
+        return hash_len0to16(s);
+    }
+    hash_len17to32(s)
+}
+
+// CityHash64 of more than 32 bytes.
+pub fn hash_len33up(s: &[u8]) -> u64
+    requires { ⌜ 32 < length (now s) ⌝ }
+    ensures { λ r. ⌜ r ≡ cityHash64 (now (s .entry)) ⌝ }
+{
+    if s.len() <= 64 {
+        return hash_len33to64(s);
+    }
+    hash_longer(s)
+}
+
 // CityHash64 of the bytes of s.
 pub fn city_hash64(s: &[u8]) -> u64
     ensures { λ r. ⌜ r ≡ cityHash64 (now (s .entry)) ⌝ }
 {
-    let n = s.len();
-    if n <= 16 {
-        return hash_len0to16(s);
+    if s.len() <= 32 {
+        return hash_len0to32(s);
     }
-    if n <= 32 {
-        return hash_len17to32(s);
-    }
-    if n <= 64 {
-        return hash_len33to64(s);
-    }
-    hash_longer(s)
+    hash_len33up(s)
 }

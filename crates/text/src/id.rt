@@ -11,8 +11,9 @@ ghost use Rattle.text.specs.Name.{decoded, rendered};
 ghost use Rattle.text.specs.City.{cityHash64};
 ghost use Rattle.text.specs.Units.{nameUnits};
 ghost use Rattle.text.specs.Id.{idOf};
-use super::city::city_hash64;
 use super::city::first_state;
+use super::city::hash_len0to32;
+use super::city::hash_len33up;
 use super::city::last_mix;
 use super::city::one_turn;
 use super::lower::lower_scalar;
@@ -101,7 +102,10 @@ fn units_hash(part: &[u8], wide: bool, suffix: &[u8]) -> u64
     }
     let mut chunk = [0u8; 64];
     let size = put_units(&mut chunk, part, wide, suffix, 0, n);
-    city_hash64(&chunk[..size])
+    if size <= 32 {
+        return hash_len0to32(&chunk[..size]);
+    }
+    hash_len33up(&chunk[..size])
 }
 
 // The id of a name.

@@ -11,6 +11,13 @@ pub fn wide(b: u8) -> u32
     b as u32
 }
 
+// The same, in 64 bits.
+pub fn wide64(b: u8) -> u64
+    ensures { λ r. ⌜ (r ≡ b) × (r < 256) ⌝ }
+{
+    b as u64
+}
+
 // The number of four bytes, the lowest first.
 fn join4(b0: u8, b1: u8, b2: u8, b3: u8) -> u32
     ensures { λ r. ⌜ r ≡ b0 + b1 * 256 + b2 * 256 ^ 2 + b3 * 256 ^ 3 ⌝ }

@@ -1,5 +1,4 @@
 // Bytes and numbers written to the front of a lent buffer. Each function returns how many bytes it wrote.
-ghost use mathlib.Core.Path.{_≡_};
 ghost use mathlib.Core.List.{[], _∷_};
 ghost use Prim.Native.Nat.{_≤_};
 ghost use lib.ListN.{length};

@@ -6,16 +6,16 @@ ghost use Rattle.text.specs.Output.{Wrote};
 ghost use Rattle.text.specs.Utf8.{utf8One};
 
 // How many bytes a scalar value takes.
-pub fn utf8_len(c: u32) -> usize
-    ensures { λ r. ⌜ (r ≡ length (utf8One c)) × (r ≤ 4) ⌝ }
+pub fn utf8_len(scalar: u32) -> usize
+    ensures { λ r. ⌜ (r ≡ length (utf8One scalar)) × (r ≤ 4) ⌝ }
 {
-    if c < 0x80 {
+    if scalar < 0x80 {
         return 1;
     }
-    if c < 0x800 {
+    if scalar < 0x800 {
         return 2;
     }
-    if c < 0x10000 {
+    if scalar < 0x10000 {
         return 3;
     }
     4

@@ -17,24 +17,32 @@ fn now() -> u64 {
     t.s as u64 * 1_000_000_000 + t.ns as u64
 }
 
-/// Nanoseconds a call, the best of nine rounds of some 5 ms.
-fn best(mut f: impl FnMut() -> u64) -> f64 {
+/// How many calls take some 2 ms.
+fn calls(f: &mut impl FnMut() -> u64) -> u64 {
     let began = now();
-    let mut calls = 0u64;
+    let mut calls = 0;
     while now() - began < 2_000_000 {
         black_box(f());
         calls += 1;
     }
-    let calls = 3 * calls.max(1);
-    (0..9)
-        .map(|_| {
-            let began = now();
-            for _ in 0..calls {
-                black_box(f());
-            }
-            (now() - began) as f64 / calls as f64
-        })
-        .fold(f64::MAX, f64::min)
+    calls
+}
+
+/// Nanoseconds a call in one round.
+fn round(calls: u64, f: &mut impl FnMut() -> u64) -> f64 {
+    let began = now();
+    for _ in 0..calls {
+        black_box(f());
+    }
+    (now() - began) as f64 / calls as f64
+}
+
+/// Nanoseconds a call of each, the best of 25 rounds that take turns, so that a busy machine slows both.
+fn best(mut f: impl FnMut() -> u64, mut g: impl FnMut() -> u64) -> (f64, f64) {
+    let (fs, gs) = (calls(&mut f), calls(&mut g));
+    (0..25).fold((f64::MAX, f64::MAX), |(a, b), _| {
+        (a.min(round(fs, &mut f)), b.min(round(gs, &mut g)))
+    })
 }
 
 fn line(what: &str, bytes: usize, rattle: f64, rust: f64) {
@@ -54,8 +62,10 @@ fn main() {
     }
     for n in [8, 16, 32, 64, 128, 1_000, 100_000] {
         let s: Vec<u8> = (0..n).map(|i| (i * 37 + 11) as u8).collect();
-        let rattle = best(|| text::city_hash64(black_box(&s)));
-        let rust = best(|| cityhasher::hash(black_box(&s)));
+        let (rattle, rust) = best(
+            || text::city_hash64(black_box(&s)),
+            || cityhasher::hash(black_box(&s)),
+        );
         line("CityHash64", n, rattle, rust);
     }
     for n in [8, 24, 40, 80, 1_000, 32_767] {
@@ -73,8 +83,10 @@ fn main() {
                 text::name_id(&part, wide, number),
                 text::plain::id(&rendered)
             );
-            let rattle = best(|| text::name_id(black_box(&part), wide, number));
-            let rust = best(|| text::plain::id(black_box(&rendered)));
+            let (rattle, rust) = best(
+                || text::name_id(black_box(&part), wide, number),
+                || text::plain::id(black_box(&rendered)),
+            );
             line(what, part.len(), rattle, rust);
         }
     }

@@ -9,8 +9,8 @@ use Rattle.text.proofs.city.hash_len1to3.Tie as tie
 returns : tie.Need-returns
 unfolding len1to3
 returns c =
-    let h = c .before .before .before .before .before .before .wide2 in
-    let l = c .before .before .before .before .wide3 in
+    let h = c .before .before .before .before .before .before .wide642 in
+    let l = c .before .before .before .before .wide643 in
     cc (shl-exact {a = h .result} 8 8 64 (h .ensures .1) (lit≤ tt), shl-exact {a = l .result} 8 2 64 (l .ensures .1) (lit≤ tt))
 
 pub hash-len1to3-spec : {M : Type 1} → statement M

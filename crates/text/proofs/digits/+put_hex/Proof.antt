@@ -1,10 +1,10 @@
 -- `text::digits::put_hex` meets its contract: the last digit is stored behind the others. The measure is k. Assumes nothing.
 use mathlib.Core.Path.{_≡_, sym, _∙_}
-use Prim.Native.Nat.{ℕ, _+_, _-_, _/_, _<_}
+use Prim.Native.Nat.{ℕ, _+_, _-_, _<_}
 use native.Mathlib.Omega.{arith}
 use borrow.Fn.Kinds.{In}
 use borrow.Fn.PlainCycle.{Measures, is, falls, and}
-use lib.ListN.{length, set}
+use lib.ListN.{set}
 use Rattle.text.specs.Output.{Wrote}
 use Rattle.text.specs.OutputLaws.{wrote-none, wrote-as, wrote-byte, wrote-length}
 use Rattle.text.specs.Digits.{hex}

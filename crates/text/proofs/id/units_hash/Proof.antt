@@ -1,16 +1,24 @@
 -- `id::units_hash`: few units are hashed in one piece, more by `long_hash`. Assumes nothing.
-use mathlib.Core.Path.{_∙_, ap}
-use mathlib.Core.List.{List}
-use Prim.Native.Nat.{ℕ, _+_}
+use mathlib.Core.Path.{_≡_, _∙_, ap}
+use Prim.Native.Nat.{_+_}
 use native.Mathlib.Omega.{arith}
 use borrow.Author.Needs.{needs}
-use lib.ListN.{length}
+use lib.ListN.{length, take}
+use Rattle.text.specs.OutputLaws.{taken-length}
+use Rattle.text.specs.Utf16.{unitBytes}
 use Rattle.text.specs.City.{cityHash64}
 use Rattle.text.specs.Units.{nameUnits}
 use Rattle.text.specs.UnitsLaws.{unitsOf-bound}
-use Rattle.text.proofs.NameUnits.{name-length, taken-length, wrote-all}
+use Rattle.text.proofs.NameUnits.{name-length, wrote-all}
 use Rattle.text.proofs.id.units_hash.Statement.{statement}
 use Rattle.text.proofs.id.units_hash.Tie as tie
+
+-- the bytes of all units are in front of the chunk
+written : (c : tie.After-put-units) → take (c .put-units .result) (c .put-units .last .0) ≡ unitBytes (nameUnits (c .before .before .before .before .before .before .args .wide) (c .before .before .before .before .before .before .args .part .now) (c .before .before .before .before .before .before .args .suffix .now))
+written c =
+    let a = c .before .before .before .before .before .before .args in
+    wrote-all (nameUnits (a .wide) (a .part .now) (a .suffix .now)) (c .before .before .before .unit-count .result + length (a .suffix .now)) (c .put-units .ensures)
+    (omega (arith, name-length (a .wide) (a .part .now) (a .suffix .now)))
 
 unit-count-requires : tie.Need-unit-count-requires
 unit-count-requires c κs = search needs
@@ -39,18 +47,26 @@ put-units-requires c κs =
 array-share-prefix-chunk : tie.Need-array-share-prefix-chunk
 array-share-prefix-chunk c = search needs
 
-slice-aggregate-city-hash64 : tie.Need-slice-aggregate-city-hash64
-slice-aggregate-city-hash64 c = taken-length (c .before .before .put-units .ensures)
+slice-aggregate-hash-len0to32 : tie.Need-slice-aggregate-hash-len0to32
+slice-aggregate-hash-len0to32 c = taken-length (c .before .before .before .put-units .ensures)
 
-city-hash64-requires : tie.Need-city-hash64-requires
-city-hash64-requires c κs = search needs
+hash-len0to32-requires : tie.Need-hash-len0to32-requires
+hash-len0to32-requires c κs = omega (arith, taken-length (c .before .before .before .put-units .ensures))
 
 returns-2 : tie.Need-returns-2
-returns-2 c =
-    let a = c .before .before .before .before .before .before .before .before .before .args in
-    let us : List ℕ = nameUnits (a .wide) (a .part .now) (a .suffix .now) in
-    let n : ℕ = c .before .before .before .before .before .before .unit-count .result + length (a .suffix .now) in
-    c .city-hash64 .ensures ∙ ap cityHash64 (wrote-all us n (c .before .before .before .put-units .ensures) (omega (arith, name-length (a .wide) (a .part .now) (a .suffix .now))))
+returns-2 c = c .hash-len0to32 .ensures ∙ ap cityHash64 (written (c .before .before .before .before))
+
+array-share-prefix-chunk-2 : tie.Need-array-share-prefix-chunk-2
+array-share-prefix-chunk-2 c = search needs
+
+slice-aggregate-hash-len33up : tie.Need-slice-aggregate-hash-len33up
+slice-aggregate-hash-len33up c = taken-length (c .before .before .before .put-units .ensures)
+
+hash-len33up-requires : tie.Need-hash-len33up-requires
+hash-len33up-requires c κs = omega (arith, taken-length (c .before .before .before .put-units .ensures))
+
+returns-3 : tie.Need-returns-3
+returns-3 c = c .hash-len33up .ensures ∙ ap cityHash64 (written (c .before .before .before .before))
 
 pub units-hash-spec : {M : Type 1} → statement M
 units-hash-spec =
@@ -63,6 +79,10 @@ units-hash-spec =
     slice-aggregate-put-units
     put-units-requires
     array-share-prefix-chunk
-    slice-aggregate-city-hash64
-    city-hash64-requires
-    returns-2)
+    slice-aggregate-hash-len0to32
+    hash-len0to32-requires
+    returns-2
+    array-share-prefix-chunk-2
+    slice-aggregate-hash-len33up
+    hash-len33up-requires
+    returns-3)

@@ -9,7 +9,7 @@ use borrow.Author.Needs.{needs}
 use lib.ListN.{length, getD, drop, drop-of-length-le}
 use lib.Seq.{drop-cons}
 use Rattle.text.specs.Utf16.{ofPair}
-use Rattle.text.specs.Utf16Reading.{High, Low, Single}
+use Rattle.text.specs.Utf16Cases.{High, Low, Single}
 use Rattle.text.specs.Units.{scalarOf}
 use Rattle.text.specs.UnitsLaws.{unitsOf-bound, scalar-single, scalar-pair, scalar-stray, scalar-lone}
 use Rattle.text.specs.declared.utf16.Scalar.the-variants.{One, Two, Ill}

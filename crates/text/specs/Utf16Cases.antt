@@ -8,7 +8,8 @@ use native.Mathlib.Omega.{arith}
 use lib.Dec.{leb, ltb}
 use lib.ListN.{drop, getD}
 use lib.Seq.{getD-drop}
-use borrow.Author.Tests.{lt-ltb, le-ltb, le-leb, lt-leb, ltb-true, ltb-false}
+use borrow.Author.Tests.{lt-ltb, le-ltb, le-leb, lt-leb}
+use Rattle.text.specs.Choose.{lt-or-le}
 use Rattle.text.specs.Utf16.{Decoded, well, ill, isWell, scalars, more, isHigh, isLow, ofPair, utf16}
 
 -- every element is a unit of 16 bits
@@ -89,33 +90,33 @@ utf16-lone u [] p q = simp (high p)
 utf16-lone u (v ∷ us) p q = simp (high p, no-low q)
 
 -- units read from the front, up to a surrogate without partner
-pub data Reading : List ℕ → Type 0 where
-  none : Reading []
-  single : {u : ℕ} {us : List ℕ} → Single u → Reading us → Reading (u ∷ us)
-  pair : {u v : ℕ} {us : List ℕ} → High u → Low v → Reading us → Reading (u ∷ v ∷ us)
-  stray : {u : ℕ} {us : List ℕ} → Low u → Reading (u ∷ us)
-  lone : {u : ℕ} {us : List ℕ} → High u → NoLow us → Reading (u ∷ us)
+pub data Cases : List ℕ → Type 0 where
+  none : Cases []
+  single : {u : ℕ} {us : List ℕ} → Single u → Cases us → Cases (u ∷ us)
+  pair : {u v : ℕ} {us : List ℕ} → High u → Low v → Cases us → Cases (u ∷ v ∷ us)
+  stray : {u : ℕ} {us : List ℕ} → Low u → Cases (u ∷ us)
+  lone : {u : ℕ} {us : List ℕ} → High u → NoLow us → Cases (u ∷ us)
 
 kind : (u : ℕ) → Single u ⊎ (High u ⊎ Low u)
-kind u = go (ltb u 0xD800) refl (ltb u 0xDC00) refl (ltb u 0xE000) refl
+kind u = go (lt-or-le u 0xD800) (lt-or-le u 0xDC00) (lt-or-le u 0xE000)
   where
-    go : (a : Bool) → ltb u 0xD800 ≡ a → (b : Bool) → ltb u 0xDC00 ≡ b → (c : Bool) → ltb u 0xE000 ≡ c → Single u ⊎ (High u ⊎ Low u)
-    go true p b q c r = inl (inl (ltb-true _ _ p))
-    go false p true q c r = inr (inl (ltb-false _ _ p, ltb-true _ _ q))
-    go false p false q true r = inr (inr (ltb-false _ _ q, ltb-true _ _ r))
-    go false p false q false r = inl (inr (ltb-false _ _ r))
+    go : (u < 0xD800) ⊎ (0xD800 ≤ u) → (u < 0xDC00) ⊎ (0xDC00 ≤ u) → (u < 0xE000) ⊎ (0xE000 ≤ u) → Single u ⊎ (High u ⊎ Low u)
+    go (inl p) q r = inl (inl p)
+    go (inr p) (inl q) r = inr (inl (p, q))
+    go (inr p) (inr q) (inl r) = inr (inr (q, r))
+    go (inr p) (inr q) (inr r) = inl (inr r)
 
-pub reading : (us : List ℕ) → Reading us
-reading [] = none
-reading (u ∷ []) = go (kind u)
+pub cases : (us : List ℕ) → Cases us
+cases [] = none
+cases (u ∷ []) = go (kind u)
   where
-    go : Single u ⊎ (High u ⊎ Low u) → Reading (u ∷ [])
+    go : Single u ⊎ (High u ⊎ Low u) → Cases (u ∷ [])
     go (inl p) = single p none
     go (inr (inl p)) = lone p tt
     go (inr (inr p)) = stray p
-reading (u ∷ v ∷ us) = go (kind u) (kind v) (reading us) (reading (v ∷ us))
+cases (u ∷ v ∷ us) = go (kind u) (kind v) (cases us) (cases (v ∷ us))
   where
-    go : Single u ⊎ (High u ⊎ Low u) → Single v ⊎ (High v ⊎ Low v) → Reading us → Reading (v ∷ us) → Reading (u ∷ v ∷ us)
+    go : Single u ⊎ (High u ⊎ Low u) → Single v ⊎ (High v ⊎ Low v) → Cases us → Cases (v ∷ us) → Cases (u ∷ v ∷ us)
     go (inl p) k r r′ = single p r′
     go (inr (inr p)) k r r′ = stray p
     go (inr (inl p)) (inr (inr q)) r r′ = pair p q r

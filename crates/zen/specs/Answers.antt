@@ -1,0 +1,73 @@
+-- The code's answers, as functions of what a reading gives.
+use mathlib.Core.List.{List, []}
+use Prim.Native.Nat.{ℕ, _-_, _/_, _≤_}
+use Rattle.text.specs.Reading.{Out, refused, gives, Got, bad, got}
+use Rattle.zen.specs.Batch.{Batch}
+use Rattle.zen.specs.Zen.{Read, Imports}
+use Rattle.zen.specs.declared.summary.Summary.{Summary}
+use Rattle.zen.specs.declared.tables.Export.{Export}
+use Rattle.zen.specs.declared.zen.Layout.{Layout}
+use Rattle.zen.specs.declared.zen.Package.{Package}
+use Rattle.zen.specs.declared.zen.Package.the-variants.{Accepted, Rejected}
+use Rattle.zen.specs.declared.names.NameBatch.{NameBatch}
+use Rattle.zen.specs.declared.names.NameBatch.the-variants.{Found, Refused}
+use Rattle.zen.specs.declared.summary.Summed.{Summed}
+use Rattle.zen.specs.declared.summary.Summed.the-variants.{Told, Missed}
+use Rattle.zen.specs.declared.names.Checked.{Checked}
+use Rattle.zen.specs.declared.names.Checked.the-variants.{Passed, Failed}
+
+unfoldable pub checked : {A : Type 0} → Got A → Checked
+checked (bad e) = Failed e
+checked (got a n) = Passed n
+
+unfoldable pub summed : Got Summary → Summed
+summed (bad e) = Missed e
+summed (got m n) = Told m
+
+unfoldable pub batched : Got Batch → NameBatch
+batched (bad e) = Refused e
+batched (got b n) = Found (b .place)
+
+unfoldable pub imported : Got Imports → NameBatch
+imported (bad e) = Refused e
+imported (got i n) = Found (i .batch .place)
+
+unfoldable pub answer : Out Read → Package
+answer (refused e) = Rejected e
+answer (gives r) = Accepted (r .layout)
+
+unfoldable pub exportsOf : Out Read → List Export
+exportsOf (refused e) = []
+exportsOf (gives r) = r .exports
+
+unfoldable pub hashesOf : Out Read → List ℕ
+hashesOf (refused e) = []
+hashesOf (gives r) = r .hashes
+
+unfoldable pub namesOf : Out Read → List (List ℕ)
+namesOf (refused e) = []
+namesOf (gives r) = r .names
+
+unfoldable pub importedOf : Out Read → List (List ℕ)
+importedOf (refused e) = []
+importedOf (gives r) = r .imported
+
+unfoldable pub numbersOf : Out Read → List ℕ
+numbersOf (refused e) = []
+numbersOf (gives r) = r .numbers
+
+-- how many exports and public hashes there are
+abbrev pub exportCount : Layout → ℕ
+exportCount l = (l .summary .bundles - l .summary .exports) / 72
+
+abbrev pub hashCount : Layout → ℕ
+hashCount l = (l .summary .imports - l .summary .hashes) / 8
+
+-- question 17, as facts
+pub record Order (m : Summary) (size : ℕ) : Type 0 where
+  pub low : 52 ≤ m .hashes
+  pub imports : m .hashes ≤ m .imports
+  pub exports : m .imports ≤ m .exports
+  pub bundles : m .exports ≤ m .bundles
+  pub imported : m .bundles ≤ m .imported
+  pub high : m .imported ≤ size

@@ -1,0 +1,79 @@
+-- What whoever reads an accepted package, or a rejected one, needs to know of it. Assumes nothing.
+use mathlib.Core.Path.{_≡_}
+use mathlib.Core.List.{List, [], _∷_}
+use mathlib.Core.Bool.{Bool, true, false, _&&_}
+use Prim.Native.Nat.{ℕ, zero, suc, _<_}
+use native.Mathlib.Omega.{arith}
+use borrow.Author.Tests.{ltb-true}
+use lib.Dec.{ltb}
+use lib.ListN.{length, take, getD}
+use Rattle.text.specs.Reading.{refused, gives, runBlock}
+use Rattle.text.specs.ReadingRows.{cells-length}
+use Rattle.text.specs.NumberLaws.{Bytes}
+use Rattle.text.specs.Affix.{allAscii}
+use Rattle.zen.specs.Zen.{Read, packageBlock, named, asciis, noExport}
+use Rattle.zen.specs.Answers.{answer, namesOf, exportsOf, importedOf, numbersOf}
+use Rattle.zen.specs.Laws.{accepted-got, rejected-got}
+use Rattle.zen.specs.Places.{placeAt}
+use Rattle.zen.specs.PlacesLaws.{texts-length}
+use Rattle.zen.specs.Holds.{Holds, holds-take}
+use Rattle.zen.specs.Accepted.{parts}
+use Rattle.zen.specs.Refusals.{refusal-byte}
+use Rattle.zen.specs.declared.places.Place.{Place}
+use Rattle.zen.specs.declared.tables.Export.{Export}
+use Rattle.zen.specs.declared.zen.Layout.{Layout}
+use Rattle.zen.specs.declared.zen.Package.the-variants.{Accepted, Rejected}
+
+-- ---- a rejected block
+
+pub rejected-read : (b : List ℕ) (q : ℕ) → answer (runBlock packageBlock b) ≡ Rejected q → (runBlock packageBlock b ≡ refused q) × (q < 256)
+rejected-read b q e = let r = rejected-got (runBlock packageBlock b) e in (r, refusal-byte b q r)
+
+-- ---- elements that passed a test
+
+and-true : (a b : Bool) → (a && b) ≡ true → (a ≡ true) × (b ≡ true)
+and-true true b q = (cc, q)
+and-true false b q = absurd (let z : _≡_ {A = ℕ} 0 1 = cc in omega arith)
+
+named-at : (n : ℕ) (es : List Export) → named n es ≡ true → (i : ℕ) → i < length es → getD es i noExport .index < n
+named-at n [] q i l = absurd (omega arith)
+named-at n (e ∷ es) q zero l = ltb-true (e .index) n (and-true (ltb (e .index) n) (named n es) q .0)
+named-at n (e ∷ es) q (suc i) l = named-at n es (and-true (ltb (e .index) n) (named n es) q .1) i (omega arith)
+
+asciis-at : (ts : List (List ℕ)) → asciis ts ≡ true → (i : ℕ) → i < length ts → allAscii (getD ts i []) ≡ true
+asciis-at [] q i l = absurd (omega arith)
+asciis-at (t ∷ ts) q zero l = and-true (allAscii t) (asciis ts) q .0
+asciis-at (t ∷ ts) q (suc i) l = asciis-at ts (and-true (allAscii t) (asciis ts) q .1) i (omega arith)
+
+-- ---- an accepted block
+
+module _ (b : List ℕ) (l : Layout) (acc : answer (runBlock packageBlock b) ≡ Accepted l) where
+  pub accepted-read : (r : Read) × (runBlock packageBlock b ≡ gives r) × (r .layout ≡ l)
+  accepted-read = accepted-got (runBlock packageBlock b) acc
+
+  -- as many names, imported names and their numbers as the batches have
+  pub name-count : length (namesOf (runBlock packageBlock b)) ≡ l .names .count
+  name-count = rw (parts b l acc .names) (texts-length _ _ _ (l .names .count))
+
+  pub imported-count : length (importedOf (runBlock packageBlock b)) ≡ l .imported .count
+  imported-count = rw (parts b l acc .imported) (texts-length _ _ _ (l .imported .count))
+
+  pub number-count : length (numbersOf (runBlock packageBlock b)) ≡ l .imported .count
+  number-count = rw (parts b l acc .numbers) (cells-length _ 4 _ (l .imported .count))
+
+  -- an export's name is in the batch
+  pub export-index : (i : ℕ) → i < length (exportsOf (runBlock packageBlock b)) → getD (exportsOf (runBlock packageBlock b)) i noExport .index < l .names .count
+  export-index i h = named-at (l .names .count) (exportsOf (runBlock packageBlock b)) (parts b l acc .named) i h
+
+  -- an imported name is ASCII
+  pub imported-ascii : (i : ℕ) → i < l .imported .count → allAscii (getD (importedOf (runBlock packageBlock b)) i []) ≡ true
+  imported-ascii i h = asciis-at (importedOf (runBlock packageBlock b)) (parts b l acc .ascii) i (rw imported-count h)
+
+  module _ (y : Bytes b) (i : ℕ) (p : Place) where
+    -- the place that `name_place` gives holds name i
+    pub name-text : i < l .names .count → p ≡ placeAt (take (l .size) b) (l .names) i → Holds b p (getD (namesOf (runBlock packageBlock b)) i [])
+    name-text h e = let k = parts b l acc in rw (e, k .names) (holds-take b (l .size) (l .names) (k .size) y (k .names-held y) i h)
+
+    -- the place that `imported_place` gives holds imported name i
+    pub imported-text : i < l .imported .count → p ≡ placeAt (take (l .size) b) (l .imported) i → Holds b p (getD (importedOf (runBlock packageBlock b)) i [])
+    imported-text h e = let k = parts b l acc in rw (e, k .imported) (holds-take b (l .size) (l .imported) (k .size) y (k .imported-held y) i h)

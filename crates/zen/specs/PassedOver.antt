@@ -1,0 +1,132 @@
+-- What document 01 lists under "Passed over" may take any values, and no reading changes: neither a value nor a refusal.
+use mathlib.Core.Path.{_≡_, refl, sym, _∙_, ap}
+use mathlib.Core.Logic.{_↔_}
+use mathlib.Core.List.{List, [], _++_, append-nil}
+use Prim.Native.Nat.{ℕ, _+_, _-_, _≤_}
+use native.Mathlib.Omega.{arith}
+use native.Mathlib.Decide.{decLe}
+use borrow.Author.Tests.{leb-true}
+use lib.Dec.{leb, eqb}
+use lib.ListN.{length, take, drop, replicate, length-take, drop-of-length-le}
+use lib.Seq.{length-take-le}
+use Rattle.text.specs.Number.{le, leAt}
+use Rattle.text.specs.NumberLaws.{Bytes}
+use Rattle.text.specs.Reading.{refused, gives, Got, bad, got, run, walk, from, runBlock}
+use Rattle.text.specs.ReadingLaws.{pick-by, ask-by}
+use Rattle.text.specs.ReadingMarks.{whole, none, Agree, marks, marks-length, agree-same, marksFrom, marksBlock, block-same}
+use Rattle.text.specs.ReadingRewrite.{Rewritten, rewriting, rewrite, run-rewrite, block-length, block-rewrite}
+use Rattle.text.specs.ReadingTrail.{trail, trail-marks, run-got}
+use Rattle.zen.specs.Field.{low30}
+use Rattle.zen.specs.Batch.{Batch, batch}
+use Rattle.zen.specs.Script.{Objects, entry, script}
+use Rattle.zen.specs.ScriptAnswers.{entryAt}
+use Rattle.zen.specs.Zen.{Read, summary, export, exportAt, lead, header, packageBlock}
+use Rattle.zen.specs.Listed.{batchMarks, entryMarks, summaryMarks, exportMarks, scriptMarks, headerMarks, packageMarks}
+use Rattle.zen.specs.ListedLaws.{batch-trail, entry-trail, summary-trail, export-trail, script-trail, header-trail}
+use Rattle.zen.specs.declared.summary.Summary.{Summary}
+
+-- ---- the reading is the same
+
+-- whatever agrees with a block wherever a bit counts
+pub script-same : (b c : List ℕ) → Agree (marks script 0 b) b c → run script 0 c ≡ run script 0 b
+script-same b c = agree-same script 0 b c
+
+pub package-same : (b c : List ℕ) → Agree (marksBlock packageBlock b) b c → runBlock packageBlock c ≡ runBlock packageBlock b
+package-same b c = block-same packageBlock b c
+
+-- whatever is put in where no bit counts
+pub script-rewrite : (b v : List ℕ) → run script 0 (rewrite (marks script 0 b) b v) ≡ run script 0 b
+script-rewrite b v = run-rewrite script 0 b v
+
+pub package-rewrite : (b v : List ℕ) → runBlock packageBlock (rewrite (marksBlock packageBlock b) b v) ≡ runBlock packageBlock b
+package-rewrite b v = block-rewrite packageBlock b v
+
+-- the two are one: every block that agrees is such a rewriting
+pub script-rewriting : (b c : List ℕ) → Bytes c → Agree (marks script 0 b) b c ↔ Rewritten (marks script 0 b) b c
+script-rewriting b c h = rewriting (marks script 0 b) b c (marks-length script 0 b) h
+
+pub package-rewriting : (b c : List ℕ) → Bytes c → Agree (marksBlock packageBlock b) b c ↔ Rewritten (marksBlock packageBlock b) b c
+package-rewriting b c h = rewriting (marksBlock packageBlock b) b c (block-length packageBlock b) h
+
+-- ---- which bytes count
+
+-- of a script entry and of an export, whatever their bytes are
+pub entry-marks : (s : List ℕ) → length s ≡ 32 → marks entry 0 s ≡ entryMarks
+unfolding entry entryAt low30 leAt
+entry-marks s e =
+    let w : walk entry s 0 ≡ got (entryAt s 0) 32 = rw e in
+    trail-marks entry s 0 w ∙ rw (e, entry-trail s 0)
+
+pub export-marks : (s : List ℕ) → length s ≡ 72 → marks export 0 s ≡ exportMarks
+unfolding export exportAt low30 leAt
+export-marks s e =
+    let w : walk export s 0 ≡ got (exportAt s 0) 72 = rw e in
+    trail-marks export s 0 w ∙ rw (e, export-trail s 0)
+
+-- of a batch and of a summary, wherever they are read
+pub batch-marks : (s : List ℕ) (at : ℕ) {b : Batch} {m : ℕ} → walk batch s at ≡ got b m → marks batch at (drop at s) ≡ batchMarks (b .place) ++ replicate (length s - m) none
+batch-marks s at q = trail-marks batch s at q ∙ rw (batch-trail s at q .0)
+
+pub summary-marks : (s : List ℕ) {m : Summary} {e : ℕ} → walk summary s 8 ≡ got m e → replicate 8 whole ++ marks summary 8 (drop 8 s) ≡ summaryMarks ++ replicate (length s - e) none
+summary-marks s {m} {e} q = ap (λ ms. replicate 8 whole ++ ms) (trail-marks summary s 8 q) ∙ ap (λ ms. ms ++ replicate (length s - e) none) (summary-trail s 8 q)
+
+-- of an accepted script block: those of the list
+pub script-marks : (b : List ℕ) {o : Objects} → run script 0 b ≡ gives o → marks script 0 b ≡ scriptMarks (o .layout)
+script-marks b q =
+    let w = run-got script b 0 (omega arith) q in
+    let t = script-trail b 0 (w .1) in
+    trail-marks script b 0 (w .1) ∙ rw (t .0, t .1) (append-nil _)
+
+lead-got : (b : List ℕ) {size at : ℕ} → walk lead b 0 ≡ got size at → (at ≡ 8) × (size ≤ length b)
+unfolding lead
+lead-got b {size} {at} q =
+    pick-by (leb 4 (length b)) _ 3 q λ l r.
+    ask-by (eqb (le (take 4 b)) 0) 14 _ b 4 r λ t r.
+    pick-by (leb 8 (length b)) _ 3 r λ l r.
+    ask-by (leb (le (take 4 (drop 4 b))) (8 + (length b - 8))) 15 _ b 8 r λ u r.
+    let z : le (take 4 (drop 4 b)) ≡ size = cc in
+    let y : 8 ≡ at = cc in
+    let v = leb-true 8 (length b) l in
+    let w = leb-true (le (take 4 (drop 4 b))) (8 + (length b - 8)) u in
+    (sym y, omega arith)
+
+-- a header under 8 bytes ends before the package's name
+short : (size : ℕ) → run (header size) 8 [] ≡ refused 3
+unfolding header summary
+short size = refl
+
+no-value : {A B : Type 0} {e : ℕ} {a : A} → refused e ≡ gives a → B
+no-value q = absurd (let z : _≡_ {A = ℕ} 0 1 = cc in omega arith)
+
+header-marks : (b : List ℕ) (size : ℕ) {r : Read} → 8 ≤ size → size ≤ length b → run (header size) 8 (drop 8 (take size b)) ≡ gives r
+    → replicate 8 whole ++ (marks (header size) 8 (drop 8 (take size b)) ++ replicate (length b - 8 - (size - 8)) none) ≡ packageMarks (r .layout) (length b)
+unfolding packageMarks
+header-marks b size {r} h l q =
+    let s = take size b in
+    let n : length s ≡ size = length-take-le size b l in
+    let w = run-got (header size) s 8 (rw n h) q in
+    let t = header-trail size s 8 (w .1) in
+    let e : length b - 8 - (size - 8) ≡ length b - size = omega arith in
+    let m : marks (header size) 8 (drop 8 s) ≡ trail (header size) s 8 = trail-marks (header size) s 8 (w .1) ∙ rw (t .1) (append-nil _) in
+    rw (m, e) (ap (λ ms. ms ++ replicate (length b - size) none) (t .2) ∙ ap (λ k. headerMarks (r .layout) ++ replicate (length b - k) none) (sym (t .0)))
+
+-- of an accepted package block: those of the list
+pub package-marks : (b : List ℕ) {r : Read} → runBlock packageBlock b ≡ gives r → marksBlock packageBlock b ≡ packageMarks (r .layout) (length b)
+unfolding runBlock marksBlock
+package-marks b {r} q = go (walk lead b 0) refl q
+  where
+    go : (w : Got ℕ) → walk lead b 0 ≡ w → from header b w ≡ gives r → marksFrom packageBlock b w ≡ packageMarks (r .layout) (length b)
+    go (bad e) f q = no-value q
+    go (got size at) f q = rw (lead-got b f .0) (sized (decLe 8 size) (rw (lead-got b f .0) at q))
+      where
+        sized : Dec (8 ≤ size) → run (header size) 8 (drop 8 (take size b)) ≡ gives r → marksFrom packageBlock b (got size 8) ≡ packageMarks (r .layout) (length b)
+        sized (yes h) q = header-marks b size h (lead-got b f .1) q
+        sized (no h) q = no-value (sym (short size) ∙ rw (drop-of-length-le (take size b) {i = 8} (simp length-take (omega arith))) at q)
+
+-- ---- what is listed may take any values: an accepted block stays accepted, with the same value
+
+pub script-passed : (b c : List ℕ) {o : Objects} → run script 0 b ≡ gives o → Agree (scriptMarks (o .layout)) b c → run script 0 c ≡ gives o
+script-passed b c q a = script-same b c (rw (script-marks b q) a) ∙ q
+
+pub package-passed : (b c : List ℕ) {r : Read} → runBlock packageBlock b ≡ gives r → Agree (packageMarks (r .layout) (length b)) b c → runBlock packageBlock c ≡ gives r
+package-passed b c q a = package-same b c (rw (package-marks b q) a) ∙ q

@@ -1,0 +1,45 @@
+-- Names by number: where each starts, and the text there. Assumes nothing.
+use mathlib.Core.Path.{_≡_}
+use mathlib.Core.List.{List, [], _∷_}
+use mathlib.Core.Bool.{true}
+use Prim.Native.Nat.{ℕ, zero, suc, _+_, _*_, _-_, _/_, _≤_, _<_}
+use lib.ListN.{length, take, drop, getD}
+use Rattle.text.specs.Utf16.{isWell}
+use Rattle.text.specs.Name.{decoded, base}
+use Rattle.zen.specs.Batch.{headAt}
+use Rattle.zen.specs.declared.names.Names.{Names}
+use Rattle.zen.specs.declared.places.Place.{Place}
+
+-- where name i starts, of those with headers from h and strings from p
+unfoldable pub nameStart : List ℕ → ℕ → ℕ → ℕ → ℕ
+nameStart s h p zero = p
+nameStart s h p (suc i) = nameStart s (h + 2) (p + headAt s h .size) i
+
+-- the texts of k names with headers from h and strings from p
+unfoldable pub textsAt : List ℕ → ℕ → ℕ → ℕ → List (List ℕ)
+textsAt s h p zero = []
+textsAt s h p (suc k) = base (headAt s h .wide) (take (headAt s h .size) (drop p s)) ∷ textsAt s (h + 2) (p + headAt s h .size) k
+
+-- where name i of a batch is
+unfoldable pub placeAt : List ℕ → Names → ℕ → Place
+placeAt s n i = record { start = nameStart s (n .headers) (n .strings) i; size = headAt s (n .headers + 2 * i) .size; wide = headAt s (n .headers + 2 * i) .wide }
+
+-- how many names there are from a note to the next, so that 256 notes do
+abbrev pub stepOf : ℕ → ℕ
+stepOf count = count / 256 + 1
+
+-- the bytes at a place
+abbrev pub partAt : List ℕ → Place → List ℕ
+partAt s p = take (p .size) (drop (p .start) s)
+
+-- a place whose names were accepted
+pub record Held (s : List ℕ) (n : Names) : Type 0 where
+  pub heads : n .headers + 2 * n .count ≤ length s
+  pub inside : nameStart s (n .headers) (n .strings) (n .count) ≤ n .«end»
+  pub ends : n .«end» ≤ length s
+  pub span : n .«end» - n .strings < 4294967296
+  pub well : (i : ℕ) → i < n .count → isWell (decoded (placeAt s n i .wide) (partAt s (placeAt s n i))) ≡ true
+
+-- every step-th name's place among the strings
+pub record Marked (s : List ℕ) (n : Names) (marks : List ℕ) : Type 0 where
+  pub at : (j : ℕ) → j < 256 → stepOf (n .count) * j ≤ n .count → getD marks j 0 ≡ nameStart s (n .headers) (n .strings) (stepOf (n .count) * j) - n .strings

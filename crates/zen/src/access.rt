@@ -1,0 +1,98 @@
+// What an accepted package holds, by number.
+ghost use mathlib.Core.Path.{_≡_};
+ghost use Prim.Native.Nat.{_<_};
+ghost use lib.ListN.{length, getD, take};
+ghost use Rattle.text.specs.Reading.{runBlock};
+ghost use Rattle.zen.specs.Zen.{noExport, packageBlock};
+ghost use Rattle.zen.specs.Answers.{answer, exportsOf, hashesOf, numbersOf, exportCount, hashCount};
+ghost use Rattle.zen.specs.Places.{placeAt, Marked};
+ghost use Rattle.zen.specs.declared.zen.Package.the-variants.{Accepted};
+use super::places::Place;
+use super::places::mark_names;
+use super::places::place_at;
+use super::reader;
+use super::tables::Export;
+use super::tables::export_in;
+use super::zen::Layout;
+
+// The public hash of number i of an accepted package.
+pub fn hash_at(b: &[u8], l: Layout, i: usize) -> u64
+    requires { ⌜ (answer (runBlock packageBlock (now b)) ≡ Accepted l) × (i < length (hashesOf (runBlock packageBlock (now b)))) ⌝ }
+    ensures { λ r. ⌜ r ≡ getD (hashesOf (runBlock packageBlock (now (b .entry)))) i 0 ⌝ }
+{
+    let size = l.size;
+    reader::u64_le(&b[0..size], l.summary.hashes + 8 * i)
+}
+
+// The export of number i of an accepted package.
+pub fn export_at(b: &[u8], l: Layout, i: usize) -> Export
+    requires { ⌜ (answer (runBlock packageBlock (now b)) ≡ Accepted l) × (i < length (exportsOf (runBlock packageBlock (now b)))) ⌝ }
+    ensures { λ r. ⌜ r ≡ getD (exportsOf (runBlock packageBlock (now (b .entry)))) i noExport ⌝ }
+{
+    let size = l.size;
+    export_in(&b[0..size], l.summary.exports + 72 * i)
+}
+
+// How many exports and public hashes a package has.
+pub fn export_count(l: Layout) -> usize
+    ensures { λ r. ⌜ r ≡ exportCount l ⌝ }
+{
+    if l.summary.bundles < l.summary.exports {
+        return 0;
+    }
+    (l.summary.bundles - l.summary.exports) / 72
+}
+
+pub fn hash_count(l: Layout) -> usize
+    ensures { λ r. ⌜ r ≡ hashCount l ⌝ }
+{
+    if l.summary.imports < l.summary.hashes {
+        return 0;
+    }
+    (l.summary.imports - l.summary.hashes) / 8
+}
+
+// The instance number of imported name i of an accepted package.
+pub fn imported_number(b: &[u8], l: Layout, i: usize) -> u32
+    requires { ⌜ (answer (runBlock packageBlock (now b)) ≡ Accepted l) × (i < l .imported .count) ⌝ }
+    ensures { λ r. ⌜ r ≡ getD (numbersOf (runBlock packageBlock (now (b .entry)))) i 0 ⌝ }
+{
+    let at = l.imported.end + 4 * i;
+    text::number::le32(b, at)
+}
+
+// Notes where the names of an accepted package start.
+pub fn mark_package_names(b: &[u8], l: Layout, marks: &mut [u32; 256])
+    requires { ⌜ (answer (runBlock packageBlock (now b)) ≡ Accepted l) × (length (now marks) ≡ 256) ⌝ }
+    ensures { λ _. ⌜ Marked (take (l .size) (now (b .entry))) (l .names) (now (marks .exit)) × (length (now (marks .exit)) ≡ 256) ⌝ }
+{
+    let size = l.size;
+    mark_names(&b[0..size], l.names, marks);
+}
+
+// Where name i of an accepted package is.
+pub fn name_place(b: &[u8], l: Layout, marks: &[u32; 256], i: usize) -> Place
+    requires { ⌜ (answer (runBlock packageBlock (now b)) ≡ Accepted l) × (i < l .names .count) × Marked (take (l .size) (now b)) (l .names) (now marks) ⌝ }
+    ensures { λ r. ⌜ r ≡ placeAt (take (l .size) (now (b .entry))) (l .names) i ⌝ }
+{
+    let size = l.size;
+    place_at(&b[0..size], l.names, marks, i)
+}
+
+// Notes where the imported names of an accepted package start.
+pub fn mark_imported_names(b: &[u8], l: Layout, marks: &mut [u32; 256])
+    requires { ⌜ (answer (runBlock packageBlock (now b)) ≡ Accepted l) × (length (now marks) ≡ 256) ⌝ }
+    ensures { λ _. ⌜ Marked (take (l .size) (now (b .entry))) (l .imported) (now (marks .exit)) × (length (now (marks .exit)) ≡ 256) ⌝ }
+{
+    let size = l.size;
+    mark_names(&b[0..size], l.imported, marks);
+}
+
+// Where imported name i of an accepted package is.
+pub fn imported_place(b: &[u8], l: Layout, marks: &[u32; 256], i: usize) -> Place
+    requires { ⌜ (answer (runBlock packageBlock (now b)) ≡ Accepted l) × (i < l .imported .count) × Marked (take (l .size) (now b)) (l .imported) (now marks) ⌝ }
+    ensures { λ r. ⌜ r ≡ placeAt (take (l .size) (now (b .entry))) (l .imported) i ⌝ }
+{
+    let size = l.size;
+    place_at(&b[0..size], l.imported, marks, i)
+}
