@@ -32,8 +32,7 @@ module _ {A : Type 0} (P : A → Type 0) where
   pub gives-run : (p : Reading A) → Gives p → (at : ℕ) (s : List ℕ) {a : A} → run p at s ≡ gives a → P a
   gives-run (give b) g at s {a} e = let h : b ≡ a = cc in rw h at g
   gives-run (refuse n) g at s e = refused-gives e
-  gives-run (bytes n f) g at s e =
-      choose-gives (leb n (length s)) (run (f (take n s)) (at + n) (drop n s)) (gives-run (f (take n s)) (g (take n s)) (at + n) (drop n s)) e
+  gives-run (bytes n f) g at s e = choose-gives (leb n (length s)) (run (f (take n s)) (at + n) (drop n s)) (gives-run (f (take n s)) (g (take n s)) (at + n) (drop n s)) e
   gives-run (part k f) g at [] e = refused-gives e
   gives-run (part k f) g at (x ∷ s) e = gives-run (f (x % 2 ^ k)) (g (x % 2 ^ k)) (at + 1) s e
   gives-run (pass n p) g at s e = choose-gives (leb n (length s)) (run p (at + n) (drop n s)) (gives-run p g (at + n) (drop n s)) e

@@ -1,8 +1,8 @@
 -- Laws of readings: by position and front to back are one; one reading after another.
-use mathlib.Core.Path.{_≡_, refl}
+use mathlib.Core.Path.{_≡_, refl, _∙_}
 use mathlib.Core.List.{List}
 use mathlib.Core.Bool.{Bool, true, false}
-use Prim.Native.Nat.{ℕ, _+_, _-_, _%_, _^_, _≤_}
+use Prim.Native.Nat.{ℕ, _+_, _-_, _%_, _^_, _≤_, _<_}
 use native.Mathlib.Omega.{arith}
 use native.Mathlib.Decide.{decLe}
 use native.Mathlib.Numerals.{add-one}
@@ -11,7 +11,8 @@ use lib.Dec.{leb}
 use lib.ListN.{length, take, drop, getD, length-drop, drop-of-length-le}
 use lib.Seq.{drop-drop, drop-cons}
 use Rattle.text.specs.Choose.{pick}
-use Rattle.text.specs.Reading.{Out, refused, gives, Got, bad, got, Reading, give, refuse, bytes, part, pass, left, here, run, walk, _>>=_, _>>_, ask}
+use Rattle.text.specs.Number.{leAt}
+use Rattle.text.specs.Reading.{Out, refused, gives, Got, bad, got, Reading, give, refuse, bytes, part, pass, left, here, run, walk, _>>=_, _>>_, number, ask}
 
 module _ {A B : Type 0} where
   abbrev pub chain : Got A → (A → ℕ → Got B) → Got B
@@ -30,6 +31,13 @@ module _ {A B : Type 0} where
   walk-bind (pass n p) k s at = rw (walk-bind p k s (at + n)) (chain-pick (leb (at + n) (length s)) (walk p s (at + n)) (bad 3) (λ a n. walk (k a) s n))
   walk-bind (left f) k s at = walk-bind (f (length s - at)) k s at
   walk-bind (here f) k s at = walk-bind (f at) k s at
+
+  -- one reading that is done, or refused, and then another
+  pub then-walk : (p : Reading A) (k : A → Reading B) (s : List ℕ) (at : ℕ) {n : ℕ} {a : A} → walk p s at ≡ got a n → walk (p >>= k) s at ≡ walk (k a) s n
+  then-walk p k s at q = walk-bind p k s at ∙ rw q
+
+  pub then-bad : (p : Reading A) (k : A → Reading B) (s : List ℕ) (at : ℕ) {r : ℕ} → walk p s at ≡ bad r → walk (p >>= k) s at ≡ bad r
+  then-bad p k s at q = walk-bind p k s at ∙ rw q
 
 module _ {A : Type 0} where
   abbrev pub out : Got A → Out A
@@ -103,7 +111,27 @@ module _ {A : Type 0} where
   ask-is true r k s at = refl
   ask-is false r k s at = refl
 
+-- a question that is the last
+pub last-is : (t : Bool) (r : ℕ) (s : List ℕ) (at : ℕ) → walk (ask t r) s at ≡ pick t (got tt at) (bad r)
+last-is true r s at = refl
+last-is false r s at = refl
+
 module _ {B : Type 0} where
   pub pick-cong : (t : Bool) (z : B) {x y : B} → (t ≡ true → x ≡ y) → pick t x z ≡ pick t y z
   pick-cong true z f = f refl
   pick-cong false z f = refl
+
+module _ {A : Type 0} where
+  -- what is not there, now or further on
+  pub pick-short : (t : Bool) (x : Got A) (r : ℕ) → (t ≡ true → x ≡ bad r) → pick t x (bad r) ≡ bad r
+  pick-short true x r f = f refl
+  pick-short false x r f = refl
+
+-- a number that is there, or is not
+module _ (k : ℕ) (s : List ℕ) (at : ℕ) where
+  pub number-there : at + k ≤ length s → walk (number k) s at ≡ got (leAt k s at) (at + k)
+  unfolding leAt
+  number-there h = rw (le-leb (at + k) (length s) h)
+
+  pub number-short : length s < at + k → walk (number k) s at ≡ bad 3
+  number-short h = rw (lt-leb (at + k) (length s) h)

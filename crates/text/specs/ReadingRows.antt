@@ -1,11 +1,13 @@
 -- Records of one size, one after another: the i-th is read at its place.
 use mathlib.Core.Path.{_≡_, refl, sym, _∙_, ap}
 use mathlib.Core.List.{List, [], _∷_}
+use mathlib.Core.Bool.{Bool, true, false}
 use Prim.Native.Nat.{ℕ, zero, suc, _+_, _*_, _≤_, _<_}
 use native.Mathlib.Omega.{arith}
 use native.Mathlib.Nat.{mul-suc}
 use native.Mathlib.Decide.{decLe}
 use lib.ListN.{length, getD}
+use Rattle.text.specs.Choose.{pick}
 use Rattle.text.specs.Reading.{Got, bad, got, Reading, walk, onto, rowsOn, rows}
 use Rattle.text.specs.ReadingLaws.{chain, walk-bind, chain-by, bad-got}
 
@@ -28,6 +30,15 @@ module _ {A B : Type 0} where
   abbrev pub mapGot : (A → B) → Got A → Got B
   mapGot g (bad r) = bad r
   mapGot g (got a n) = got (g a) n
+
+  pub map-pick : (g : A → B) (t : Bool) (x : Got A) (r : ℕ) → mapGot g (pick t x (bad r)) ≡ pick t (mapGot g x) (bad r)
+  map-pick g true x r = refl
+  map-pick g false x r = refl
+
+module _ {P A B : Type 0} {b : B} {n : ℕ} where
+  pub map-by : (g : A → B) (x : Got A) → mapGot g x ≡ got b n → ((a : A) → x ≡ got a n → g a ≡ b → P) → P
+  map-by g (bad r) q f = bad-got q
+  map-by g (got a m) q f = f a (let z : m ≡ n = cc in rw z) (cc)
 
 module _ {A : Type 0} where
   rowsOn-is : (p : Reading A) (n : ℕ) (done : List A) (s : List ℕ) (at : ℕ) → walk (rowsOn done n p) s at ≡ mapGot (onto done) (walk (rowsOn [] n p) s at)

@@ -12,6 +12,7 @@ use lib.ListN.{length, take, drop, getD, replicate, length-drop, replicate-appen
 use lib.Seq.{drop-drop, drop-cons}
 use Rattle.text.specs.Reading.{gives, Got, bad, got, Reading, give, refuse, bytes, part, pass, left, here, run, walk, _>>=_, _>>_, ask, rowsOn}
 use Rattle.text.specs.ReadingLaws.{out, run-walk, walk-bind, chain-by, pick-by, bad-got}
+use Rattle.text.specs.ReadingGives.{refused-gives}
 use Rattle.text.specs.ReadingMarks.{Mark, whole, low, none, marks}
 
 module _ {A : Type 0} where
@@ -35,7 +36,7 @@ module _ {A : Type 0} where
 
 module _ {A : Type 0} where
   out-got : (g : Got A) {a : A} → out g ≡ gives a → (m : ℕ) × (g ≡ got a m)
-  out-got (bad r) q = absurd (let z : _≡_ {A = ℕ} 0 1 = cc in omega arith)
+  out-got (bad r) q = refused-gives q
   out-got (got b m) {a} q = let z : b ≡ a = cc in (m, rw z refl)
 
   -- a reading that gives a value ends somewhere

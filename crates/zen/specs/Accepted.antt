@@ -2,26 +2,30 @@
 use mathlib.Core.Path.{_≡_, refl, sym, _∙_, ap, subst}
 use mathlib.Core.List.{List}
 use mathlib.Core.Bool.{true}
-use Prim.Native.Nat.{ℕ, _+_, _*_, _-_, _%_, _≤_, _<_}
+use Prim.Native.Nat.{ℕ, _+_, _*_, _-_, _%_, _^_, _≤_, _<_}
 use native.Mathlib.Omega.{arith}
 use native.Mathlib.Decide.{decLe}
 use native.Mathlib.Nat.{div-add-mod'}
-use borrow.Author.Tests.{leb-true, ltb-true, eqb-true}
-use lib.Dec.{leb, ltb, eqb}
+use borrow.Author.Tests.{ltb-true, eqb-true}
+use lib.Dec.{ltb, eqb}
 use lib.ListN.{length, take, getD}
 use lib.Seq.{length-take-le}
-use Rattle.text.specs.Reading.{Out, refused, gives, Got, bad, got, runBlock, walk}
+use Rattle.text.specs.Reading.{gives, Got, bad, got, runBlock, walk}
 use Rattle.text.specs.ReadingLaws.{walk-bind, chain-by, pick-by, ask-by, bad-got, out}
+use Rattle.text.specs.ReadingGives.{refused-gives}
 use Rattle.text.specs.ReadingRows.{cells, cells-at, cells-length}
 use Rattle.text.specs.Number.{leAt}
-use Rattle.text.specs.NumberLaws.{Bytes, bytes-part, leAt-part}
+use Rattle.text.specs.NumberLaws.{Bytes, bytes-part, leAt-part, leAt-lt}
 use Rattle.zen.specs.Batch.{Batch, batch}
 use Rattle.zen.specs.Zen.{Read, Tables, Imports, summary, ordered, bulk, tables, exportAt, imports, content, header, lead, packageBlock, named, asciis, noExport}
 use Rattle.zen.specs.Answers.{Order, answer, batched, hashesOf, exportsOf, namesOf, importedOf, numbersOf, hashCount, exportCount}
-use Rattle.zen.specs.Laws.{bulk-got, accepted-got}
-use Rattle.zen.specs.Tables.{tables-is, hashesIn, exportsIn}
+use Rattle.zen.specs.TableLaws.{bulk-got, tables-is, hashesIn, exportsIn}
+use Rattle.zen.specs.AnswersLaws.{accepted-got}
 use Rattle.zen.specs.Places.{textsAt, Held}
-use Rattle.zen.specs.HeaderLaws.{order-of, summary-got, lead-is, block-is, block-low, block-bad, FoundAt, found-at, found-held, imports-short, imports-is}
+use Rattle.zen.specs.SummaryLaws.{order-of, summary-got}
+use Rattle.zen.specs.BlockLaws.{block-is, block-low, block-bad, lead-got}
+use Rattle.zen.specs.FoundBatch.{FoundAt, found-at, found-held}
+use Rattle.zen.specs.ImportLaws.{imports-short, imports-is}
 use Rattle.zen.specs.declared.summary.Summary.{Summary}
 use Rattle.zen.specs.declared.names.Names.{Names}
 use Rattle.zen.specs.declared.zen.Layout.{Layout}
@@ -128,6 +132,8 @@ header-got s r n q =
 
 pub record Parts (b : List ℕ) (l : Layout) : Type 0 where
   pub size : l .size ≤ length b
+  pub header : l .size ≡ leAt 4 b 4
+  pub small : Bytes b → l .size < 256 ^ 4
   pub order : Order (l .summary) (l .size)
   -- what is read, by position
   pub names : namesOf (runBlock packageBlock b) ≡ textsAt (take (l .size) b) (l .names .headers) (l .names .strings) (l .names .count)
@@ -154,36 +160,25 @@ pub record Parts (b : List ℕ) (l : Layout) : Type 0 where
 
 -- ---- which blocks are accepted
 
-never : {P : Type 0} {x : Out Read} {e : ℕ} {r : Read} → x ≡ refused e → x ≡ gives r → P
-never p q = absurd (let z : _≡_ {A = ℕ} 0 1 = cc in omega arith)
-
-pub lead-got : (b : List ℕ) (size at : ℕ) → walk lead b 0 ≡ got size at → (at ≡ 8) × (size ≤ length b)
-lead-got b size at q =
-    pick-by (leb 4 (length b)) _ 3 (sym (lead-is b) ∙ q) λ a r.
-    pick-by (eqb (leAt 4 b 0) 0) _ 14 r λ c r.
-    pick-by (leb 8 (length b)) _ 3 r λ d r.
-    pick-by (leb (leAt 4 b 4) (8 + (length b - 8))) _ 15 r λ e r.
-    let d1 = leb-true 8 (length b) d in
-    let e1 = leb-true (leAt 4 b 4) (8 + (length b - 8)) e in
-    let y : leAt 4 b 4 ≡ size = cc in
-    (cc, omega arith)
-
 -- what was read is what the header says
-said : (b : List ℕ) (r : Read) → runBlock packageBlock b ≡ gives r → (r .layout .size ≤ length b) × Says (take (r .layout .size) b) (r .layout .size) r
+abbrev Sized : List ℕ → Read → ℕ → Type 0
+Sized b r k = (k ≤ length b) × (k ≡ leAt 4 b 4) × Says (take k b) k r
+
+said : (b : List ℕ) (r : Read) → runBlock packageBlock b ≡ gives r → Sized b r (r .layout .size)
 said b r q = go (walk lead b 0) refl
   where
-    go : (g : Got ℕ) → walk lead b 0 ≡ g → (r .layout .size ≤ length b) × Says (take (r .layout .size) b) (r .layout .size) r
-    go (bad x) e = never (block-bad b e) q
+    go : (g : Got ℕ) → walk lead b 0 ≡ g → Sized b r (r .layout .size)
+    go (bad x) e = refused-gives (sym (block-bad b e) ∙ q)
     go (got size at) e = sized (decLe 8 size)
       where
-        f : (at ≡ 8) × (size ≤ length b)
+        f : (at ≡ 8) × (size ≤ length b) × (size ≡ leAt 4 b 4)
         f = lead-got b size at e
 
         e8 : walk lead b 0 ≡ got size 8
         e8 = e ∙ ap (got size) (f .0)
 
-        sized : Dec (8 ≤ size) → (r .layout .size ≤ length b) × Says (take (r .layout .size) b) (r .layout .size) r
-        sized (no h) = never (block-low b e8 (omega arith)) q
+        sized : Dec (8 ≤ size) → Sized b r (r .layout .size)
+        sized (no h) = refused-gives (sym (block-low b e8 (omega arith)) ∙ q)
         sized (yes h) = two (walk (header size) (take size b) 8) refl
           where
             w : length (take size b) ≡ size
@@ -192,24 +187,26 @@ said b r q = go (walk lead b 0) refl
             is : runBlock packageBlock b ≡ out (walk (header size) (take size b) 8)
             is = block-is b e8 h (f .1)
 
-            two : (g : Got Read) → walk (header size) (take size b) 8 ≡ g → (r .layout .size ≤ length b) × Says (take (r .layout .size) b) (r .layout .size) r
-            two (bad x) u = never (is ∙ ap out u) q
+            two : (g : Got Read) → walk (header size) (take size b) 8 ≡ g → Sized b r (r .layout .size)
+            two (bad x) u = refused-gives (sym (is ∙ ap out u) ∙ q)
             two (got v n) u =
                 let y : gives v ≡ gives r = sym (is ∙ ap out u) ∙ q in
                 let z : v ≡ r = cc in
                 let c = rw (z, w) at (header-got (take size b) v n (rw w u)) in
-                subst (λ k. (k ≤ length b) × Says (take k b) k r) (sym (c .size)) (f .1, c)
+                subst (Sized b r) (sym (c .size)) (f .1, f .2, c)
 
 -- what was read has its layout's parts
 pub read-parts : (b : List ℕ) (r : Read) → runBlock packageBlock b ≡ gives r → Parts b (r .layout)
 unfolding hashesOf exportsOf namesOf importedOf numbersOf
 read-parts b r y =
-    let (f, c) = said b r y in
+    let (f, h, c) = said b r y in
     let m = r .layout .summary in
     let w : length (take (r .layout .size) b) ≡ r .layout .size = length-take-le (r .layout .size) b f in
     let o : Order m (r .layout .size) = rw w at (c .order) in
     record {
       size = f;
+      header = h;
+      small = λ bs. rw h (leAt-lt 4 b 4 bs);
       order = o;
       names = rw y (c .names);
       hashes = rw y (c .hashes);

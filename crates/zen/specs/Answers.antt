@@ -3,7 +3,7 @@ use mathlib.Core.List.{List, []}
 use Prim.Native.Nat.{ℕ, _-_, _/_, _≤_}
 use Rattle.text.specs.Reading.{Out, refused, gives, Got, bad, got}
 use Rattle.zen.specs.Batch.{Batch}
-use Rattle.zen.specs.Zen.{Read, Imports}
+use Rattle.zen.specs.Zen.{Read, Imports, importedName, packageName}
 use Rattle.zen.specs.declared.summary.Summary.{Summary}
 use Rattle.zen.specs.declared.tables.Export.{Export}
 use Rattle.zen.specs.declared.zen.Layout.{Layout}
@@ -55,6 +55,15 @@ importedOf (gives r) = r .imported
 unfoldable pub numbersOf : Out Read → List ℕ
 numbersOf (refused e) = []
 numbersOf (gives r) = r .numbers
+
+-- imported name i and the package's name, rendered
+unfoldable pub importedNameOf : Out Read → ℕ → List ℕ
+importedNameOf (refused e) i = []
+importedNameOf (gives r) i = importedName r i
+
+unfoldable pub packageNameOf : Out Read → List ℕ
+packageNameOf (refused e) = []
+packageNameOf (gives r) = packageName r
 
 -- how many exports and public hashes there are
 abbrev pub exportCount : Layout → ℕ

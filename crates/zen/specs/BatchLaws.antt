@@ -12,15 +12,13 @@ use lib.Seq.{getD-take, getD-drop}
 use Rattle.text.specs.Choose.{choose, pick}
 use Rattle.text.specs.Utf16.{isWell}
 use Rattle.text.specs.Name.{decoded, base}
-use Rattle.text.specs.Affix.{allAscii}
 use Rattle.text.specs.Reading.{Got, bad, got, give, walk, rows, ask, onto, _>>_}
-use Rattle.text.specs.ReadingLaws.{chain, walk-bind, pick-by, ask-is, pick-cong, bad-got}
-use Rattle.text.specs.ReadingRows.{cells, mapGot, rows-there, rows-short}
+use Rattle.text.specs.ReadingLaws.{chain, walk-bind, pick-by, ask-is, pick-cong}
+use Rattle.text.specs.ReadingRows.{cells, mapGot, rows-there, rows-short, map-pick, map-by}
 use Rattle.text.specs.Number.{leAt}
 use Rattle.zen.specs.Batch.{head, headAt, stringsOn, strings, Batch, batch, noNames, someNames, body}
-use Rattle.zen.specs.Zen.{asciis}
 use Rattle.zen.specs.Answers.{checked}
-use Rattle.zen.specs.Laws.{checked-map, checked-got, checked-bad}
+use Rattle.zen.specs.AnswersLaws.{checked-map, checked-got, checked-bad}
 use Rattle.zen.specs.Places.{nameStart, textsAt}
 use Rattle.zen.specs.declared.names.Head.{Head}
 use Rattle.zen.specs.declared.names.Names.{Names}
@@ -38,11 +36,6 @@ module _ (s : List ℕ) (at : ℕ) where
   pub head-short : length s < at + 2 → walk head s at ≡ bad 3
   unfolding head
   head-short h = rw (lt-leb (at + 2) (length s) h)
-
-module _ {A B : Type 0} where
-  pub map-pick : (g : A → B) (t : Bool) (x : Got A) (r : ℕ) → mapGot g (pick t x (bad r)) ≡ pick t (mapGot g x) (bad r)
-  map-pick g true x r = refl
-  map-pick g false x r = refl
 
 -- the bytes of a name at a place, and its text
 abbrev part : Head → List ℕ → ℕ → List ℕ
@@ -117,29 +110,6 @@ module _ (s : List ℕ) («end» : ℕ) where
       let r : «end» - p - headAt s h .size ≡ «end» - (p + headAt s h .size) = omega arith in
       rw (strings-cons (headAt s h) (cells (headAt s) 2 (h + 2) k) («end» - p) s p, le-leb (headAt s h .size) («end» - p) g, le-leb (p + headAt s h .size) (length s) (omega arith), w, r, sub-one)
       (checked-map (walk (strings (cells (headAt s) 2 (h + 2) k) («end» - (p + headAt s h .size))) s (p + headAt s h .size)) (λ ts. text (headAt s h) s p ∷ ts))
-
--- question 23, one name at a time
-module _ (s : List ℕ) (h p : ℕ) where
-  pub asciis-none : (k : ℕ) → k ≤ 0 → asciis (textsAt s h p k) ≡ true
-  unfolding textsAt
-  asciis-none zero l = refl
-  asciis-none (suc k) l = absurd (omega arith)
-
-  pub asciis-fail : (k : ℕ) → 0 < k → allAscii (text (headAt s h) s p) ≡ false → asciis (textsAt s h p k) ≡ false
-  unfolding textsAt
-  asciis-fail zero l q = absurd (omega arith)
-  asciis-fail (suc k) l q = rw q
-
-  pub asciis-pass : (k : ℕ) → 0 < k → allAscii (text (headAt s h) s p) ≡ true → asciis (textsAt s h p k) ≡ asciis (textsAt s (h + 2) (p + headAt s h .size) (k - 1))
-  unfolding textsAt
-  asciis-pass zero l q = absurd (omega arith)
-  asciis-pass (suc k) l q = rw (q, sub-one)
-
--- what was read
-module _ {P A B : Type 0} {b : B} {n : ℕ} where
-  pub map-by : (g : A → B) (x : Got A) → mapGot g x ≡ got b n → ((a : A) → x ≡ got a n → g a ≡ b → P) → P
-  map-by g (bad r) q f = bad-got q
-  map-by g (got a m) q f = f a (let z : m ≡ n = cc in rw z) (cc)
 
 -- k names with headers from h, read from p on: their texts are those at their places, and they use the room up
 pub record Strings (s : List ℕ) (h p k room : ℕ) (ts : List (List ℕ)) (e : ℕ) : Type 0 where

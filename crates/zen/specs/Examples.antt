@@ -12,8 +12,7 @@ use Rattle.text.specs.Signed.{twos}
 use Rattle.text.specs.Utf16.{utf16, units}
 use Rattle.zen.specs.Batch.{batch, noNames, someNames, body, head, headOf, strings}
 use Rattle.zen.specs.Script.{Objects, entry, entries, opening, script, objectName}
-use Rattle.zen.specs.Zen.{Read, packageBlock, lead, header, content, imports, tables, summary, offset, ordered, bulk, export}
-use Rattle.zen.specs.Zen.{exportName, importedName, packageName}
+use Rattle.zen.specs.Zen.{Read, packageBlock, lead, header, content, imports, tables, summary, offset, ordered, bulk, export, exportName, importedName, packageName}
 
 -- ---- how the blocks are written
 
@@ -54,7 +53,7 @@ packageOf size index number offsets rest = field 4 0 ++ field 4 size ++ field 4 
 abbrev entryOf : ℕ → ℕ → ℕ → ℕ → List ℕ
 entryOf index number global outer = field 4 index ++ field 4 number ++ field 8 global ++ field 8 outer ++ replicate 8 7
 
--- ---- the package text-A A
+-- ---- a package with the name A
 
 abbrev text-A : Text
 text-A = record { wide = false; part = 65 ∷ [] }

@@ -4,7 +4,6 @@ use mathlib.Core.List.{List, [], _∷_, _++_, append-assoc, append-nil}
 use mathlib.Core.Bool.{Bool, true, false}
 use Prim.Native.Nat.{ℕ, zero, suc, _+_, _*_, _-_, _/_, _%_}
 use native.Mathlib.Omega.{arith}
-use native.Mathlib.Nat.{div-add-mod', mul-comm}
 use borrow.Author.Tests.{leb-true, eqb-true}
 use lib.Dec.{leb, ltb, eqb}
 use lib.Signed.{nonNeg}
@@ -22,6 +21,7 @@ use Rattle.text.specs.ReadingTrail.{trail, trail-bind, trail-ask, trail-rows, c
 use Rattle.zen.specs.Batch.{u32, u64, Batch, batch, noNames, someNames, body, head, strings, stringsOn}
 use Rattle.zen.specs.Script.{Start, Objects, entry, fresh, entriesOn, entries, opening, script}
 use Rattle.zen.specs.Zen.{Tables, Imports, Read, offset, summary, bulk, export, named, asciis, tables, imports, content, header, ordered}
+use Rattle.zen.specs.TableLaws.{in-parts}
 use Rattle.zen.specs.Listed.{joined, nameMarks, batchMarks, entryMarks, summaryMarks, exportMarks, scriptMarks, tableMarks, headerMarks}
 use Rattle.zen.specs.declared.names.Head.{Head}
 use Rattle.zen.specs.declared.script.Entry.{Entry}
@@ -191,10 +191,6 @@ bulk-trail stop s at q =
     let y : stop - (at + 8) ≡ z = omega arith in
     ap (λ ms. replicate 8 whole ++ ms) (trail-ask 18 _ s (at + 8) t ∙ rw (v, y, append-nil (replicate z none)))
 
--- so many of a size that nothing is left
-whole-rows : (d k : ℕ) → d % suc k ≡ 0 → suc k * (d / suc k) ≡ d
-whole-rows d k e = omega (arith, div-add-mod' d (suc k), mul-comm (d / suc k) (suc k))
-
 tables-trail : (m : Summary) (n : ℕ) (s : List ℕ) (at : ℕ) {t : Tables} {e : ℕ} → walk (tables m n) s at ≡ got t e
     → trail (tables m n) s at ≡ replicate (m .imports - m .hashes) whole ++ (replicate (m .exports - m .imports) none ++ (copies ((m .bundles - m .exports) / 72) exportMarks ++ replicate (m .imported - m .bundles) none))
 unfolding tables rows
@@ -209,7 +205,7 @@ tables-trail m n s at q =
     ask-by (eqb ((m .bundles - m .exports) % 72) 0) 21 _ s o r λ c r.
     chain-by (walk (rowsOn [] xn export) s o) _ (sym (walk-bind (rowsOn [] xn export) _ s o) ∙ r) λ es j g r.
     ask-by (named n es) 10 _ s j r λ d r.
-    let h = trail-rows u64 s (replicate 8 whole) (λ at a m q. refl) hn [] at f ∙ (copies-replicate hn 8 whole ∙ ap (λ n. replicate n whole) (whole-rows (m .imports - m .hashes) 7 (eqb-true _ 0 a))) in
+    let h = trail-rows u64 s (replicate 8 whole) (λ at a m q. refl) hn [] at f ∙ (copies-replicate hn 8 whole ∙ ap (λ n. replicate n whole) (in-parts 7 (m .imports - m .hashes) a)) in
     let x = trail-rows export s exportMarks (λ at a m q. export-trail s at) xn [] o g in
     trail-ask 20 _ s at a ∙ (trail-bind (rowsOn [] hn u64) _ s at f
     ∙ rw (h, trail-ask 20 _ s p b, trail-ask 21 _ s o c, trail-bind (rowsOn [] xn export) _ s o g, x, trail-ask 10 _ s j d, append-nil (replicate (m .imported - m .bundles) none)))

@@ -1,7 +1,7 @@
 -- What whoever reads an accepted package, or a rejected one, needs to know of it. Assumes nothing.
-use mathlib.Core.Path.{_≡_}
-use mathlib.Core.List.{List, [], _∷_}
-use mathlib.Core.Bool.{Bool, true, false, _&&_}
+use mathlib.Core.Path.{_≡_, ap}
+use mathlib.Core.List.{List, [], _∷_, _++_}
+use mathlib.Core.Bool.{true, and-eq-true-iff}
 use Prim.Native.Nat.{ℕ, zero, suc, _<_}
 use native.Mathlib.Omega.{arith}
 use borrow.Author.Tests.{ltb-true}
@@ -11,10 +11,11 @@ use Rattle.text.specs.Reading.{refused, gives, runBlock}
 use Rattle.text.specs.ReadingRows.{cells-length}
 use Rattle.text.specs.NumberLaws.{Bytes}
 use Rattle.text.specs.Affix.{allAscii}
+use Rattle.text.specs.Name.{suffix, rendered}
 use Rattle.zen.specs.Zen.{Read, packageBlock, named, asciis, noExport}
-use Rattle.zen.specs.Answers.{answer, namesOf, exportsOf, importedOf, numbersOf}
-use Rattle.zen.specs.Laws.{accepted-got, rejected-got}
-use Rattle.zen.specs.Places.{placeAt}
+use Rattle.zen.specs.Answers.{answer, namesOf, exportsOf, importedOf, numbersOf, importedNameOf, packageNameOf}
+use Rattle.zen.specs.AnswersLaws.{accepted-got, rejected-got}
+use Rattle.zen.specs.Places.{placeAt, partAt}
 use Rattle.zen.specs.PlacesLaws.{texts-length}
 use Rattle.zen.specs.Holds.{Holds, holds-take}
 use Rattle.zen.specs.Accepted.{parts}
@@ -31,19 +32,15 @@ rejected-read b q e = let r = rejected-got (runBlock packageBlock b) e in (r, re
 
 -- ---- elements that passed a test
 
-and-true : (a b : Bool) → (a && b) ≡ true → (a ≡ true) × (b ≡ true)
-and-true true b q = (cc, q)
-and-true false b q = absurd (let z : _≡_ {A = ℕ} 0 1 = cc in omega arith)
-
 named-at : (n : ℕ) (es : List Export) → named n es ≡ true → (i : ℕ) → i < length es → getD es i noExport .index < n
 named-at n [] q i l = absurd (omega arith)
-named-at n (e ∷ es) q zero l = ltb-true (e .index) n (and-true (ltb (e .index) n) (named n es) q .0)
-named-at n (e ∷ es) q (suc i) l = named-at n es (and-true (ltb (e .index) n) (named n es) q .1) i (omega arith)
+named-at n (e ∷ es) q zero l = ltb-true (e .index) n (and-eq-true-iff (ltb (e .index) n) (named n es) .0 q .0)
+named-at n (e ∷ es) q (suc i) l = named-at n es (and-eq-true-iff (ltb (e .index) n) (named n es) .0 q .1) i (omega arith)
 
 asciis-at : (ts : List (List ℕ)) → asciis ts ≡ true → (i : ℕ) → i < length ts → allAscii (getD ts i []) ≡ true
 asciis-at [] q i l = absurd (omega arith)
-asciis-at (t ∷ ts) q zero l = and-true (allAscii t) (asciis ts) q .0
-asciis-at (t ∷ ts) q (suc i) l = asciis-at ts (and-true (allAscii t) (asciis ts) q .1) i (omega arith)
+asciis-at (t ∷ ts) q zero l = and-eq-true-iff (allAscii t) (asciis ts) .0 q .0
+asciis-at (t ∷ ts) q (suc i) l = asciis-at ts (and-eq-true-iff (allAscii t) (asciis ts) .0 q .1) i (omega arith)
 
 -- ---- an accepted block
 
@@ -77,3 +74,24 @@ module _ (b : List ℕ) (l : Layout) (acc : answer (runBlock packageBlock b) ≡
     -- the place that `imported_place` gives holds imported name i
     pub imported-text : i < l .imported .count → p ≡ placeAt (take (l .size) b) (l .imported) i → Holds b p (getD (importedOf (runBlock packageBlock b)) i [])
     imported-text h e = let k = parts b l acc in rw (e, k .imported) (holds-take b (l .size) (l .imported) (k .size) y (k .imported-held y) i h)
+
+  -- the names that are rendered, from the texts and the numbers
+  pub imported-name : (i : ℕ) → importedNameOf (runBlock packageBlock b) i ≡ getD (importedOf (runBlock packageBlock b)) i [] ++ suffix (getD (numbersOf (runBlock packageBlock b)) i 0)
+  unfolding importedNameOf importedOf numbersOf
+  imported-name i = let (r, y, z) = accepted-read in rw y
+
+  pub package-name : packageNameOf (runBlock packageBlock b) ≡ getD (namesOf (runBlock packageBlock b)) (l .summary .index) [] ++ suffix (l .summary .number)
+  unfolding packageNameOf namesOf
+  package-name = let (r, y, z) = accepted-read in rw y (ap (λ (k : Layout). getD (r .names) (k .summary .index) [] ++ suffix (k .summary .number)) z)
+
+  -- and from their places: those that `imported_place` and `package_name_place` give
+  module _ (y : Bytes b) (p : Place) where
+    pub imported-rendered : (i : ℕ) → i < l .imported .count → p ≡ placeAt (take (l .size) b) (l .imported) i
+        → rendered (p .wide) (partAt b p) (getD (numbersOf (runBlock packageBlock b)) i 0) ≡ importedNameOf (runBlock packageBlock b) i
+    imported-rendered i h e = rw (imported-name i, imported-text y i p h e .text)
+
+    pub package-text : p ≡ placeAt (take (l .size) b) (l .names) (l .summary .index) → Holds b p (getD (namesOf (runBlock packageBlock b)) (l .summary .index) [])
+    package-text e = name-text y (l .summary .index) p (parts b l acc .index) e
+
+    pub package-rendered : p ≡ placeAt (take (l .size) b) (l .names) (l .summary .index) → rendered (p .wide) (partAt b p) (l .summary .number) ≡ packageNameOf (runBlock packageBlock b)
+    package-rendered e = rw (package-name, package-text e .text)

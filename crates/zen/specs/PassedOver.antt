@@ -2,25 +2,24 @@
 use mathlib.Core.Path.{_≡_, refl, sym, _∙_, ap}
 use mathlib.Core.Logic.{_↔_}
 use mathlib.Core.List.{List, [], _++_, append-nil}
-use Prim.Native.Nat.{ℕ, _+_, _-_, _≤_}
+use Prim.Native.Nat.{ℕ, _-_, _≤_}
 use native.Mathlib.Omega.{arith}
 use native.Mathlib.Decide.{decLe}
-use borrow.Author.Tests.{leb-true}
-use lib.Dec.{leb, eqb}
 use lib.ListN.{length, take, drop, replicate, length-take, drop-of-length-le}
 use lib.Seq.{length-take-le}
-use Rattle.text.specs.Number.{le, leAt}
+use Rattle.text.specs.Number.{leAt}
 use Rattle.text.specs.NumberLaws.{Bytes}
 use Rattle.text.specs.Reading.{refused, gives, Got, bad, got, run, walk, from, runBlock}
-use Rattle.text.specs.ReadingLaws.{pick-by, ask-by}
 use Rattle.text.specs.ReadingMarks.{whole, none, Agree, marks, marks-length, agree-same, marksFrom, marksBlock, block-same}
 use Rattle.text.specs.ReadingRewrite.{Rewritten, rewriting, rewrite, run-rewrite, block-length, block-rewrite}
 use Rattle.text.specs.ReadingTrail.{trail, trail-marks, run-got}
+use Rattle.text.specs.ReadingGives.{refused-gives}
 use Rattle.zen.specs.Field.{low30}
 use Rattle.zen.specs.Batch.{Batch, batch}
 use Rattle.zen.specs.Script.{Objects, entry, script}
 use Rattle.zen.specs.ScriptAnswers.{entryAt}
 use Rattle.zen.specs.Zen.{Read, summary, export, exportAt, lead, header, packageBlock}
+use Rattle.zen.specs.BlockLaws.{lead-got}
 use Rattle.zen.specs.Listed.{batchMarks, entryMarks, summaryMarks, exportMarks, scriptMarks, headerMarks, packageMarks}
 use Rattle.zen.specs.ListedLaws.{batch-trail, entry-trail, summary-trail, export-trail, script-trail, header-trail}
 use Rattle.zen.specs.declared.summary.Summary.{Summary}
@@ -77,26 +76,10 @@ script-marks b q =
     let t = script-trail b 0 (w .1) in
     trail-marks script b 0 (w .1) ∙ rw (t .0, t .1) (append-nil _)
 
-lead-got : (b : List ℕ) {size at : ℕ} → walk lead b 0 ≡ got size at → (at ≡ 8) × (size ≤ length b)
-unfolding lead
-lead-got b {size} {at} q =
-    pick-by (leb 4 (length b)) _ 3 q λ l r.
-    ask-by (eqb (le (take 4 b)) 0) 14 _ b 4 r λ t r.
-    pick-by (leb 8 (length b)) _ 3 r λ l r.
-    ask-by (leb (le (take 4 (drop 4 b))) (8 + (length b - 8))) 15 _ b 8 r λ u r.
-    let z : le (take 4 (drop 4 b)) ≡ size = cc in
-    let y : 8 ≡ at = cc in
-    let v = leb-true 8 (length b) l in
-    let w = leb-true (le (take 4 (drop 4 b))) (8 + (length b - 8)) u in
-    (sym y, omega arith)
-
 -- a header under 8 bytes ends before the package's name
 short : (size : ℕ) → run (header size) 8 [] ≡ refused 3
 unfolding header summary
 short size = refl
-
-no-value : {A B : Type 0} {e : ℕ} {a : A} → refused e ≡ gives a → B
-no-value q = absurd (let z : _≡_ {A = ℕ} 0 1 = cc in omega arith)
 
 header-marks : (b : List ℕ) (size : ℕ) {r : Read} → 8 ≤ size → size ≤ length b → run (header size) 8 (drop 8 (take size b)) ≡ gives r
     → replicate 8 whole ++ (marks (header size) 8 (drop 8 (take size b)) ++ replicate (length b - 8 - (size - 8)) none) ≡ packageMarks (r .layout) (length b)
@@ -116,12 +99,12 @@ unfolding runBlock marksBlock
 package-marks b {r} q = go (walk lead b 0) refl q
   where
     go : (w : Got ℕ) → walk lead b 0 ≡ w → from header b w ≡ gives r → marksFrom packageBlock b w ≡ packageMarks (r .layout) (length b)
-    go (bad e) f q = no-value q
-    go (got size at) f q = rw (lead-got b f .0) (sized (decLe 8 size) (rw (lead-got b f .0) at q))
+    go (bad e) f q = refused-gives q
+    go (got size at) f q = rw (lead-got b size at f .0) (sized (decLe 8 size) (rw (lead-got b size at f .0) at q))
       where
         sized : Dec (8 ≤ size) → run (header size) 8 (drop 8 (take size b)) ≡ gives r → marksFrom packageBlock b (got size 8) ≡ packageMarks (r .layout) (length b)
-        sized (yes h) q = header-marks b size h (lead-got b f .1) q
-        sized (no h) q = no-value (sym (short size) ∙ rw (drop-of-length-le (take size b) {i = 8} (simp length-take (omega arith))) at q)
+        sized (yes h) q = header-marks b size h (lead-got b size at f .1) q
+        sized (no h) q = refused-gives (sym (short size) ∙ rw (drop-of-length-le (take size b) {i = 8} (simp length-take (omega arith))) at q)
 
 -- ---- what is listed may take any values: an accepted block stays accepted, with the same value
 

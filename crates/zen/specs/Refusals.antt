@@ -17,8 +17,7 @@ use Rattle.text.specs.Reading.{Out, refused, Got, bad, got, Reading, give, refu
 use Rattle.text.specs.ReadingLaws.{out}
 use Rattle.zen.specs.Batch.{head, stringsOn, strings, noNames, body, someNames, batch}
 use Rattle.zen.specs.Zen.{Read, offset, summary, ordered, bulk, export, named, tables, asciis, imports, content, header, lead, packageBlock}
-use Rattle.zen.specs.HeaderLaws.{block-is, block-low, block-bad}
-use Rattle.zen.specs.Accepted.{lead-got}
+use Rattle.zen.specs.BlockLaws.{block-is, block-low, block-bad, lead-got}
 use Rattle.zen.specs.declared.names.Head.{Head}
 use Rattle.zen.specs.declared.summary.Summary.{Summary}
 
@@ -162,7 +161,7 @@ refusal-byte b r q = go (walk lead b 0) refl
     go (got size at) p = sized (decLe 8 size)
       where
         f : (at ≡ 8) × (size ≤ length b)
-        f = lead-got b size at p
+        f = let g = lead-got b size at p in (g .0, g .1)
 
         led : walk lead b 0 ≡ got size 8
         led = p ∙ ap (got size) (f .0)

@@ -19,7 +19,7 @@ use Rattle.zen.specs.ScriptFaults.{entryOf, no-fault, fresh-all, clear-o
 use Rattle.zen.specs.ScriptLaws.{opening-got, objectsAt, rest-is, run-script}
 use Rattle.zen.specs.Places.{textsAt, placeAt, partAt, Held}
 use Rattle.zen.specs.PlacesLaws.{texts-length, place-text, place-scalars}
-use Rattle.zen.specs.HeaderLaws.{FoundAt, found-held}
+use Rattle.zen.specs.FoundBatch.{FoundAt, found-held}
 use Rattle.zen.specs.declared.script.Layout.{Layout}
 use Rattle.zen.specs.declared.script.Script.the-variants.{Accepted, Rejected}
 

@@ -5,7 +5,7 @@ use mathlib.Core.Bool.{Bool, true, false, not, _&&_}
 use mathlib.Core.List.{List, [], _∷_, List·Memᴰ, List·Memᴰ·head, List·Memᴰ·tail, List·Memᴰ·not-nil}
 use Prim.Native.Nat.{ℕ, zero, suc, _+_, _-_, _*_, _<_}
 use native.Mathlib.Omega.{arith}
-use borrow.Author.Tests.{eqb-true, ltb-true, ne-eqb, eqb-false, not-true}
+use borrow.Author.Tests.{eqb-true, ltb-true, eqb-false}
 use lib.Dec.{leb, ltb, eqb}
 use lib.ListN.{length}
 use lib.Signed.{nonNeg}
@@ -15,10 +15,10 @@ use Rattle.text.specs.Index.{kind}
 use Rattle.text.specs.Number.{le}
 use Rattle.text.specs.Utf16.{isWell}
 use Rattle.text.specs.Name.{decoded, base}
-use Rattle.text.specs.Reading.{Out, gives, run, Reading, give, _>>=_, _>>_, taken, bytesLeft, place, ask, onto, rows}
+use Rattle.text.specs.Reading.{gives, run, onto, rows}
 use Rattle.text.specs.ReadingGives.{Gives, gives-run, gives-ask, gives-bind, gives-any, gives-weaken, length-onto, rows-length}
-use Rattle.zen.specs.Batch.{u32, u64, Batch, batch, noNames, someNames, body, strings, stringsOn, head}
-use Rattle.zen.specs.Script.{Objects, Start, entry, fresh, entries, entriesOn, opening, script}
+use Rattle.zen.specs.Batch.{Batch, batch, noNames, someNames, body, strings, stringsOn, head}
+use Rattle.zen.specs.Script.{Objects, entry, fresh, entries, entriesOn, opening, script}
 use Rattle.zen.specs.declared.names.Head.{Head}
 use Rattle.zen.specs.declared.script.Entry.{Entry}
 

@@ -15,14 +15,14 @@ use Rattle.text.specs.Index.{kind}
 use Rattle.text.specs.Number.{leAt}
 use Rattle.text.specs.Signed.{twos}
 use Rattle.text.specs.Reading.{Got, bad, got, Reading, give, run, walk, ask, onto, _>>_}
-use Rattle.text.specs.ReadingLaws.{chain, walk-bind, chain-by, pick-by, ask-by, ask-is, pick-cong, out, run-walk}
+use Rattle.text.specs.ReadingLaws.{chain, walk-bind, chain-by, pick-by, ask-by, ask-is, pick-cong, out, run-walk, then-walk, then-bad}
 use Rattle.text.specs.ReadingRows.{cells}
 use Rattle.zen.specs.Field.{low30}
 use Rattle.zen.specs.Batch.{batch}
 use Rattle.zen.specs.Script.{entry, fresh, entriesOn, entries, Start, opening, Objects, script}
 use Rattle.zen.specs.Answers.{batched}
-use Rattle.zen.specs.Tables.{then-walk}
-use Rattle.zen.specs.HeaderLaws.{then-bad, batched-refused, FoundAt, found-at}
+use Rattle.zen.specs.AnswersLaws.{batched-refused}
+use Rattle.zen.specs.FoundBatch.{FoundAt, found-at}
 use Rattle.zen.specs.ScriptAnswers.{openedBy, opened, entryAt, faultOf, faultOn, faultAt, answerBy, scriptAnswer}
 use Rattle.zen.specs.declared.names.Names.{Names}
 use Rattle.zen.specs.declared.names.NameBatch.the-variants.{Refused}

@@ -1,10 +1,10 @@
 -- A package block (document 01, "zen.rs"; questions 3 to 7, 10, 14 to 23).
 use mathlib.Core.List.{List, [], _∷_, _++_}
-use mathlib.Core.Bool.{Bool, true, false, not, _&&_}
-use Prim.Native.Nat.{ℕ, zero, suc, _+_, _*_, _-_, _/_, _%_, _^_}
-use lib.ListN.{length, take, drop, getD}
+use mathlib.Core.Bool.{Bool, true, _&&_}
+use Prim.Native.Nat.{ℕ, _+_, _-_, _/_, _%_}
+use lib.ListN.{getD}
 use lib.Dec.{leb, ltb, eqb}
-use Rattle.text.specs.Reading.{Reading, Out, refused, gives, Got, bad, got, give, _>>=_, _>>_, taken, over-bytes, bytesLeft, place, Block, u30, ask, rows}
+use Rattle.text.specs.Reading.{Reading, give, _>>=_, _>>_, over-bytes, bytesLeft, place, Block, u30, ask, rows}
 use lib.Signed.{nonNeg}
 use Rattle.text.specs.Signed.{twos}
 use Rattle.text.specs.Affix.{allAscii}
@@ -12,7 +12,6 @@ use Rattle.text.specs.Name.{suffix}
 use Rattle.text.specs.Number.{leAt}
 use Rattle.zen.specs.Field.{low30}
 use Rattle.zen.specs.Batch.{u32, u64, Batch, batch}
-use Rattle.zen.specs.declared.names.Names.{Names}
 use Rattle.zen.specs.declared.summary.Summary.{Summary}
 use Rattle.zen.specs.declared.tables.Export.{Export}
 use Rattle.zen.specs.declared.zen.Layout.{Layout}

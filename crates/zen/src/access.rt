@@ -3,8 +3,9 @@ ghost use mathlib.Core.Path.{_≡_};
 ghost use Prim.Native.Nat.{_<_};
 ghost use lib.ListN.{length, getD, take};
 ghost use Rattle.text.specs.Reading.{runBlock};
+ghost use Rattle.text.specs.Id.{idOf};
 ghost use Rattle.zen.specs.Zen.{noExport, packageBlock};
-ghost use Rattle.zen.specs.Answers.{answer, exportsOf, hashesOf, numbersOf, exportCount, hashCount};
+ghost use Rattle.zen.specs.Answers.{answer, exportsOf, hashesOf, numbersOf, importedNameOf, exportCount, hashCount};
 ghost use Rattle.zen.specs.Places.{placeAt, Marked};
 ghost use Rattle.zen.specs.declared.zen.Package.the-variants.{Accepted};
 use super::places::Place;
@@ -95,4 +96,24 @@ pub fn imported_place(b: &[u8], l: Layout, marks: &[u32; 256], i: usize) -> Plac
 {
     let size = l.size;
     place_at(&b[0..size], l.imported, marks, i)
+}
+
+// Where the base of an accepted package's name is.
+pub fn package_name_place(b: &[u8], l: Layout, marks: &[u32; 256]) -> Place
+    requires { ⌜ (answer (runBlock packageBlock (now b)) ≡ Accepted l) × Marked (take (l .size) (now b)) (l .names) (now marks) ⌝ }
+    ensures { λ r. ⌜ r ≡ placeAt (take (l .size) (now (b .entry))) (l .names) (l .summary .index) ⌝ }
+{
+    name_place(b, l, marks, l.summary.index)
+}
+
+// The id of imported name i of an accepted package.
+pub fn imported_id(b: &[u8], l: Layout, marks: &[u32; 256], i: usize) -> u64
+    requires { ⌜ (answer (runBlock packageBlock (now b)) ≡ Accepted l) × (i < l .imported .count) × Marked (take (l .size) (now b)) (l .imported) (now marks) ⌝ }
+    ensures { λ r. ⌜ r ≡ idOf (importedNameOf (runBlock packageBlock (now (b .entry))) i) ⌝ }
+{
+    let p = imported_place(b, l, marks, i);
+    let number = imported_number(b, l, i);
+    let start = p.start;
+    let end = start + p.size;
+    text::id::name_id(&b[start..end], p.wide, number)
 }

@@ -5,6 +5,8 @@ ghost use Rattle.text.specs.Reading.{runBlock, walk};
 ghost use Rattle.text.specs.ReadingLaws.{out};
 ghost use Rattle.zen.specs.Zen.{content, header, packageBlock};
 ghost use Rattle.zen.specs.Answers.{answer, Order};
+use super::cursor::Word;
+use super::cursor::first_u32;
 use super::imports::check_imports;
 use super::names::Checked;
 use super::names::NameBatch;
@@ -74,22 +76,24 @@ fn check_header(s: &[u8]) -> Package
 pub fn check_package(b: &[u8]) -> Package
     ensures { λ r. ⌜ r ≡ answer (runBlock packageBlock (now (b .entry))) ⌝ }
 {
-    let n = b.len();
-    if n < 4 {
-        return Package::Rejected(3);
+    match first_u32(b) {
+        Word::Short => Package::Rejected(3),
+        Word::Got(flag, _) => {
+            if flag != 0 {
+                return Package::Rejected(14);
+            }
+            let n = b.len();
+            if n < 8 {
+                return Package::Rejected(3);
+            }
+            let size = reader::u32_le(b, 4);
+            if n < size {
+                return Package::Rejected(15);
+            }
+            if size < 8 {
+                return Package::Rejected(3);
+            }
+            check_header(&b[0..size])
+        }
     }
-    if reader::u32_le(b, 0) != 0 {
-        return Package::Rejected(14);
-    }
-    if n < 8 {
-        return Package::Rejected(3);
-    }
-    let size = reader::u32_le(b, 4);
-    if n < size {
-        return Package::Rejected(15);
-    }
-    if size < 8 {
-        return Package::Rejected(3);
-    }
-    check_header(&b[0..size])
 }

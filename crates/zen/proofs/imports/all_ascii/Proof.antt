@@ -10,7 +10,7 @@ use Rattle.text.specs.Utf16.{isWell}
 use Rattle.text.specs.Name.{decoded}
 use Rattle.zen.specs.Batch.{headAt}
 use Rattle.zen.specs.Zen.{asciis}
-use Rattle.zen.specs.BatchLaws.{asciis-none, asciis-fail, asciis-pass}
+use Rattle.zen.specs.ImportLaws.{asciis-none, asciis-fail, asciis-pass}
 use Rattle.zen.specs.Places.{nameStart, textsAt, placeAt, Held}
 use Rattle.zen.specs.PlacesLaws.{start-none, start-add, place-inside}
 use Rattle.zen.specs.declared.names.Names.{Names}

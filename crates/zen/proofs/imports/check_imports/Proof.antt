@@ -11,7 +11,8 @@ use Rattle.text.specs.Reading.{walk}
 use Rattle.zen.specs.Zen.{imports, asciis}
 use Rattle.zen.specs.Answers.{imported}
 use Rattle.zen.specs.Places.{textsAt}
-use Rattle.zen.specs.HeaderLaws.{FoundAt, found-at, found-held, imports-refused, imports-short, imports-is}
+use Rattle.zen.specs.FoundBatch.{FoundAt, found-at, found-held}
+use Rattle.zen.specs.ImportLaws.{imports-refused, imports-short, imports-is}
 use Rattle.zen.specs.declared.names.Names.{Names}
 use Rattle.zen.specs.declared.names.NameBatch.the-variants.{Found, Refused}
 use Rattle.zen.proofs.imports.check_imports.Statement.{statement}

@@ -8,11 +8,11 @@ use lib.Dec.{leb}
 use lib.ListN.{length}
 use Rattle.text.specs.Number.{leAt}
 use Rattle.text.specs.Reading.{Got, bad, got, walk}
-use Rattle.text.specs.ReadingLaws.{chain}
+use Rattle.text.specs.ReadingLaws.{chain, pick-short}
 use Rattle.text.specs.ReadingRows.{cells}
 use Rattle.zen.specs.Batch.{headAt, strings, Batch, batch, someNames, body}
 use Rattle.zen.specs.Answers.{checked, batched}
-use Rattle.zen.specs.Laws.{checked-passed, checked-failed, pick-short}
+use Rattle.zen.specs.AnswersLaws.{checked-passed, checked-failed}
 use Rattle.zen.specs.BatchLaws.{batch-is, some-is, body-hashes, body-heads, body-room, body-is, place-of}
 use Rattle.zen.specs.declared.names.Checked.{Checked}
 use Rattle.zen.specs.declared.names.Checked.the-variants.{Passed, Failed}

@@ -8,7 +8,7 @@ use Rattle.text.specs.Reading.{walk}
 use Rattle.text.specs.SignedLaws.{size-is, size-none}
 use Rattle.zen.specs.Batch.{batch}
 use Rattle.zen.specs.Answers.{batched}
-use Rattle.zen.specs.HeaderLaws.{FoundAt, found-at}
+use Rattle.zen.specs.FoundBatch.{FoundAt, found-at}
 use Rattle.zen.specs.ScriptLaws.{opened-refused, opened-short, opened-negative, opened-few, opened-there}
 use Rattle.zen.specs.declared.names.Names.{Names}
 use Rattle.zen.specs.declared.names.NameBatch.{NameBatch}

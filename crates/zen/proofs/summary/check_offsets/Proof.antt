@@ -13,7 +13,8 @@ use Rattle.text.specs.declared.signed.Size.{Size}
 use Rattle.text.specs.declared.signed.Size.the-variants.{Of, Negative}
 use Rattle.zen.specs.Zen.{offset}
 use Rattle.zen.specs.Answers.{checked}
-use Rattle.zen.specs.Laws.{rows-none, rows-pass, rows-fail, offset-short, offset-negative, offset-there}
+use Rattle.zen.specs.AnswersLaws.{rows-none, rows-pass, rows-fail}
+use Rattle.zen.specs.SummaryLaws.{offset-short, offset-negative, offset-there}
 use Rattle.zen.specs.declared.names.Checked.the-variants.{Passed, Failed}
 use Rattle.zen.proofs.summary.check_offsets.Statement.{statement}
 use Rattle.zen.proofs.summary.check_offsets.Tie as tie

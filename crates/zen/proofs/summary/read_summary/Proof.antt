@@ -7,7 +7,8 @@ use borrow.Author.Needs.{needs}
 use Rattle.text.specs.Reading.{walk, rows}
 use Rattle.zen.specs.Zen.{offset, summary, summaryAt}
 use Rattle.zen.specs.Answers.{checked, summed}
-use Rattle.zen.specs.Laws.{checked-passed, checked-failed, summary-short, summary-failed, summary-passed}
+use Rattle.zen.specs.AnswersLaws.{checked-passed, checked-failed}
+use Rattle.zen.specs.SummaryLaws.{summary-short, summary-failed, summary-passed}
 use Rattle.zen.specs.declared.names.Checked.{Checked}
 use Rattle.zen.specs.declared.names.Checked.the-variants.{Passed, Failed}
 use Rattle.zen.specs.declared.summary.Summary.{Summary}

@@ -14,7 +14,7 @@ use Rattle.text.specs.declared.signed.Size.{Size}
 use Rattle.text.specs.declared.signed.Size.the-variants.{Of, Negative}
 use Rattle.zen.specs.Zen.{bulk}
 use Rattle.zen.specs.Answers.{checked}
-use Rattle.zen.specs.Laws.{bulk-is}
+use Rattle.zen.specs.TableLaws.{bulk-is}
 use Rattle.zen.specs.declared.names.Checked.the-variants.{Passed, Failed}
 use Rattle.zen.proofs.tables.check_bulk.Statement.{statement}
 use Rattle.zen.proofs.tables.check_bulk.Tie as tie

@@ -5,7 +5,7 @@ use native.Mathlib.Omega.{arith}
 use lib.ListN.{length}
 use Rattle.text.specs.ReadingRows.{cells}
 use Rattle.zen.specs.Zen.{exportAt, named}
-use Rattle.zen.specs.Laws.{named-none, named-pass, named-fail}
+use Rattle.zen.specs.TableLaws.{named-none, named-pass, named-fail}
 use Rattle.zen.proofs.tables.check_exports.Statement.{statement}
 use Rattle.zen.proofs.tables.check_exports.Tie as tie
 

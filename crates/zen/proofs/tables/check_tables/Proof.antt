@@ -8,7 +8,7 @@ use borrow.Author.Needs.{needs}
 use borrow.Author.Tests.{eq-eqb, ne-eqb}
 use Rattle.text.specs.Reading.{walk}
 use Rattle.zen.specs.Zen.{tables, named}
-use Rattle.zen.specs.Tables.{tables-is, exportsIn}
+use Rattle.zen.specs.TableLaws.{tables-is, exportsIn}
 use Rattle.zen.specs.Answers.{checked, Order}
 use Rattle.zen.specs.declared.names.Checked.the-variants.{Passed, Failed}
 use Rattle.zen.specs.declared.summary.Summary.{Summary}

@@ -6,13 +6,13 @@ use native.Mathlib.Omega.{arith}
 use lib.ListN.{length}
 use borrow.Author.Needs.{needs}
 use Rattle.text.specs.Reading.{walk, got}
-use Rattle.text.specs.ReadingLaws.{out, walk-within}
+use Rattle.text.specs.ReadingLaws.{out, walk-within, then-walk, then-bad}
 use Rattle.zen.specs.Batch.{batch}
 use Rattle.zen.specs.Zen.{bulk, tables, Tables, imports, content}
 use Rattle.zen.specs.Answers.{checked, batched, imported, answer, Order}
-use Rattle.zen.specs.Laws.{checked-passed, checked-failed, bulk-got}
-use Rattle.zen.specs.Tables.{then-walk}
-use Rattle.zen.specs.HeaderLaws.{FoundAt, found-at, then-bad, batched-refused, imported-refused, imported-found}
+use Rattle.zen.specs.AnswersLaws.{checked-passed, checked-failed, batched-refused, imported-refused, imported-found}
+use Rattle.zen.specs.TableLaws.{bulk-got}
+use Rattle.zen.specs.FoundBatch.{FoundAt, found-at}
 use Rattle.zen.specs.declared.names.Checked.{Checked}
 use Rattle.zen.specs.declared.names.Checked.the-variants.{Passed, Failed}
 use Rattle.zen.specs.declared.names.Names.{Names}

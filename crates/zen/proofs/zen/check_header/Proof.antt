@@ -6,11 +6,11 @@ use mathlib.Core.Bool.{Bool, true, false}
 use lib.ListN.{length}
 use borrow.Author.Needs.{needs}
 use Rattle.text.specs.Reading.{walk, got}
-use Rattle.text.specs.ReadingLaws.{out, ask-yes, ask-no}
+use Rattle.text.specs.ReadingLaws.{out, ask-yes, ask-no, then-walk, then-bad}
 use Rattle.zen.specs.Zen.{summary, ordered, header, content}
 use Rattle.zen.specs.Answers.{summed, answer, Order}
-use Rattle.zen.specs.Tables.{then-walk}
-use Rattle.zen.specs.HeaderLaws.{then-bad, order-of, summary-got, summed-told, summed-missed}
+use Rattle.zen.specs.SummaryLaws.{order-of, summary-got}
+use Rattle.zen.specs.AnswersLaws.{summed-told, summed-missed}
 use Rattle.zen.specs.declared.summary.Summary.{Summary}
 use Rattle.zen.specs.declared.summary.Summed.{Summed}
 use Rattle.zen.specs.declared.summary.Summed.the-variants.{Told, Missed}
