@@ -4,7 +4,7 @@ ghost use Prim.Native.Nat.{_+_, _*_, _-_, _≤_, _<_};
 ghost use lib.ListN.{length};
 ghost use Rattle.text.specs.Reading.{walk};
 ghost use Rattle.text.specs.ReadingRows.{cells};
-ghost use Rattle.zen.specs.Batch.{headAt, strings, batch};
+ghost use Rattle.zen.specs.Batch.{headAt, strings, body, someNames, batch};
 ghost use Rattle.zen.specs.Answers.{checked, batched};
 use super::reader;
 
@@ -78,38 +78,13 @@ fn check_names(s: &[u8], count: usize, headers: usize, from: usize, end: usize) 
     Checked::Failed(7)
 }
 
-// The batch at a position.
-pub fn read_batch(s: &[u8], at: usize) -> NameBatch
-    requires { ⌜ at ≤ length (now s) ⌝ }
-    ensures { λ r. ⌜ r ≡ batched (walk batch (now (s .entry)) at) ⌝ }
+// Past the version: the hashes, the headers, the strings.
+fn read_body(s: &[u8], at: usize, count: usize, room: usize) -> NameBatch
+    requires { ⌜ (at ≤ length (now s)) × (count < 4294967296) × (room < 4294967296) ⌝ }
+    ensures { λ r. ⌜ r ≡ batched (walk (body count room) (now (s .entry)) at) ⌝ }
 {
     let end = s.len();
-    let a1 = at + 4;
-    if end < a1 {
-        return NameBatch::Refused(3);
-    }
-    let count = reader::u32_le(s, at);
-    if count == 0 {
-        return NameBatch::Found(Names {
-            count: 0,
-            headers: a1,
-            strings: a1,
-            end: a1,
-        });
-    }
-    let a2 = a1 + 4;
-    if end < a2 {
-        return NameBatch::Refused(3);
-    }
-    let room = reader::u32_le(s, a1);
-    let a3 = a2 + 8;
-    if end < a3 {
-        return NameBatch::Refused(3);
-    }
-    if reader::u64_le(s, a2) != 0xC1640000 {
-        return NameBatch::Refused(4);
-    }
-    let headers = a3 + 8 * count;
+    let headers = at + 8 * count;
     if end < headers {
         return NameBatch::Refused(3);
     }
@@ -130,4 +105,46 @@ pub fn read_batch(s: &[u8], at: usize) -> NameBatch
             end: after,
         }),
     }
+}
+
+// Past a count that is not 0: the length of the strings, the version, the body.
+fn read_some(s: &[u8], at: usize, count: usize) -> NameBatch
+    requires { ⌜ (at ≤ length (now s)) × (count < 4294967296) ⌝ }
+    ensures { λ r. ⌜ r ≡ batched (walk (someNames count) (now (s .entry)) at) ⌝ }
+{
+    let end = s.len();
+    let version = at + 4;
+    if end < version {
+        return NameBatch::Refused(3);
+    }
+    let room = reader::u32_le(s, at);
+    let next = version + 8;
+    if end < next {
+        return NameBatch::Refused(3);
+    }
+    if reader::u64_le(s, version) != 0xC1640000 {
+        return NameBatch::Refused(4);
+    }
+    read_body(s, next, count, room)
+}
+
+// The batch at a position.
+pub fn read_batch(s: &[u8], at: usize) -> NameBatch
+    requires { ⌜ at ≤ length (now s) ⌝ }
+    ensures { λ r. ⌜ r ≡ batched (walk batch (now (s .entry)) at) ⌝ }
+{
+    let next = at + 4;
+    if s.len() < next {
+        return NameBatch::Refused(3);
+    }
+    let count = reader::u32_le(s, at);
+    if count == 0 {
+        return NameBatch::Found(Names {
+            count: 0,
+            headers: next,
+            strings: next,
+            end: next,
+        });
+    }
+    read_some(s, next, count)
 }
