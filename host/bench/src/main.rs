@@ -2,7 +2,8 @@
 use std::process::ExitCode;
 use std::time::Duration;
 
-mod clock;
+use answer::Refusal;
+
 mod reference;
 
 const USAGE: &str = "usage: bench [--seed NUMBER] [--rounds NUMBER] [MEGABYTES ...]
@@ -15,7 +16,7 @@ const MOST_MEGABYTES: usize = 4_000;
 struct Contestant {
     name: &'static str,
     parts: &'static [&'static str],
-    round: fn(&[u8]) -> Result<Vec<Duration>, (u8, u32)>,
+    round: fn(&[u8]) -> Result<Vec<Duration>, Refusal>,
 }
 
 const CONTESTANTS: [Contestant; 1] = [Contestant {

@@ -2,11 +2,11 @@
 use std::hint::black_box;
 use std::time::Duration;
 
+use answer::Refusal;
+use clock::timed;
 use oracle::report::{class_report, parts};
 use oracle::scan::resolve;
-use oracle::stages::{Refusal, headers, scan, script};
-
-use crate::clock::timed;
+use oracle::stages::{headers, scan, script};
 
 pub const PARTS: [&str; 6] = [
     "frame",

@@ -10,6 +10,7 @@ mod frame;
 pub mod generate;
 mod index;
 pub mod list;
+pub mod name;
 mod package;
 pub mod passed;
 mod random;

@@ -1,6 +1,7 @@
 //! The recorded list: corpora with the lengths of the buffers, and what the oracle answered. Big-endian: 4-byte count
 //! of cases; for each a 4-byte length and bytes of the corpus, 8-byte lengths of work and report buffer, the 8-byte
 //! answer, a 4-byte length and bytes of the report (none where refused).
+use answer::Refusal;
 
 #[derive(Debug, Clone, PartialEq, Eq)]
 pub struct Case {
@@ -13,11 +14,10 @@ pub struct Case {
 
 impl Case {
     /// The report, or the refusal in the answer.
-    pub fn outcome(&self) -> Result<&[u8], u8> {
-        if self.answer >> 63 == 0 {
-            Ok(&self.report)
-        } else {
-            Err((self.answer >> 32) as u8)
+    pub fn outcome(&self) -> Result<&[u8], Refusal> {
+        match answer::refusal(self.answer) {
+            None => Ok(&self.report),
+            Some(refusal) => Err(refusal),
         }
     }
 }

@@ -4,7 +4,11 @@
 pub struct Random(pub u64);
 
 impl Random {
-    #[allow(clippy::should_implement_trait)]
+    /// The next number of them all.
+    #[expect(
+        clippy::should_implement_trait,
+        reason = "it never ends, so an Option would say nothing"
+    )]
     pub fn next(&mut self) -> u64 {
         self.0 = self.0.wrapping_add(0x9e37_79b9_7f4a_7c15);
         let mut z = self.0;

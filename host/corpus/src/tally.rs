@@ -1,5 +1,6 @@
 //! How often each refusal, class kind and pair of known flags was answered.
 use crate::rows::{rows, sections};
+use answer::Refusal;
 use std::fmt;
 
 /// The last refusal.
@@ -31,9 +32,9 @@ pub struct Tally {
 
 impl Tally {
     /// Counts a refusal, or a report with its rows.
-    pub fn add(&mut self, answer: Result<&[u8], u8>) {
+    pub fn add(&mut self, answer: Result<&[u8], Refusal>) {
         match answer {
-            Err(refusal) => self.refusals[usize::from(refusal)] += 1,
+            Err((refusal, _)) => self.refusals[usize::from(refusal)] += 1,
             Ok(report) => {
                 self.refusals[0] += 1;
                 sections(report)

@@ -12,7 +12,7 @@ fn joined(mut all: impl Iterator<Item = Census>) -> Census {
 fn all_in_a_large_corpus() {
     for seed in 1..4 {
         let counted = census(&generate(seed, 3 * LARGE));
-        println!("{counted:?}");
+        println!("{counted}");
         assert_eq!(counted.missing(), Vec::<String>::new());
     }
 }
@@ -23,8 +23,32 @@ fn all_in_small_corpora() {
     let mut counted = joined((0..2000).map(|seed| census(&dense(seed))));
     counted.join(&census(&ladder::paths().bytes()));
     counted.join(&census(&ladder::chains().bytes()));
-    println!("{counted:?}");
+    println!("{counted}");
     assert_eq!(counted.missing(), Vec::<String>::new());
+}
+
+/// Joining forgets none of the counts.
+#[test]
+fn joined_counts_are_sums() {
+    let parts = [1, 2].map(|seed| census(&generate(seed, 20_000)));
+    let all = joined(
+        [1, 2]
+            .map(|seed| census(&generate(seed, 20_000)))
+            .into_iter(),
+    );
+    for count in [
+        |c: &Census| c.objects,
+        |c: &Census| c.classes,
+        |c: &Census| c.candidates,
+        |c: &Census| c.work(),
+        |c: &Census| c.features.values().sum(),
+        |c: &Census| c.paths.iter().sum(),
+        |c: &Census| c.chains.iter().sum(),
+    ] {
+        let [one, two] = [0, 1].map(|i| count(&parts[i]));
+        assert!(one > 0 && two > 0);
+        assert_eq!(count(&all), one + two);
+    }
 }
 
 #[test]

@@ -1,10 +1,11 @@
 //! The call: the questions in order, then the report.
 use std::collections::HashMap;
 
+use answer::{Answer, Refusal};
+
 use crate::classes::{Candidate, candidate, is_class};
 use crate::frame::frame;
 use crate::package::{Package, package_block};
-use crate::reader::Refusal;
 use crate::report::{row, section_head};
 use crate::resolve::{Classes, World};
 use crate::script::{Script, script_block};
@@ -26,17 +27,12 @@ pub const BASE: Limits = Limits {
 const MOST: u64 = 4_294_967_299;
 
 /// The report, or the refusal and the block; `work` and `buffer` are the two buffers' lengths.
-pub fn class_report(corpus: &[u8], work: u64, buffer: u64) -> Result<Vec<u8>, Refusal> {
+pub fn class_report(corpus: &[u8], work: u64, buffer: u64) -> Answer {
     class_report_within(BASE, corpus, work, buffer)
 }
 
 /// The call with limits of its own.
-pub fn class_report_within(
-    limits: Limits,
-    corpus: &[u8],
-    work: u64,
-    buffer: u64,
-) -> Result<Vec<u8>, Refusal> {
+pub fn class_report_within(limits: Limits, corpus: &[u8], work: u64, buffer: u64) -> Answer {
     let frame = frame(corpus)?;
     let script = &script_block(frame.script)?;
     let mut packages = Vec::new();
@@ -84,25 +80,23 @@ fn candidates(package: &Package) -> Vec<Candidate<'_>> {
 }
 
 /// The report, unless it is longer than `most` (question 26). As that is asked last, the first byte too many settles it.
-fn report(
-    world: &World,
-    packages: &[Package],
-    candidates: &[Vec<Candidate>],
-    most: u64,
-) -> Result<Vec<u8>, Refusal> {
-    let mut rest = vec![1];
-    rest.extend((packages.len() as u32).to_be_bytes());
+fn report(world: &World, packages: &[Package], candidates: &[Vec<Candidate>], most: u64) -> Answer {
+    // the length of the rest, told at the end; the version; the package count
+    let mut report = vec![0, 0, 0, 0, 1];
+    report.extend((packages.len() as u32).to_be_bytes());
     for (package, candidates) in packages.iter().zip(candidates) {
-        rest.extend(section_head(package, candidates.len()));
+        report.extend(section_head(package, candidates.len()));
         for candidate in candidates {
-            rest.extend(row(world, package, candidate));
-            if 4 + rest.len() as u64 > most {
+            report.extend(row(world, package, candidate));
+            if report.len() as u64 > most {
                 return Err((26, 0));
             }
         }
     }
-    if 4 + rest.len() as u64 > most {
+    if report.len() as u64 > most {
         return Err((26, 0));
     }
-    Ok([&(rest.len() as u32).to_be_bytes(), &rest[..]].concat())
+    let (length, rest) = report.split_at_mut(4);
+    length.copy_from_slice(&(rest.len() as u32).to_be_bytes());
+    Ok(report)
 }

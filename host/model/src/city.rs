@@ -1,14 +1,18 @@
 //! CityHash64 v1.1 (google/cityhash, city.cc); arithmetic wraps at 64 bits.
+#![expect(
+    clippy::many_single_char_names,
+    reason = "the letters are those of city.cc"
+)]
 use std::num::Wrapping;
 
 use crate::reader::little_endian;
 
 type Word = Wrapping<u64>;
 
-const K0: Word = Wrapping(0xc3a5c85c97cb3127);
-const K1: Word = Wrapping(0xb492b66fbe98f273);
-const K2: Word = Wrapping(0x9ae16a3b2f90404f);
-const K_MUL: Word = Wrapping(0x9ddfea08eb382d69);
+const K0: Word = Wrapping(0xc3a5_c85c_97cb_3127);
+const K1: Word = Wrapping(0xb492_b66f_be98_f273);
+const K2: Word = Wrapping(0x9ae1_6a3b_2f90_404f);
+const K_MUL: Word = Wrapping(0x9ddf_ea08_eb38_2d69);
 const NINE: Word = Wrapping(9);
 
 pub fn city_hash64(text: &[u8]) -> u64 {

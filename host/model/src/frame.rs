@@ -1,5 +1,5 @@
 //! The corpus's own layout, big-endian, and questions 1 and 2; its block is 0.
-use crate::reader::Refusal;
+use answer::Refusal;
 
 pub struct Frame<'a> {
     pub script: &'a [u8],

@@ -15,4 +15,3 @@ mod text;
 
 pub use call::{BASE, Limits, class_report, class_report_within};
 pub use city::city_hash64;
-pub use reader::Refusal;

@@ -1,5 +1,7 @@
 //! Name batches and mapped names.
-use crate::reader::{Reader, Refusal, little_endian};
+use answer::Refusal;
+
+use crate::reader::{Reader, little_endian};
 use crate::text::{Text, decimal, utf8, utf16};
 
 const HASH_VERSION: u64 = 0xC164_0000;

@@ -1,6 +1,8 @@
 //! The package header.
+use answer::Refusal;
+
 use crate::names::{Mapped, Name, name_batch};
-use crate::reader::{Reader, Refusal, little_endian};
+use crate::reader::{Reader, little_endian};
 use crate::text::Text;
 
 const SUMMARY: usize = 52;

@@ -1,7 +1,6 @@
 //! Fields of a block, as they are read: little-endian, and each asked whether its bytes are there.
 
-/// The refusal and the block.
-pub type Refusal = (u8, u32);
+use answer::Refusal;
 
 pub struct Reader<'a> {
     bytes: &'a [u8],
@@ -43,26 +42,31 @@ impl<'a> Reader<'a> {
         Ok(&self.bytes[from..self.at])
     }
 
+    /// A field of this width.
+    fn field<const WIDTH: usize>(&mut self) -> Result<[u8; WIDTH], Refusal> {
+        let taken = self.take(WIDTH as u64)?;
+        Ok(taken.try_into().expect("as many bytes as were taken"))
+    }
+
     pub fn u32(&mut self) -> Result<u32, Refusal> {
-        Ok(little_endian(self.take(4)?) as u32)
+        self.field().map(u32::from_le_bytes)
     }
 
     pub fn u64(&mut self) -> Result<u64, Refusal> {
-        Ok(little_endian(self.take(8)?))
+        self.field().map(u64::from_le_bytes)
     }
 
     pub fn i32(&mut self) -> Result<i32, Refusal> {
-        Ok(self.u32()? as i32)
+        self.field().map(i32::from_le_bytes)
     }
 
     pub fn i64(&mut self) -> Result<i64, Refusal> {
-        Ok(self.u64()? as i64)
+        self.field().map(i64::from_le_bytes)
     }
 }
 
+/// The byte at place i counts 256 to the power of i.
 pub fn little_endian(bytes: &[u8]) -> u64 {
-    bytes
-        .iter()
-        .rev()
-        .fold(0, |sum, byte| sum * 256 + u64::from(*byte))
+    let places = (0..).step_by(8).zip(bytes);
+    places.fold(0, |sum, (shift, byte)| sum | u64::from(*byte) << shift)
 }

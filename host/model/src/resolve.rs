@@ -29,7 +29,7 @@ pub fn resolve(world: &World, class: &Reference) -> Resolved {
         Reference::Script(index) => {
             let path = world.script.path_of(*index, world.limits.objects);
             Resolved {
-                class_kind: if path.is_some() { 0 } else { 1 },
+                class_kind: u8::from(path.is_none()),
                 class: path.clone(),
                 native: path,
             }

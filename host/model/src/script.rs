@@ -1,8 +1,10 @@
 //! The script block and the paths of its objects.
 use std::collections::HashMap;
 
+use answer::Refusal;
+
 use crate::names::{Mapped, name_batch};
-use crate::reader::{Reader, Refusal};
+use crate::reader::Reader;
 use crate::text::Text;
 
 /// An index's kind: its top two bits.

@@ -1,8 +1,10 @@
 //! Document 01's call over the reference: the corpus in, the exact answer and the report's bytes out.
+use answer::Answer;
+
 use crate::row::{put_row, put_text};
 use crate::scan::resolve;
 use crate::script::ScriptObjects;
-use crate::stages::{Refusal, Scanned, headers, scan, script, script_count};
+use crate::stages::{Scanned, headers, scan, script, script_count};
 use crate::zen::PackageHeader;
 
 pub use crate::frame::{Parts, parts};
@@ -10,33 +12,8 @@ pub use crate::frame::{Parts, parts};
 /// The longest report: its 4-byte length counts what follows.
 const MOST: u64 = 4_294_967_299;
 
-#[derive(Debug, Clone, PartialEq, Eq)]
-pub enum Answer {
-    Report(Vec<u8>),
-    Refused { refusal: u8, block: u32 },
-}
-
-impl Answer {
-    /// The number that the call returns.
-    pub fn pack(&self) -> u64 {
-        match self {
-            Answer::Report(report) => report.len() as u64,
-            Answer::Refused { refusal, block } => {
-                1 << 63 | u64::from(*refusal) << 32 | u64::from(*block)
-            }
-        }
-    }
-}
-
 /// The call; `work` and `buffer` are the two buffers' lengths.
 pub fn class_report(corpus: &[u8], work: u64, buffer: u64) -> Answer {
-    match answer(corpus, work, buffer) {
-        Ok(report) => Answer::Report(report),
-        Err((refusal, block)) => Answer::Refused { refusal, block },
-    }
-}
-
-fn answer(corpus: &[u8], work: u64, buffer: u64) -> Result<Vec<u8>, Refusal> {
     let parts = parts(corpus).map_err(|number| (number, 0))?;
     let script = script(&parts)?;
     let headers = headers(&parts)?;
@@ -56,7 +33,7 @@ pub fn report(
     script: &ScriptObjects,
     scanned: &Scanned,
     most: u64,
-) -> Result<Vec<u8>, Refusal> {
+) -> Answer {
     let mut out = vec![0, 0, 0, 0, 1];
     out.extend((headers.len() as u32).to_be_bytes());
     let packages = parts.packages.iter().zip(headers).zip(&scanned.candidates);

@@ -1,6 +1,11 @@
 //! A row's bytes, and the known flags, which are not the reference's.
+use std::iter::successors;
+
 use crate::scan::{CLASS_KINDS, Candidate, ClassRef, ClassTable, Resolved};
 use crate::script::ScriptObjects;
+
+/// How many classes a chain may look up.
+const LOOKUPS: usize = 64;
 
 /// Appends a row.
 pub fn put_row(
@@ -53,19 +58,23 @@ fn class_kind(resolved: &Resolved) -> u8 {
     kind.unwrap_or_else(|| panic!("no class kind for {}", resolved.class_kind)) as u8
 }
 
-/// Whether a native class of `?` was found: the reference's text can't say, since `?` may be a name.
-fn has_native(class: &ClassRef, script: &ScriptObjects, classes: &ClassTable) -> bool {
-    let mut at = class;
-    for _ in 0..64 {
-        at = match at {
-            ClassRef::Package(id, _, hash) | ClassRef::Local(id, hash, _) => {
-                match classes.get(&(*id, *hash)) {
-                    Some(found) => &found.super_ref,
-                    None => return false,
-                }
-            }
-            _ => break,
-        };
+/// The key that a reference means, if it means a class.
+fn key(reference: &ClassRef) -> Option<(u64, u64)> {
+    match *reference {
+        ClassRef::Local(id, hash, _) | ClassRef::Package(id, _, hash) => Some((id, hash)),
+        ClassRef::Script(_) | ClassRef::Null | ClassRef::Bad(_) => None,
     }
-    matches!(at, ClassRef::Script(index) if script.path_of(*index).is_some())
+}
+
+/// Whether a native class of `?` was found: the reference's text can't say, since `?` may be a name. So the row's chain is
+/// walked once more, from its class reference to the super of each class looked up, as far as the limit lets it.
+fn has_native(from: &ClassRef, script: &ScriptObjects, classes: &ClassTable) -> bool {
+    let chain = successors(Some(from), |at| {
+        let class = classes.get(&key(at)?)?;
+        Some(&class.super_ref)
+    });
+    match chain.take(1 + LOOKUPS).last() {
+        Some(ClassRef::Script(index)) => script.path_of(*index).is_some(),
+        _ => false,
+    }
 }

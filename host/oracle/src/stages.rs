@@ -1,6 +1,8 @@
 //! The call in stages, each one function of the reference over all that it applies to.
 use std::collections::hash_map::Entry;
 
+use answer::Refusal;
+
 use crate::frame::Parts;
 use crate::names::read_name_batch;
 use crate::question::question;
@@ -9,14 +11,11 @@ use crate::scan::{Candidate, ClassTable, scan_header};
 use crate::script::{ScriptObjects, parse_script_objects};
 use crate::zen::{PackageHeader, parse_package_header};
 
-/// The refusal and the block.
-pub type Refusal = (u8, u32);
-
 /// Blocks 2 and up are the packages.
 pub const FIRST_PACKAGE: u32 = 2;
 
 /// The refusal for a message of the reference.
-fn refusal(error: Error, block: u32) -> Refusal {
+fn refusal(error: &Error, block: u32) -> Refusal {
     match question(&error.0) {
         Some(number) => (number, block),
         None => panic!("no question for the message: {}", error.0),
@@ -25,7 +24,7 @@ fn refusal(error: Error, block: u32) -> Refusal {
 
 /// Questions 3 to 13.
 pub fn script(parts: &Parts) -> Result<ScriptObjects, Refusal> {
-    parse_script_objects(parts.script).map_err(|error| refusal(error, 1))
+    parse_script_objects(parts.script).map_err(|error| refusal(&error, 1))
 }
 
 /// How many objects an accepted script block has. The reference keeps its map to itself, so the count is read again, by
@@ -40,7 +39,7 @@ pub fn script_count(parts: &Parts) -> usize {
 pub fn headers(parts: &Parts) -> Result<Vec<PackageHeader>, Refusal> {
     let mut headers = Vec::with_capacity(parts.packages.len());
     for (block, (_, bytes)) in (FIRST_PACKAGE..).zip(&parts.packages) {
-        let header = parse_package_header(bytes).map_err(|error| refusal(error, block))?;
+        let header = parse_package_header(bytes).map_err(|error| refusal(&error, block))?;
         if !header.imported_package_names.iter().all(|n| n.is_ascii()) {
             return Err((23, block));
         }

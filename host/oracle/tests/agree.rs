@@ -3,6 +3,7 @@
 mod both;
 
 use both::both;
+use corpus::Described;
 use corpus::census::census;
 use corpus::damage::{cuts, damage_block, faults, sound};
 use corpus::draft::Draft;
@@ -28,8 +29,8 @@ impl Asked {
     /// Asks about the same corpus with other buffers.
     fn again(&mut self, corpus: &[u8], work: u64, buffer: u64) -> Option<Vec<u8>> {
         let answer = both(corpus, work, buffer);
-        let counted = answer.as_deref().map_err(|(refusal, _)| *refusal);
-        self.tally.add(counted);
+        self.tally
+            .add(answer.as_deref().map_err(|refusal| *refusal));
         answer.ok()
     }
 
@@ -62,7 +63,7 @@ fn generated(asked: &mut Asked) {
         ladder::ring(1),
         ladder::ring(3),
     ];
-    let lines = lines.iter().map(|line| line.bytes());
+    let lines = lines.iter().map(Described::bytes);
     for corpus in small.chain(medium).chain(large).chain(lines) {
         asked.ask_closely(&corpus);
     }

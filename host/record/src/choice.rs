@@ -6,7 +6,7 @@ use corpus::damage::{Fault, damage_block, faults, sound};
 use corpus::draft::Draft;
 use corpus::generate::{Random, dense, generate, ladder};
 use corpus::rearrange::rearrange;
-use oracle::report::{Answer, class_report};
+use oracle::report::class_report;
 use std::collections::BTreeSet;
 
 /// Room for any corpus of the list.
@@ -160,10 +160,8 @@ fn imports_a_class(corpus: &[u8]) -> bool {
 
 /// The report's length.
 fn length(corpus: &[u8]) -> Option<u64> {
-    match class_report(corpus, WORK, BUFFER) {
-        Answer::Report(report) => Some(report.len() as u64),
-        Answer::Refused { .. } => None,
-    }
+    let report = class_report(corpus, WORK, BUFFER).ok()?;
+    Some(report.len() as u64)
 }
 
 /// The least lengths with which a corpus is accepted.

@@ -1,8 +1,10 @@
 //! The recorded list: corpora, lengths of buffers and the oracle's answers, the same on every run.
 mod choice;
+pub mod command;
+pub mod files;
 
 use corpus::list::{Case, write};
-use oracle::report::{Answer, class_report};
+use oracle::report::class_report;
 
 /// A corpus and the lengths of the work and report buffers.
 pub struct Question {
@@ -28,10 +30,7 @@ fn answered(q: Question) -> Case {
         corpus: q.corpus,
         work: q.work,
         buffer: q.buffer,
-        answer: answer.pack(),
-        report: match answer {
-            Answer::Report(report) => report,
-            Answer::Refused { .. } => Vec::new(),
-        },
+        answer: answer::number(&answer),
+        report: answer.unwrap_or_default(),
     }
 }

@@ -1,6 +1,7 @@
 //! Layer 1 against Rust's own text and the stand-in's CityHash64.
 use corpus::generate::Random;
-use text::{city_hash64, name_id, plain, put_name};
+use corpus::name;
+use text::{city_hash64, name_id, put_name};
 
 fn bytes(r: &mut Random, n: usize) -> Vec<u8> {
     (0..n).map(|_| r.next() as u8).collect()
@@ -29,13 +30,13 @@ fn part(r: &mut Random, units: usize, wide: bool) -> Vec<u8> {
     let mut out = Vec::new();
     while out.len() < units * if wide { 2 } else { 1 } {
         let c: u32 = match r.below(12) {
-            0..6 => b'A' as u32 + r.below(26) as u32,
-            6..9 => b'a' as u32 + r.below(26) as u32,
+            0..6 => u32::from(b'A') + r.below(26) as u32,
+            6..9 => u32::from(b'a') + r.below(26) as u32,
             9 => r.below(256) as u32,
             10 => *r.pick(&[
-                0x7f, 0x80, 0x7ff, 0x800, 0xd7ff, 0xe000, 0xfeff, 0xffff, 0x10000, 0x10ffff,
+                0x7f, 0x80, 0x7ff, 0x800, 0xd7ff, 0xe000, 0xfeff, 0xffff, 0x1_0000, 0x10_ffff,
             ]),
-            _ => r.below(0x110000) as u32,
+            _ => r.below(0x11_0000) as u32,
         };
         if !wide {
             out.push(c as u8);
@@ -73,13 +74,14 @@ fn number(r: &mut Random) -> u32 {
 /// Ids, UTF-8 and suffixes of one name; whether it was a text.
 fn same(part: &[u8], wide: bool, number: u32) -> bool {
     let mut out = vec![0xa5; 3 * part.len() + 16];
-    let Some(text) = plain::rendered(part, wide, number) else {
+    let Some(base) = name::decoded(part, wide) else {
         assert_eq!(put_name(&mut out, part, wide, number), None);
         assert!(out.iter().all(|b| *b == 0xa5));
         assert_eq!(name_id(part, wide, number), 0);
         return false;
     };
-    assert_eq!(name_id(part, wide, number), plain::id(&text), "{text:?}");
+    let text = name::rendered(&base, number);
+    assert_eq!(name_id(part, wide, number), name::id(&text), "{text:?}");
     let n = put_name(&mut out, part, wide, number).expect("there is room");
     assert_eq!(&out[..n], text.as_bytes());
     assert!(out[n..].iter().all(|b| *b == 0xa5));

@@ -14,7 +14,7 @@ use oracle::zen::{PackageHeader, parse_package_header};
 use zen::{NONE, Texts};
 
 /// The number of the question that a message of the reference answers with no.
-fn number(error: Error) -> u64 {
+fn number(error: &Error) -> u64 {
     question(&error.0).expect("a message for a question").into()
 }
 
@@ -34,7 +34,7 @@ fn entries(block: &[u8]) -> Result<Vec<[u64; 4]>, Error> {
 
 /// What the reference says of a package, and 23, which it doesn't ask.
 fn header(block: &[u8]) -> Result<PackageHeader, u64> {
-    let header = parse_package_header(block).map_err(number)?;
+    let header = parse_package_header(block).map_err(|error| number(&error))?;
     let ascii = header.imported_package_names.iter().all(|n| n.is_ascii());
     if ascii { Ok(header) } else { Err(23) }
 }
@@ -99,7 +99,7 @@ struct Seen {
 impl Seen {
     fn script(&mut self, block: &[u8]) {
         self.scripts.0 += 1;
-        let refusal = parse_script_objects(block).map_or_else(number, |_| 0);
+        let refusal = parse_script_objects(block).map_or_else(|error| number(&error), |_| 0);
         assert_eq!(zen::check_script(block), refusal, "script {block:02x?}");
         let mut objects = Vec::new();
         if refusal == 0 {
@@ -158,21 +158,25 @@ fn damaged(seen: &mut Seen, blocks: u64) {
         let base = random.pick(&bases);
         let parts = parts(base).expect("sound");
         let script = parts.packages.is_empty() || random.chance(40);
-        let mut block = match script {
-            true => parts.script.to_vec(),
-            false => random.pick(&parts.packages).1.to_vec(),
+        let block = if script {
+            parts.script
+        } else {
+            random.pick(&parts.packages).1
         };
-        let end = match random.chance(50) {
-            true => block.len().min(120),
-            false => block.len(),
+        let mut block = block.to_vec();
+        let end = if random.chance(50) {
+            block.len().min(120)
+        } else {
+            block.len()
         };
         damage(&mut random, &mut block[..end], base);
         if random.chance(5) {
             block.truncate(random.below(block.len() as u64) as usize);
         }
-        match script {
-            true => seen.script(&block),
-            false => seen.package(&block),
+        if script {
+            seen.script(&block);
+        } else {
+            seen.package(&block);
         }
     }
 }

@@ -88,7 +88,7 @@ fn of_package(census: &mut Census, p: &Package) {
     let numbered = p.numbers.iter().filter(|n| **n != 0).count();
     let region = |k: usize| p.regions[k + 1] - p.regions[k];
     census.note("numbered package name", p.name.1 != 0);
-    census.add("numbered imported name", numbered);
+    census.add("numbered imported name", numbered as u64);
     census.note("empty package", p.exports.is_empty());
     census.note(
         "header size below the block's length",

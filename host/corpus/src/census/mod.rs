@@ -5,9 +5,10 @@ mod features;
 mod texts;
 
 use crate::decode::{Corpus, Export, Package, decode};
-use crate::generate::package_id;
 use crate::kind;
+use crate::name;
 use std::collections::{BTreeMap, HashMap};
+use std::fmt;
 
 pub use features::FEATURES;
 
@@ -61,13 +62,12 @@ impl Census {
         64 * (self.objects + self.classes + self.candidates)
     }
 
-    fn add(&mut self, feature: &'static str, times: usize) {
-        let count = self.features.get_mut(feature).expect("a listed feature");
-        *count += times as u64;
+    fn add(&mut self, feature: &'static str, times: u64) {
+        *self.features.get_mut(feature).expect("a listed feature") += times;
     }
 
     fn note(&mut self, feature: &'static str, there: bool) {
-        self.add(feature, usize::from(there));
+        self.add(feature, u64::from(there));
     }
 
     /// Features, path lengths and chain lengths that never occurred.
@@ -86,13 +86,49 @@ impl Census {
             .collect()
     }
 
-    /// Adds another corpus's counts.
+    /// Adds another corpus's counts, all of them.
     pub fn join(&mut self, other: &Census) {
-        add_each(&mut self.paths, &other.paths);
-        add_each(&mut self.chains, &other.chains);
-        for (feature, n) in &other.features {
-            *self.features.get_mut(feature).expect("a listed feature") += n;
+        let Census {
+            features,
+            paths,
+            chains,
+            objects,
+            classes,
+            candidates,
+        } = other;
+        for (feature, n) in features {
+            self.add(feature, *n);
         }
+        add_each(&mut self.paths, paths);
+        add_each(&mut self.chains, chains);
+        self.objects += objects;
+        self.classes += classes;
+        self.candidates += candidates;
+    }
+}
+
+impl fmt::Display for Census {
+    /// A line for each count; of the lengths of paths and of chains the rarest.
+    fn fmt(&self, f: &mut fmt::Formatter) -> fmt::Result {
+        let Census {
+            objects,
+            classes,
+            candidates,
+            ..
+        } = self;
+        writeln!(
+            f,
+            "{objects} script objects, {classes} classes, {candidates} candidates"
+        )?;
+        for (feature, n) in &self.features {
+            writeln!(f, "{feature}: {n}")?;
+        }
+        let rarest = |counts: &[u64]| counts.iter().min().copied().unwrap_or_default();
+        let (path, chain) = (rarest(&self.paths[1..]), rarest(&self.chains));
+        write!(
+            f,
+            "rows with each path of 1 to {LONGEST} objects: {path} or more; with each chain of 0 to {LONGEST} classes: {chain} or more"
+        )
     }
 }
 
@@ -159,10 +195,10 @@ impl<'a> Tables<'a> {
         match kind(index) {
             0 => (package.exports.get(index as usize)).map(|e| (package.id, e.hash)),
             2 => {
-                let name = (index >> 32 & 0x3fff_ffff) as usize;
+                let imported = (index >> 32 & 0x3fff_ffff) as usize;
                 let hash = package.hashes.get(index as u32 as usize)?;
-                let known = name < package.numbers.len();
-                known.then(|| (package_id(&package.imported(name)), *hash))
+                let known = imported < package.numbers.len();
+                known.then(|| (name::id(&package.imported(imported)), *hash))
             }
             _ => None,
         }

@@ -39,7 +39,7 @@ pub fn too_long() -> Vec<BatchFault> {
         .map(|n| fault(format!("{n} names"), 3, move |b| b.count = n))
         .into();
     out.push(fault("strings of all bits' length", 3, |b| {
-        b.length = u32::MAX
+        b.length = u32::MAX;
     }));
     out
 }

@@ -4,7 +4,7 @@ use crate::generate::Random;
 
 /// Damages up to four places. Some take eight bytes from elsewhere, so that indices, hashes and names meet.
 pub fn damage(random: &mut Random, bytes: &mut [u8], elsewhere: &[u8]) {
-    for _ in 0..1 + random.below(4) {
+    for _ in 0..=random.below(4) {
         let at = random.below(bytes.len() as u64) as usize;
         match random.below(9) {
             0 => bytes[at] = random.next() as u8,

@@ -99,7 +99,7 @@ fn of_start(of: Of, header_size: u32) -> Vec<Fault> {
 fn of_offset(of: Of, k: usize) -> Vec<Fault> {
     let size = |n: usize| {
         of.fault(&format!("header size {n}"), 3, move |p| {
-            p.header_size = n as u32
+            p.header_size = n as u32;
         })
     };
     let negative = |v: i32| of.fault(&format!("offset {k} is {v}"), 16, move |p| p.offsets[k] = v);
@@ -116,7 +116,7 @@ fn out_of_order(of: Of, k: usize) -> Fault {
 fn of_names_and_bulk(of: Of, package: &PackageDraft) -> Vec<Fault> {
     let bulk = |name: &str, refusal: u8, size: fn(i64) -> i64| {
         of.fault(name, refusal, move |p| {
-            p.bulk_size = size(p.bulk.len() as i64)
+            p.bulk_size = size(p.bulk.len() as i64);
         })
     };
     let batch = package.batch.size();
@@ -176,13 +176,13 @@ fn of_imported(of: Of, package: &PackageDraft) -> Vec<Fault> {
     );
     out.extend([batch, batch + numbers - 1].map(|n| of.ends_in_imported(n)));
     out.push(of.fault("a byte behind the imported names", 22, |p| {
-        p.header_size += 1
+        p.header_size += 1;
     }));
     out.push(of.fault("no name", 10, |p| {
         p.name.0 = p.batch.headers.len() as u32 | 3 << 30;
     }));
     out.push(of.fault("a wide imported name beyond ASCII", 23, |p| {
-        p.imported.strings[1] = 1
+        p.imported.strings[1] = 1;
     }));
     out.push(of.fault("an imported name of Latin-1", 23, |p| {
         *p.imported.strings.last_mut().expect("a byte") = 0x80;

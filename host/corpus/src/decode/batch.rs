@@ -1,4 +1,5 @@
 use super::le;
+use crate::name;
 use std::ops::Range;
 
 #[derive(Debug)]
@@ -39,7 +40,7 @@ impl Batch {
                 at: next,
                 offset: next - strings,
                 wide,
-                text: text(&bytes[next..next + size], wide),
+                text: name::decoded(&bytes[next..next + size], wide).expect("an accepted name"),
             });
             next += size;
         }
@@ -52,11 +53,7 @@ impl Batch {
 
     /// A name rendered: with its number's suffix.
     pub fn rendered(&self, (index, number): (usize, u32)) -> String {
-        let base = &self.names[index].text;
-        match number {
-            0 => base.clone(),
-            n => format!("{base}_{}", n - 1),
-        }
+        name::rendered(&self.names[index].text, number)
     }
 }
 
@@ -65,14 +62,4 @@ fn size(first: u8, second: u8) -> (bool, usize) {
     let units = usize::from(first & 0x7f) << 8 | usize::from(second);
     let wide = first >= 0x80;
     (wide, if wide { 2 * units } else { units })
-}
-
-fn text(bytes: &[u8], wide: bool) -> String {
-    if !wide {
-        return bytes.iter().map(|b| char::from(*b)).collect();
-    }
-    let units: Vec<u16> = (bytes.chunks_exact(2))
-        .map(|u| u16::from_le_bytes([u[0], u[1]]))
-        .collect();
-    String::from_utf16(&units).expect("an accepted name")
 }

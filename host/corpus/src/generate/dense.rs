@@ -1,7 +1,7 @@
 //! Small corpora in which everything meets: few names, indices, hashes and ids, so that rings, long chains, keys that
 //! come twice, names that are empty, `?` or hold separators, and references of every kind are all common.
 use super::Random;
-use super::names::package_id;
+use crate::name::id;
 use crate::{Described, Export, NULL, Package, ScriptEntry, Text, import_index, script_index};
 
 const POOL: [&str; 20] = [
@@ -55,10 +55,12 @@ pub fn dense_described(seed: u64) -> Described {
     let mut random = Random(seed.wrapping_mul(0x2545_f491_4f6c_dd1d) ^ 0x5555);
     let line = random.chance(25);
     let chain = random.chance(15);
-    let objects = match random.chance(4) {
-        true => 0,
-        false if line => 60 + random.below(15),
-        false => 1 + random.below(8),
+    let objects = if random.chance(4) {
+        0
+    } else if line {
+        60 + random.below(15)
+    } else {
+        1 + random.below(8)
     };
     let mut dense = Dense {
         random,
@@ -70,11 +72,12 @@ pub fn dense_described(seed: u64) -> Described {
     let mut corpus = dense.script();
     for _ in 0..dense.random.below(5) {
         let package = dense.package();
-        let id = match dense.random.chance(5) {
-            true => package_id("/q_0"),
-            false => package_id(dense.random.pick::<&str>(&IMPORTED)),
+        let name = if dense.random.chance(5) {
+            "/q_0"
+        } else {
+            *dense.random.pick(&IMPORTED)
         };
-        corpus.packages.push((id, package));
+        corpus.packages.push((id(name), package));
     }
     corpus
 }
@@ -82,9 +85,10 @@ pub fn dense_described(seed: u64) -> Described {
 impl Dense {
     fn text(&mut self, from: &[&str]) -> Text {
         let s = *self.random.pick(from);
-        match self.random.chance(20) {
-            true => Text::wide(s),
-            false => Text::of(s),
+        if self.random.chance(20) {
+            Text::wide(s)
+        } else {
+            Text::of(s)
         }
     }
 
@@ -103,9 +107,10 @@ impl Dense {
         for i in 0..self.objects {
             let entry = ScriptEntry {
                 name: self.name(corpus.names.len()),
-                number: match self.random.chance(20) {
-                    true => self.random.below(3) as u32,
-                    false => 0,
+                number: if self.random.chance(20) {
+                    self.random.below(3) as u32
+                } else {
+                    0
                 },
                 global: script_index(i),
                 outer: self.outer_object(i),
@@ -155,9 +160,11 @@ impl Dense {
     /// A script object, in a line often one near the limit.
     fn object(&mut self) -> u64 {
         let n = self.objects;
-        script_index(match self.line && n > 0 && self.random.chance(50) {
-            true => n - 1 - self.random.below(n.min(12)),
-            false => self.random.below(n + 1),
+        let near = self.line && n > 0 && self.random.chance(50);
+        script_index(if near {
+            n - 1 - self.random.below(n.min(12))
+        } else {
+            self.random.below(n + 1)
         })
     }
 
@@ -191,9 +198,10 @@ impl Dense {
 
     /// Exports of chance; before them perhaps a chain of classes, each the super of the one before.
     fn exports(&mut self, p: &mut Package) {
-        let chain = match self.chain {
-            true => 60 + self.random.below(12),
-            false => 0,
+        let chain = if self.chain {
+            60 + self.random.below(12)
+        } else {
+            0
         };
         let exports = chain + self.random.below(8);
         for k in 0..exports {
@@ -213,13 +221,15 @@ impl Dense {
         self.fresh += 1;
         Export {
             name: self.name(p.names.len()),
-            number: match self.random.chance(20) {
-                true => *self.random.pick(&[1, 2, 11, u32::MAX]),
-                false => 0,
+            number: if self.random.chance(20) {
+                *self.random.pick(&[1, 2, 11, u32::MAX])
+            } else {
+                0
             },
-            outer: match self.random.chance(60) {
-                true => self.random.below(exports + 1),
-                false => self.index(p, exports),
+            outer: if self.random.chance(60) {
+                self.random.below(exports + 1)
+            } else {
+                self.index(p, exports)
             },
             class: match self.random.below(10) {
                 0..3 => script_index(0),
@@ -227,9 +237,10 @@ impl Dense {
                 _ => self.index(p, exports),
             },
             super_index: self.index(p, exports),
-            hash: match self.random.chance(50) {
-                true => self.hash(),
-                false => self.fresh,
+            hash: if self.random.chance(50) {
+                self.hash()
+            } else {
+                self.fresh
             },
         }
     }

@@ -1,5 +1,6 @@
 //! Corpora that go step by step to a limit and past it.
-use super::names::{ODD, package_id};
+use super::names::ODD;
+use crate::name::id;
 use crate::{Described, Export, NULL, Package, Text, import_index, script_index};
 
 /// A package of this name, and beside it the names `Own` (1) and `Row_GEN_VARIABLE` (2).
@@ -70,22 +71,19 @@ pub fn chains() -> Described {
     let name = |i: u64| format!("/C{i}");
     for i in 0..67 {
         let mut p = package(&name(i));
-        let super_index = match i {
-            0 => {
-                p.exports.push(row(1, script_index(2)));
-                script_index(2)
-            }
-            _ => {
-                p.imported.push((Text::of(&name(i - 1)), 0));
-                p.hashes.push(1);
-                p.exports.push(row(2, import_index(0, 0)));
-                import_index(0, 0)
-            }
+        let super_index = if i == 0 {
+            p.exports.push(row(1, script_index(2)));
+            script_index(2)
+        } else {
+            p.imported.push((Text::of(&name(i - 1)), 0));
+            p.hashes.push(1);
+            p.exports.push(row(2, import_index(0, 0)));
+            import_index(0, 0)
         };
         let own = p.exports.len() as u64;
         p.exports.push(class(super_index));
         p.exports.push(row(0, own));
-        corpus.packages.push((package_id(&name(i)), p));
+        corpus.packages.push((id(&name(i)), p));
     }
     corpus
 }
@@ -103,7 +101,7 @@ pub fn ring(packages: u64) -> Described {
             row(0, 0),
             row(2, script_index(3)),
         ];
-        corpus.packages.push((package_id(&format!("/R{i}")), p));
+        corpus.packages.push((id(&format!("/R{i}")), p));
     }
     let (one, other) = (script_index(3), script_index(4));
     corpus.add_object(Text::of("Ring"), 0, one, other);

@@ -1,15 +1,16 @@
 //! Corpora from a seed. `generate` makes large ones like a game's build, `dense` small ones in which everything meets,
-//! `ladder` those that go step by step to a limit.
+//! `ladder` those that go step by step to a limit; `sized` one whose report has a wanted length.
 mod dense;
 pub mod ladder;
 mod names;
 mod objects;
 mod packages;
 mod parts;
+mod sized;
 
 pub use crate::random::Random;
 pub use dense::{dense, dense_described};
-pub use names::package_id;
+pub use sized::sized;
 
 use crate::corpus;
 use objects::Objects;

@@ -1,4 +1,4 @@
-//! Words, package names and their ids.
+//! Words and package names.
 use super::Random;
 
 #[rustfmt::skip]
@@ -18,13 +18,6 @@ pub const ODD: [&str; 8] = ["?", "", "a.b", "c:d", ".", ":", "é", "/x.y:z"];
 
 pub fn words(random: &mut Random, n: u64) -> String {
     (0..n).map(|_| *random.pick(&WORDS)).collect()
-}
-
-/// The id of a package's name, which is ASCII.
-pub fn package_id(name: &str) -> u64 {
-    let lowered = name.to_ascii_lowercase();
-    let bytes: Vec<u8> = lowered.encode_utf16().flat_map(u16::to_le_bytes).collect();
-    cityhasher::hash(bytes)
 }
 
 /// Package i's name without its last part, the number i as an instance number has it: any package can import any

@@ -82,9 +82,10 @@ impl Maker<'_> {
         if self.random.chance(2) {
             name += *self.random.pick(&WIDE);
         }
-        let number = match self.random.chance(3) {
-            true => self.random.below(9) as u32,
-            false => 0,
+        let number = if self.random.chance(3) {
+            self.random.below(9) as u32
+        } else {
+            0
         };
         let class = self.add(Text::of(&name), number, outer);
         let mut at = class;

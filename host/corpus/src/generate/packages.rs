@@ -1,9 +1,10 @@
 //! Which packages a large corpus has: first a line of classes, each the super of the next, and rings; then packages
 //! of chance.
 use super::Random;
-use super::names::{class_hash, package_id, package_name};
+use super::names::{class_hash, package_name};
 use super::objects::Objects;
 use super::parts::Maker;
+use crate::name::id;
 use crate::{Export, NULL, Package, Text, import_index};
 
 /// In a large corpus package i below this has a class with a chain of i + 1 classes, all in packages of their own: from
@@ -35,15 +36,16 @@ impl Plan<'_> {
                 names: vec![Text::of(&name)],
                 ..Package::default()
             };
-            return (package_id(&name), empty);
+            return (id(&name), empty);
         }
         // Two packages of one id: the classes' hashes differ, so no key comes twice.
         let same = free && i > 0 && (i == RINGS + 1 || random.chance(1));
-        let id = match same {
-            true => package_id(&package_name(self.seed, i - 1)),
-            false => package_id(&name),
+        let own = if same {
+            package_name(self.seed, i - 1)
+        } else {
+            name
         };
-        (id, self.full(random, i))
+        (id(&own), self.full(random, i))
     }
 
     fn full(&self, random: &mut Random, i: u64) -> Package {
@@ -63,10 +65,13 @@ impl Plan<'_> {
     /// The package that package i imports first.
     pub fn first_import(&self, random: &mut Random, i: u64) -> u64 {
         match i.checked_sub(LINE) {
-            _ if !self.in_line(i) => match random.chance(20) {
-                true => i.saturating_sub(1),
-                false => random.below(self.total),
-            },
+            _ if !self.in_line(i) => {
+                if random.chance(20) {
+                    i.saturating_sub(1)
+                } else {
+                    random.below(self.total)
+                }
+            }
             None => i.saturating_sub(1),
             Some(0) => i,
             Some(1) => i + 1,

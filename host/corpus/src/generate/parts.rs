@@ -41,9 +41,10 @@ impl<'a> Maker<'a> {
 
     /// Imported names, each with the hash of that package's class; the import map.
     pub fn imports(&mut self, at_least_one: bool) {
-        let many = match self.random.chance(4) {
-            true => u64::from(at_least_one),
-            false => 2 + self.random.below(10),
+        let many = if self.random.chance(4) {
+            u64::from(at_least_one)
+        } else {
+            2 + self.random.below(10)
         };
         for k in 0..many {
             let total = self.plan.total;
@@ -113,9 +114,10 @@ impl<'a> Maker<'a> {
 
     /// An export that is no class.
     pub fn push(&mut self, name: Text, number: u32, outer: u64, class: u64) {
-        let top = match self.random.chance(5) {
-            true => (self.random.below(4) as u32) << 30,
-            false => 0,
+        let top = if self.random.chance(5) {
+            (self.random.below(4) as u32) << 30
+        } else {
+            0
         };
         let name = self.package.add_name(name) | top;
         self.package.exports.push(Export {
@@ -137,9 +139,10 @@ impl<'a> Maker<'a> {
 
     fn component(&mut self, end: &str, outer: u64) {
         let name = self.text(end);
-        let number = match self.random.chance(10) {
-            true => 1 + self.random.below(12) as u32,
-            false => 0,
+        let number = if self.random.chance(10) {
+            1 + self.random.below(12) as u32
+        } else {
+            0
         };
         let class = self.class_index();
         self.push(name, number, outer, class);

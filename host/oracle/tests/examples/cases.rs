@@ -1,6 +1,6 @@
 //! A table of cases, each run on the oracle and on the model, and the small corpora that they are made of.
+use answer::Answer;
 use corpus::{Export, NULL, Package, ScriptEntry, Text, corpus, script_block, script_index};
-use oracle::report::{Answer, class_report};
 
 /// What a call answers.
 pub enum Want {
@@ -34,33 +34,27 @@ pub fn case(what: &'static str, corpus: Vec<u8>, want: Want) -> Case {
     }
 }
 
-pub fn run(cases: Vec<Case>) {
-    for case in &cases {
-        let answers = [
-            ("oracle", class_report(&case.corpus, case.work, case.buffer)),
-            ("model", model(&case.corpus, case.work, case.buffer)),
+pub fn run(cases: &[Case]) {
+    for case in cases {
+        let judges = [
+            ("oracle", oracle::report::class_report as fn(_, _, _) -> _),
+            ("model", model::class_report),
         ];
-        for (judge, answer) in answers {
-            check(&format!("{judge}: {}", case.what), answer, &case.want);
+        for (judge, call) in judges {
+            let answer = call(&case.corpus, case.work, case.buffer);
+            check(&format!("{judge}: {}", case.what), &answer, &case.want);
         }
     }
 }
 
-fn model(corpus: &[u8], work: u64, buffer: u64) -> Answer {
-    match model::class_report(corpus, work, buffer) {
-        Ok(report) => Answer::Report(report),
-        Err((refusal, block)) => Answer::Refused { refusal, block },
-    }
-}
-
-fn check(what: &str, answer: Answer, want: &Want) {
+fn check(what: &str, answer: &Answer, want: &Want) {
     match (answer, want) {
-        (Answer::Refused { refusal, block }, Want::Refused(number, at)) => {
-            assert_eq!((refusal, block), (*number, *at), "{what}");
+        (Err(refused), Want::Refused(number, block)) => {
+            assert_eq!(*refused, (*number, *block), "{what}");
         }
-        (Answer::Report(report), Want::Report(bytes)) => assert_eq!(report, *bytes, "{what}"),
-        (Answer::Report(report), Want::Rows(want)) => {
-            let got: Vec<_> = first_rows(&report)
+        (Ok(report), Want::Report(bytes)) => assert_eq!(report, bytes, "{what}"),
+        (Ok(report), Want::Rows(want)) => {
+            let got: Vec<_> = first_rows(report)
                 .iter()
                 .map(|row| taken_apart(row))
                 .collect();
@@ -70,11 +64,11 @@ fn check(what: &str, answer: Answer, want: &Want) {
                 .collect();
             assert_eq!(got, want, "{what}");
         }
-        (Answer::Report(report), Want::RowStarts(bytes)) => {
-            assert_eq!(first_rows(&report)[0][..10], *bytes, "{what}");
+        (Ok(report), Want::RowStarts(bytes)) => {
+            assert_eq!(first_rows(report)[0][..10], *bytes, "{what}");
         }
-        (Answer::Report(_), Want::Accepted) => (),
-        (answer, _) => panic!("{what}: the answer is {:#x}", answer.pack()),
+        (Ok(_), Want::Accepted) => (),
+        _ => panic!("{what}: the answer is {:#x}", answer::number(answer)),
     }
 }
 

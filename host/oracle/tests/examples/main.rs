@@ -20,7 +20,7 @@ fn table_of_examples() {
         0, 0, 0, 0, 0, 0, 0, 7, 0, 0, 0, 1, b'A', 0, 0, 0, 0, 0, 0, 0, 0,
     ];
     let section = [&[0, 0, 0, 26, 1, 0, 0, 0, 1][..], &section].concat();
-    run(vec![
+    run(&[
         case("no packages", smallest(), Report(empty)),
         case("version 2", with(smallest(), 4, &[2]), Refused(2, 0)),
         case(
@@ -36,7 +36,7 @@ fn table_of_examples() {
     ]);
 }
 
-fn row_of_x(flags: [u8; 3], class: &'static str, reference: &'static str) -> cases::Want {
+fn row_of_x(flags: [u8; 3], class: &'static str, reference: &'static str) -> Want {
     let [kind, class_known, native_known] = flags;
     Rows(vec![(
         [1, 1, 0, kind, class_known, native_known],
@@ -50,7 +50,7 @@ fn paths() {
     let names: Vec<&str> = names.iter().map(String::as_str).collect();
     let path = format!("n1.n2:{}", names[2..65].join("."));
     let deep = |n: usize| corpus_of(&nested(&names[..n]), &[&one(script_index(n as u64))]);
-    run(vec![
+    run(&[
         case(
             "path of a, b, c, d",
             corpus_of(&nested(&["a", "b", "c", "d"]), &[&one(script_index(4))]),
@@ -70,7 +70,7 @@ fn paths() {
 }
 
 /// The row of `supers`.
-fn row_of_c(native_known: u8, native: &'static str) -> cases::Want {
+fn row_of_c(native_known: u8, native: &'static str) -> Want {
     Rows(vec![(
         [1, 1, 0, 4, 1, native_known],
         ["X", "X_GEN_VARIABLE", "", "/P.C", native, "export:C"],
@@ -81,7 +81,7 @@ fn row_of_c(native_known: u8, native: &'static str) -> cases::Want {
 fn lookups() {
     let class = nested(&["Class"]);
     let last = script_index(1);
-    run(vec![
+    run(&[
         case(
             "64 lookups",
             corpus_of(&class, &[&supers(64, last)]),
@@ -109,7 +109,7 @@ fn numbers_and_ids() {
     importing.hashes = vec![100];
     let defining = supers(1, script_index(1));
     let both = [(7, importing.bytes()), (K2, defining.bytes())];
-    run(vec![
+    run(&[
         case(
             "number 1",
             corpus_of(&no_script(), &[&numbered]),
@@ -152,7 +152,7 @@ fn row_of_tone() {
         ..Package::default()
     };
     let corpus = corpus_of(&no_script(), &[&package]);
-    run(vec![
+    run(&[
         case(
             "its first bytes",
             corpus.clone(),
@@ -175,7 +175,7 @@ fn a_batch_of_0_reads_a_count_alone() {
     let no_entries = vec![0; 8];
     // version, count of 0 entries: read as a count of 0xC1640000 and so negative
     let versioned = [&[0; 4][..], &0xC164_0000u64.to_le_bytes(), &[0; 4]].concat();
-    run(vec![
+    run(&[
         case("no version", corpus_of_blocks(&no_entries, &[]), Accepted),
         case(
             "a version",
@@ -194,7 +194,8 @@ fn a_path_of_a_question_mark_is_known() {
         ("?", script_index(2), NULL),
     ]);
     let native = supers(1, script_index(2));
-    run(vec![
+    let after = |lookups| corpus_of(&marked, &[&supers(lookups, script_index(2))]);
+    run(&[
         case(
             "as the class",
             corpus_of(&marked, &[&one(script_index(2))]),
@@ -210,6 +211,8 @@ fn a_path_of_a_question_mark_is_known() {
             corpus_of(&marked, &[&native]),
             row_of_c(1, "?"),
         ),
+        case("after 64 lookups", after(64), row_of_c(1, "?")),
+        case("after 65 lookups", after(65), row_of_c(0, "?")),
         case(
             "no such object as the native class",
             corpus_of(&script, &[&native]),
@@ -228,7 +231,7 @@ fn a_hash_of_0_is_not_matched() {
     importing.imported = vec![(Text::of(""), 0)];
     importing.hashes = vec![0];
     let both = [(7, importing.bytes()), (K2, hidden.bytes())];
-    run(vec![
+    run(&[
         case(
             "by export",
             corpus_of(&script, &[&hidden]),
@@ -253,7 +256,7 @@ fn the_suffix_is_tested_on_the_base() {
     let mut bare = one(NULL);
     bare.names[1] = Text::of("_GEN_VARIABLE");
     bare.exports[0].number = 3;
-    run(vec![
+    run(&[
         case(
             "the number spelled out in the base",
             corpus_of(&no_script(), &[&spelled_out]),

@@ -34,7 +34,7 @@ fn the_corpus() {
         ),
         refused("framing before blocks", with(faulty_script, 20, &[1])),
     ]);
-    run(cases);
+    run(&cases);
 }
 
 /// Two objects. Batch: headers at 32, strings at 36; count at 38, entries at 42 and 74, end at 106.
@@ -55,7 +55,7 @@ fn script_changed(number: u8, at: usize, new: &[u8]) -> Case {
 fn the_batch() {
     let cut = |n: usize| script_refused(3, &two_objects()[..n]);
     let cut_with_version = with(two_objects(), 8, &[1])[..20].to_vec();
-    run(vec![
+    run(&[
         cut(3),
         cut(7),
         cut(15),
@@ -76,7 +76,7 @@ fn the_script_objects() {
     assert_eq!(two_objects().len(), 106);
     let unnamed_and_twice = [&le(2)[..], &[0; 4], &script_index(1).to_le_bytes()].concat();
     let top_bits = with(two_objects(), 45, &[0xc0]);
-    run(vec![
+    run(&[
         script_refused(3, &two_objects()[..41]),
         script_changed(8, 38, &le(0x8000_0000)),
         script_changed(9, 38, &le(3)),
@@ -113,7 +113,7 @@ fn the_summary() {
         let once = with(empty_a().bytes(), at, &le(new));
         second(number, with(once, then, &le(other)))
     };
-    run(vec![
+    run(&[
         cut(3, 3),
         cut(3, 7),
         cut(15, 8),
@@ -142,7 +142,7 @@ fn the_names_and_the_bulk_data() {
     overrun.names = vec![Text::Utf16(vec![0xdc00]), Text::of("B")];
     // the second header says 2 bytes
     let overrun = with(overrun.bytes(), 52 + 16 + 16 + 3, &[2]);
-    run(vec![
+    run(&[
         changed(4, 60, &[1]),
         second(6, split_pair.bytes()),
         second(6, overrun),
@@ -165,7 +165,7 @@ fn the_regions() {
     let changed = |number, at, new: &[u8]| second(number, with(bytes.clone(), at, new));
     let longer = with([bytes.clone(), vec![0]].concat(), 4, &le(end + 1));
     let nameless = with(with(longer.clone(), 8, &le(1)), 4, &le(end));
-    run(vec![
+    run(&[
         changed(20, 28, &le(94)),
         changed(20, 32, &le(104)),
         changed(20, 28, &le(91)),
@@ -187,7 +187,7 @@ fn the_imported_names() {
     let end = one.len() as u32;
     let mut unnamed = importing(&["/é"]);
     unnamed.name = (1, 0);
-    run(vec![
+    run(&[
         second(3, with(one, 4, &le(end - 1))),
         changed(3, 48, &le(91)),
         second(23, importing(&["/Q", "/é"]).bytes()),
@@ -205,10 +205,8 @@ fn keys_and_buffers() {
     };
     let faulty = [(7, class.clone()), (7, class.clone()), (9, vec![])];
     let single = ids(&[7]);
-    let length = match oracle::report::class_report(&single, 192, u64::MAX) {
-        oracle::report::Answer::Report(report) => report.len() as u64,
-        refused => panic!("{refused:?}"),
-    };
+    let report = oracle::report::class_report(&single, 192, u64::MAX);
+    let length = report.expect("accepted").len() as u64;
     let buffers = |work, buffer, want| Case {
         what: "buffers",
         corpus: single.clone(),
@@ -216,7 +214,7 @@ fn keys_and_buffers() {
         buffer,
         want,
     };
-    run(vec![
+    run(&[
         case(
             "the later class's block",
             ids(&[7, 8, 7, 8]),
@@ -241,7 +239,7 @@ fn rows_far_longer_than_the_corpus() {
     let mut package = one(script_index(65));
     package.exports = vec![package.exports[0]; 10_000];
     let corpus = corpus_of(&nested(&[long.as_str(); 65]), &[&package]);
-    run(vec![Case {
+    run(&[Case {
         buffer: 10_000_000,
         ..case("20 GB of rows", corpus, Refused(26, 0))
     }]);
@@ -251,7 +249,7 @@ fn rows_far_longer_than_the_corpus() {
 #[test]
 fn messages_are_told_by_their_first_words() {
     let quoted = script(&[("package summary: need 4 bytes", 7, NULL)]);
-    run(vec![case(
+    run(&[case(
         "quoted",
         corpus_of_blocks(&quoted, &[]),
         Refused(11, 1),

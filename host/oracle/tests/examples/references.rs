@@ -24,7 +24,7 @@ fn importing(class: u64) -> Vec<u8> {
 
 #[test]
 fn imports() {
-    run(vec![
+    run(&[
         case(
             "a key that no class has",
             importing(import_index(0, 1)),
@@ -52,7 +52,7 @@ fn imports() {
 #[test]
 fn exports() {
     let most = (1 << 62) - 1;
-    run(vec![
+    run(&[
         case(
             "itself, which is no class",
             of(&one(0)),
@@ -94,7 +94,7 @@ fn a_candidate_of_kind_2() {
         ..Package::default()
     };
     let texts = ["Sub_4", "Sub_4", "Default__é🎯_2", "?", "?", "null"];
-    run(vec![case(
+    run(&[case(
         "below a default object",
         of(&package),
         Rows(vec![([1, 2, 0, 6, 0, 0], texts)]),

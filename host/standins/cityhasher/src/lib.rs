@@ -1,5 +1,9 @@
 //! Stand-in for the crate `cityhasher`, of which the reference calls `cityhasher::hash(Vec<u8>) -> u64` alone:
 //! the published CityHash64 v1.1 (google/cityhash, city.cc).
+#![expect(
+    clippy::many_single_char_names,
+    reason = "the letters are those of city.cc"
+)]
 
 const K0: u64 = 0xc3a5_c85c_97cb_3127;
 const K1: u64 = 0xb492_b66f_be98_f273;
@@ -116,7 +120,7 @@ fn len33to64(s: &[u8]) -> u64 {
     b.wrapping_add(x)
 }
 
-/// WeakHashLen32WithSeeds over the 32 bytes at a place.
+/// `WeakHashLen32WithSeeds` over the 32 bytes at a place.
 fn weak(s: &[u8], at: usize, a: u64, b: u64) -> (u64, u64) {
     let [w, x, y, z] = [0, 8, 16, 24].map(|i| fetch64(s, at + i));
     let a = a.wrapping_add(w);

@@ -8,9 +8,6 @@ use corpus::{Export, Package, Text};
 use oracle::frame::parts;
 use oracle::zen::parse_package_header;
 
-#[path = "../../../bench/src/clock.rs"]
-mod clock;
-
 const ROUNDS: usize = 9;
 
 /// The best time of a function.
@@ -72,7 +69,7 @@ fn read(bytes: usize) {
 
 fn main() {
     if std::env::args().len() > 1 {
-        eprintln!("usage: zen_bench (it takes no arguments)");
+        eprintln!("usage: layer2 (it takes no arguments)");
         std::process::exit(2);
     }
     for (names, exports) in [(256, 200), (4_096, 3_000), (65_536, 50_000)] {

@@ -1,0 +1,73 @@
+//! The longest report that there can be, and one of a byte more, asked of the oracle and of the model. Each builds its
+//! report whole, some 4.3 GB, so this is no part of the gate.
+use std::process::ExitCode;
+
+use answer::Answer;
+use clock::timed;
+use corpus::census::census;
+use corpus::generate::sized;
+
+const USAGE: &str = "usage: longest (it takes no arguments)
+Asks oracle and model about a report of 4,294,967,299 bytes and about one above, one after the other. It wants some 5 GB
+of memory and a minute or two.";
+
+/// "Report at most 4,294,967,299 bytes": said here once more, beside what oracle and model each have.
+const MOST: u64 = 4_294_967_299;
+
+type Call = fn(&[u8], u64, u64) -> Answer;
+
+const JUDGES: [(&str, Call); 2] = [
+    ("oracle", oracle::report::class_report),
+    ("model", model::class_report),
+];
+
+/// A report's length and sum, since two such reports would not fit in most memories; or the refusal.
+type Told = Result<(u64, u64), answer::Refusal>;
+
+/// Asks both about a corpus with such a report, with buffers that just hold it; whether they say the same, and rightly.
+fn ask(report: u64) -> bool {
+    let described = sized(report);
+    let corpus = described.bytes();
+    let rows = described.packages[0].1.exports.len();
+    println!(
+        "a report of {report} bytes, of a corpus of {} bytes with {rows} rows",
+        corpus.len()
+    );
+    let work = census(&corpus).work();
+    let told = JUDGES.map(|(judge, call)| {
+        let (answer, time) = timed(|| call(&corpus, work, report));
+        let number = answer::number(&answer);
+        let told = answer.map(|report| (report.len() as u64, cityhasher::hash(report)));
+        let shown = match told {
+            Ok((length, sum)) => format!("a report of {length} bytes, CityHash64 {sum:#018x}"),
+            Err((refusal, block)) => format!("refusal {refusal}, block {block}"),
+        };
+        let seconds = time.as_secs_f64();
+        println!("  {judge}: {number:#018x}, {shown}; {seconds:.1} s");
+        told
+    });
+    right(report, &told[0]) && told[0] == told[1]
+}
+
+fn right(report: u64, told: &Told) -> bool {
+    match told {
+        Ok((length, _)) => report <= MOST && *length == report,
+        Err(refusal) => report > MOST && *refusal == (26, 0),
+    }
+}
+
+fn main() -> ExitCode {
+    if std::env::args().len() > 1 {
+        eprintln!("{USAGE}");
+        return ExitCode::from(2);
+    }
+    println!("processor time");
+    // Both are asked, whatever the first gives.
+    let right = [MOST, MOST + 1].map(ask);
+    if right == [true, true] {
+        println!("as document 01 says");
+        return ExitCode::SUCCESS;
+    }
+    println!("not as document 01 says");
+    ExitCode::FAILURE
+}
