@@ -1,6 +1,6 @@
 -- Lemmas for the id of a name: its units one by one, their bytes as they are written, and the turns of the hash over them. Assumes nothing.
 use mathlib.Core.Path.{_≡_, sym, _∙_, ap}
-use mathlib.Core.Bool.{Bool}
+use mathlib.Core.Bool.{Bool, true}
 use mathlib.Core.List.{List, _++_, append-assoc, append-nil}
 use Prim.Native.Nat.{ℕ, _+_, _*_, _-_, _/_, _%_, _≤_, _<_}
 use native.Mathlib.Numerals.{add-one}
@@ -9,37 +9,44 @@ use lib.Dec.{lit≤}
 use lib.ListN.{length, set, getD, take, drop, length-append, length-take, length-drop, drop-of-length-le, List·getD-append}
 use lib.Seq.{take-suc, take-all, getD-append-add}
 use Rattle.text.specs.Number.{leAt}
-use Rattle.text.specs.NumberLaws.{leAt-part}
+use Rattle.text.specs.NumberLaws.{Bytes, leAt-part}
 use Rattle.text.specs.Output.{over, Wrote}
 use Rattle.text.specs.OutputLaws.{wrote-byte, wrote-as, wrote-count, wrote-taken}
-use Rattle.text.specs.Utf16.{unitBytes}
-use Rattle.text.specs.Lower.{lower, lowered}
-use Rattle.text.specs.LowerLaws.{lowered-length, lowered-at}
+use Rattle.text.specs.Utf16.{isWell, encode16, unitBytes}
+use Rattle.text.specs.Name.{decoded, base}
+use Rattle.text.specs.LowerAscii.{lowerAscii}
+use Rattle.text.specs.Lower.{lowered}
+use Rattle.text.specs.LowerLaws.{lowered-units, lowered-unit}
 use Rattle.text.specs.City.{turn, turns, start, finish, cityHash64}
 use Rattle.text.specs.CityLaws.{turns-at, long-is}
 use Rattle.text.specs.declared.city.State.{State}
 use Rattle.text.specs.Units.{unitsOf, nameUnits}
+use Rattle.text.specs.UnitsLaws.{base-units}
 use Rattle.text.specs.IdLaws.{unitBytes-length, unitBytes-append, unitBytes-take, unitBytes-drop}
 
-module _ (wide : Bool) (part suffix : List ℕ) where
-  pub name-length : length (nameUnits wide part suffix) ≡ length (unitsOf wide part) + length suffix
+module _ (wide : Bool) (part suffix : List ℕ) (b : Bytes part) (w : isWell (decoded wide part) ≡ true) where
+  -- lowering keeps the number of units
+  base-length : length (encode16 (lowered (base wide part))) ≡ length (unitsOf wide part)
+  base-length = rw (lowered-units, base-units wide part b w .0)
+
+  pub name-length : length (nameUnits (base wide part) suffix) ≡ length (unitsOf wide part) + length suffix
   unfolding nameUnits
-  name-length = rw (length-append, lowered-length)
+  name-length = rw (length-append, base-length)
 
   -- a unit of the part
-  pub part-unit : (i : ℕ) → i < length (unitsOf wide part) → getD (nameUnits wide part suffix) i 0 ≡ lower (getD (unitsOf wide part) i 0)
+  pub part-unit : (i : ℕ) → i < length (unitsOf wide part) → getD (nameUnits (base wide part) suffix) i 0 ≡ lowerAscii (getD (unitsOf wide part) i 0)
   unfolding nameUnits
   part-unit i h =
-      let l : i < length (lowered (unitsOf wide part)) = rw lowered-length h in
-      List·getD-append (lowered (unitsOf wide part)) suffix 0 i l ∙ lowered-at (unitsOf wide part) i h
+      let l : i < length (encode16 (lowered (base wide part))) = rw base-length h in
+      List·getD-append (encode16 (lowered (base wide part))) suffix 0 i l ∙ (lowered-unit (base wide part) i ∙ rw (base-units wide part b w .0))
 
   -- a unit of the suffix
-  pub suffix-unit : (i : ℕ) → length (unitsOf wide part) ≤ i → getD (nameUnits wide part suffix) i 0 ≡ getD suffix (i - length (unitsOf wide part)) 0
+  pub suffix-unit : (i : ℕ) → length (unitsOf wide part) ≤ i → getD (nameUnits (base wide part) suffix) i 0 ≡ getD suffix (i - length (unitsOf wide part)) 0
   unfolding nameUnits
   suffix-unit i h =
-      let us : List ℕ = unitsOf wide part in
-      let e : i ≡ length (lowered us) + (i - length us) = omega (arith, lowered-length us) in
-      ap (λ (k : ℕ). getD (lowered us ++ suffix) k 0) e ∙ getD-append-add (lowered us) suffix (i - length us) 0
+      let us : List ℕ = encode16 (lowered (base wide part)) in
+      let e : i ≡ length us + (i - length (unitsOf wide part)) = omega (arith, base-length) in
+      ap (λ (k : ℕ). getD (us ++ suffix) k 0) e ∙ getD-append-add us suffix (i - length (unitsOf wide part)) 0
 
 -- ---- writing
 
@@ -87,7 +94,8 @@ turns-next k from us t h =
 
 -- the hash of more than 32 units, as the code computes it
 pub long-units : (us : List ℕ) (n : ℕ) → n ≡ length us → 32 < n
-    → cityHash64 (unitBytes us) ≡ finish (turns ((2 * n - 1) / 64) (unitBytes us) (start (2 * n) (unitBytes (take 32 (drop (n - 32) us))) (leAt 8 (unitBytes us) 0)))
+    → cityHash64 (unitBytes us)
+    ≡ finish (turns ((2 * n - 1) / 64) (unitBytes us) (start (2 * n) (unitBytes (take 32 (drop (n - 32) us))) (leAt 8 (unitBytes us) 0)))
 long-units us n e h =
     let l : length (unitBytes us) ≡ 2 * n = unitBytes-length us ∙ ap (λ (k : ℕ). 2 * k) (sym e) in
     let d : 2 * (n - 32) ≡ 2 * n - 64 = omega arith in

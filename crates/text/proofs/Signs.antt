@@ -78,7 +78,8 @@ module _ {w : Width} (z : ℤ) (f : SFits w z) where
   pub no-size : ltZ (toZ w (ofZ w z)) (pos 0) ≡ true → Negative ≡ sizeOf z
   no-size e = below-zero z (rw (toZ-ofZ f) at e)
 
-  pub size-fits : {v : Width} → T (ltb (hbits w) (bits v)) → ltZ (toZ w (ofZ w z)) (pos 0) ≡ false → T (nonNeg (toZ w (ofZ w z))) × Fits v (natAbs (toZ w (ofZ w z)))
+  pub size-fits : {v : Width} → T (ltb (hbits w) (bits v)) → ltZ (toZ w (ofZ w z)) (pos 0) ≡ false
+      → T (nonNeg (toZ w (ofZ w z))) × Fits v (natAbs (toZ w (ofZ w z)))
   size-fits t e = rw (toZ-ofZ f) (not-below-zero z (rw (toZ-ofZ f) at e), fits-natAbs t f)
 
   pub some-size : ltZ (toZ w (ofZ w z)) (pos 0) ≡ false → Of (natAbs (toZ w (ofZ w z))) ≡ sizeOf z

@@ -12,13 +12,15 @@ use Rattle.text.specs.Word.{swap}
 pos : (k : ℕ) → zero < 256 ^ k
 pos k = one-le-pow k 256 (zero-lt-suc 255)
 
-swap-suc : (k m x : ℕ) → swap (k + m) (x / 256) ≡ swap k (x / 256) * 256 ^ m + swap m (x / 256 / 256 ^ k) → swap (suc k + m) x ≡ swap (suc k) x * 256 ^ m + swap m (x / 256 ^ suc k)
+swap-suc : (k m x : ℕ) → swap (k + m) (x / 256) ≡ swap k (x / 256) * 256 ^ m + swap m (x / 256 / 256 ^ k)
+    → swap (suc k + m) x ≡ swap (suc k) x * 256 ^ m + swap m (x / 256 ^ suc k)
 unfolding swap
 swap-suc k m x e =
     ap (λ (n : ℕ). swap n x) (suc-add k m)
     ∙ ap₂ (λ (p y : ℕ). x % 256 * p + y) (pow-add 256 k m) e
     ∙ regroup (x % 256) (256 ^ k) (256 ^ m) (swap k (x / 256)) (swap m (x / 256 / 256 ^ k))
-    ∙ ap (λ (n : ℕ). (x % 256 * 256 ^ k + swap k (x / 256)) * 256 ^ m + swap m n) (div-div-eq-div-mul x 256 (256 ^ k) ∙ ap (λ (n : ℕ). x / n) (mul-comm 256 (256 ^ k) ∙ sym (pow-suc 256 k)))
+    ∙ ap (λ (n : ℕ). (x % 256 * 256 ^ k + swap k (x / 256)) * 256 ^ m + swap m n)
+    (div-div-eq-div-mul x 256 (256 ^ k) ∙ ap (λ (n : ℕ). x / n) (mul-comm 256 (256 ^ k) ∙ sym (pow-suc 256 k)))
   where
     regroup : (d p q a b : ℕ) → d * (p * q) + (a * q + b) ≡ (d * p + a) * q + b
     regroup d p q a b = simp (add-mul, mul-assoc, add-assoc)
@@ -57,7 +59,8 @@ top x h = omega arith
 
 -- what `swap32` computes
 pub swap-4 : (x : ℕ) → x < 2 ^ 32
-    → bitOr (bitOr (bitOr ((bitAnd x 0xff * 2 ^ 24) % 2 ^ 32) ((bitAnd (x / 2 ^ 8) 0xff * 2 ^ 16) % 2 ^ 32)) ((bitAnd (x / 2 ^ 16) 0xff * 2 ^ 8) % 2 ^ 32)) (x / 2 ^ 24) ≡ swap 4 x
+    → bitOr (bitOr (bitOr ((bitAnd x 0xff * 2 ^ 24) % 2 ^ 32) ((bitAnd (x / 2 ^ 8) 0xff * 2 ^ 16) % 2 ^ 32))
+    ((bitAnd (x / 2 ^ 16) 0xff * 2 ^ 8) % 2 ^ 32)) (x / 2 ^ 24) ≡ swap 4 x
 swap-4 x h =
     rw (and-mask x 8, and-mask (x / 2 ^ 8) 8, and-mask (x / 2 ^ 16) 8)
     (or-4 (x / 2 ^ 24) (x / 2 ^ 16 % 2 ^ 8) (x / 2 ^ 8 % 2 ^ 8) (x % 2 ^ 8) (top x h) (low (x / 2 ^ 16)) (low (x / 2 ^ 8)) (low x) ∙ sums x h)

@@ -31,7 +31,9 @@ halves-mod P a0 a1 b0 b1 =
     ∙ ap (λ (x : ℕ). x % (P * P)) (sym (columns P a0 a1 b0 b1))
 
 -- what `mul` computes
-pub mul-law : (a b : ℕ) → ((((a / 2 ^ 32 * bitAnd b 0xffff_ffff + bitAnd a 0xffff_ffff * (b / 2 ^ 32)) % 2 ^ 64) * 2 ^ 32) % 2 ^ 64 + bitAnd a 0xffff_ffff * bitAnd b 0xffff_ffff) % 2 ^ 64 ≡ mulw a b
+pub mul-law : (a b : ℕ) →
+    ((((a / 2 ^ 32 * bitAnd b 0xffff_ffff + bitAnd a 0xffff_ffff * (b / 2 ^ 32)) % 2 ^ 64) * 2 ^ 32) % 2 ^ 64 + bitAnd a 0xffff_ffff * bitAnd
+    b 0xffff_ffff) % 2 ^ 64 ≡ mulw a b
 unfolding mulw
 mul-law a b =
     ap₂ (λ (x y : ℕ). ((((a / 2 ^ 32 * y + x * (b / 2 ^ 32)) % 2 ^ 64) * 2 ^ 32) % 2 ^ 64 + x * y) % 2 ^ 64) (and-mask a 32) (and-mask b 32)

@@ -103,7 +103,8 @@ unfoldable pub len33to64 : List ℕ → ℕ
 len33to64 s =
     let n = length s in
     let m = mulOf n in
-    mix8 (mulw (leAt 8 s 0) k2) (leAt 8 s 8) (leAt 8 s (n - 24)) (leAt 8 s (n - 32)) (mulw (leAt 8 s 16) k2) (mulw (leAt 8 s 24) 9) (leAt 8 s (n - 8)) (mulw (leAt 8 s (n - 16)) m) m
+    mix8 (mulw (leAt 8 s 0) k2) (leAt 8 s 8) (leAt 8 s (n - 24)) (leAt 8 s (n - 32)) (mulw (leAt 8 s 16) k2) (mulw (leAt 8 s 24) 9) (leAt 8 s (n - 8))
+    (mulw (leAt 8 s (n - 16)) m) m
 
 -- ---- more than 64 bytes
 

@@ -71,7 +71,8 @@ turns-end zero s t h = refl
 turns-end (suc k) s t h = absurd (not-suc-le-zero h)
 
 -- the hash of more than 64 bytes: of its last 64, its first word and the turns
-pub long-is : (s : List ℕ) → 64 < length s → cityHash64 s ≡ finish (turns ((length s - 1) / 64) s (start (length s) (take 64 (drop (length s - 64) s)) (leAt 8 s 0)))
+pub long-is : (s : List ℕ) → 64 < length s
+    → cityHash64 s ≡ finish (turns ((length s - 1) / 64) s (start (length s) (take 64 (drop (length s - 64) s)) (leAt 8 s 0)))
 unfolding cityHash64 longer
 long-is s h =
     rw (

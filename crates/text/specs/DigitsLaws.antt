@@ -165,4 +165,5 @@ hexDigit-small d h = go (ltb d 10)
 pub hex-ascii : (k n : ℕ) → allAscii (hex k n) ≡ true
 unfolding hex
 hex-ascii zero n = refl
-hex-ascii (suc k) n = ascii-append (hex k (n / 16)) (hexDigit (n % 16) ∷ []) (hex-ascii k (n / 16)) (ascii-one (hexDigit (n % 16)) (hexDigit-small (n % 16) (omega arith)))
+hex-ascii (suc k) n =
+    ascii-append (hex k (n / 16)) (hexDigit (n % 16) ∷ []) (hex-ascii k (n / 16)) (ascii-one (hexDigit (n % 16)) (hexDigit-small (n % 16) (omega arith)))

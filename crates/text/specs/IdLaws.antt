@@ -1,7 +1,5 @@
--- Laws of the id of a name: lowering and encoding change places, so that the id is the hash of units that are read one at
--- a time; and the bytes of units, in parts. Assumes nothing.
-use mathlib.Core.Path.{_≡_, refl}
-use mathlib.Core.Bool.{Bool, true}
+-- Laws of the id of a name: the units that are hashed, and the bytes of units, in parts. Assumes nothing.
+use mathlib.Core.Path.{_≡_, refl, _∙_}
 use mathlib.Core.List.{List, [], _∷_, _++_}
 use mathlib.Core.Logic.{by-cases}
 use Prim.Native.Nat.{ℕ, zero, suc, _+_, _*_, _-_, _%_, _/_, _<_}
@@ -9,58 +7,39 @@ use native.Mathlib.Decide.{decLt}
 use native.Mathlib.Omega.{arith}
 use lib.ListN.{length, take, drop}
 use borrow.Author.Tests.{lt-ltb, le-ltb}
-use Rattle.text.specs.NumberLaws.{Bytes}
-use Rattle.text.specs.Utf16.{isWell, encodeOne, encode16, unitBytes}
+use Rattle.text.specs.Utf16.{encode16, unitBytes}
 use Rattle.text.specs.Utf16Laws.{encode-append, encode-ascii}
 use Rattle.text.specs.Digits.{digits, decimal}
-use Rattle.text.specs.Name.{decoded, suffix, rendered}
+use Rattle.text.specs.Name.{suffix}
 use Rattle.text.specs.NameLaws.{suffix-ascii}
 use Rattle.text.specs.Lower.{lower, lowered}
-use Rattle.text.specs.LowerLaws.{lower-above, lower-below, lower-unit, lowered-append}
+use Rattle.text.specs.LowerAsciiLaws.{ascii-below, ascii-above}
+use Rattle.text.specs.LowerLaws.{lower-is, lowered-append}
 use Rattle.text.specs.Units.{nameUnits}
-use Rattle.text.specs.UnitsLaws.{base-units}
 
--- ---- lowering
-
--- A to Z are one unit each, and no half of a pair is one of them
-one-lowered : (c : ℕ) → encodeOne (lower c) ≡ lowered (encodeOne c)
-unfolding encodeOne
-one-lowered c =
-    by-cases (decLt c 65536)
-    (λ (h : c < 65536). rw (lt-ltb c 65536 h, lt-ltb (lower c) 65536 (lower-unit c h)))
-    (λ (h : ¬ (c < 65536)). rw (
-      lower-above c (omega arith),
-      le-ltb c 65536 (omega arith),
-      lower-above (55296 + (c - 65536) / 1024) (omega arith),
-      lower-above (56320 + (c - 65536) % 1024) (omega arith),
-    ))
-
-pub encode-lowered : (t : List ℕ) → encode16 (lowered t) ≡ lowered (encode16 t)
-unfolding encode16
-encode-lowered [] = refl
-encode-lowered (c ∷ t) = rw (one-lowered c, encode-lowered t, lowered-append)
+-- ---- names
 
 -- an instance number has no letter
+lower-plain : (c : ℕ) → c < 65 → lower c ≡ c
+lower-plain c h = lower-is c ∙ ascii-below c h
+
 digits-lowered : (f n : ℕ) → lowered (digits f n) ≡ digits f n
 unfolding digits
 digits-lowered zero n = refl
 digits-lowered (suc f) n =
     by-cases (decLt n 10)
-    (λ (h : n < 10). rw (lt-ltb n 10 h, lower-below (48 + n) (omega arith)))
-    (λ (h : ¬ (n < 10)). rw (le-ltb n 10 (omega arith), lowered-append, digits-lowered f (n / 10), lower-below (48 + n % 10) (omega arith)))
+    (λ (h : n < 10). rw (lt-ltb n 10 h, lower-plain (48 + n) (omega arith)))
+    (λ (h : ¬ (n < 10)). rw (le-ltb n 10 (omega arith), lowered-append, digits-lowered f (n / 10), lower-plain (48 + n % 10) (omega arith)))
 
 pub suffix-lowered : (n : ℕ) → lowered (suffix n) ≡ suffix n
 unfolding decimal
 suffix-lowered zero = refl
-suffix-lowered (suc n) = rw (lower-above 95 (omega arith), digits-lowered)
+suffix-lowered (suc n) = rw (lower-is 95, ascii-above 95 (omega arith), digits-lowered)
 
--- ---- names
-
--- the units of a lowered name: those of its part, lowered, and those of its number
-pub name-units : (wide : Bool) (part : List ℕ) (number : ℕ) → Bytes part → isWell (decoded wide part) ≡ true → encode16 (lowered (rendered wide part number)) ≡ nameUnits wide part (suffix number)
+-- the units of a lowered name: those of its lowered base, and its number as it stands
+pub name-units : (base : List ℕ) (number : ℕ) → encode16 (lowered (base ++ suffix number)) ≡ nameUnits base (suffix number)
 unfolding nameUnits
-name-units wide part number b h =
-    rw (encode-lowered, encode-append, lowered-append, base-units wide part b h .0, encode-ascii (suffix number) (suffix-ascii number), suffix-lowered)
+name-units base number = rw (lowered-append, suffix-lowered, encode-append, encode-ascii (suffix number) (suffix-ascii number))
 
 -- ---- the bytes of units
 

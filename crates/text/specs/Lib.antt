@@ -1,7 +1,12 @@
 -- Layer 1's definitions, each with its laws beside it.
 
--- ---- Choosing by a test
+-- ---- Choosing by a test; lists
+pub mod Never
 pub mod Choose
+pub mod Find
+pub mod FindLaws
+pub mod LoopLaws
+pub mod Perm
 -- ---- Numbers: in bytes, signed, written to the front of a buffer
 pub mod Number
 pub mod NumberLaws
@@ -27,8 +32,12 @@ pub mod Digits
 pub mod DigitsLaws
 pub mod Name
 pub mod NameLaws
+pub mod NameLength
 pub mod Affix
 pub mod AffixLaws
+pub mod PlainLaws
+pub mod LowerAscii
+pub mod LowerAsciiLaws
 pub mod Lower
 pub mod LowerLaws
 -- ---- Hash: words of 64 bits, CityHash64, the id of a name
@@ -42,8 +51,17 @@ pub mod IdLaws
 pub mod Reading
 pub mod ReadingLaws
 pub mod ReadingRows
+pub mod Seek
+pub mod SeekLaws
 pub mod ReadingFront
 pub mod ReadingGives
 pub mod ReadingMarks
 pub mod ReadingRewrite
 pub mod ReadingTrail
+pub mod ReadingRefusals
+-- ---- The house form: length first, big-endian
+pub mod House
+pub mod HouseLaws
+-- ---- All of it computed at its edges
+pub mod Examples
+pub mod ReadingExamples

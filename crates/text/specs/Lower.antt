@@ -1,13 +1,14 @@
--- Lowering a name for its id (document 01: "with A to Z lowered"). Assumes nothing.
-use mathlib.Core.Bool.{cond, _&&_}
+-- Lowering a name for its id (document 01: "the UTF-16LE text with A to Z lowered"). Assumes nothing.
 use mathlib.Core.List.{List, [], _∷_}
-use Prim.Native.Nat.{ℕ, _+_}
-use lib.Dec.{leb}
+use Prim.Native.Nat.{ℕ}
+use Rattle.text.specs.LowerAscii.{lowerAscii}
 
--- A to Z become a to z; every other scalar value stays
+-- the lower-case form of a scalar value: of A to Z alone. To unfold `lower` is to unfold `lowerAscii`
 unfoldable pub lower : ℕ → ℕ
-lower c = cond (leb 65 c && leb c 90) (c + 32) c
+unfolding lowerAscii
+lower c = lowerAscii c
 
+-- a text, scalar value by scalar value
 abbrev pub lowered : List ℕ → List ℕ
 lowered [] = []
 lowered (c ∷ t) = lower c ∷ lowered t

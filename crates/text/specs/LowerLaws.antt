@@ -1,48 +1,27 @@
--- Laws of lowering: what it leaves alone, and that it keeps scalar values, units and positions. Assumes nothing.
-use mathlib.Core.Path.{_≡_, refl, ap}
-use mathlib.Core.Bool.{Bool, true, false, cond, _&&_, and-eq-true-iff}
-use mathlib.Core.List.{List, [], _∷_, _++_}
-use mathlib.Core.Logic.{_⊎_, inl, inr}
-use Prim.Native.Nat.{ℕ, zero, suc, _+_, _≤_, _<_}
+-- Laws of lowering: A to Z and nothing else; of a text, of its units. Assumes nothing.
+use mathlib.Core.Path.{_≡_, refl, _∙_, ap}
+use mathlib.Core.List.{List, [], _∷_, _++_, map, map-append}
+use mathlib.Core.Logic.{_⊎_, inl, inr, by-cases}
+use Prim.Native.Nat.{ℕ, _+_, _-_, _/_, _%_, _≤_, _<_}
+use native.Mathlib.Decide.{decLt}
 use native.Mathlib.Omega.{arith}
-use borrow.Author.Tests.{le-leb, lt-leb, leb-true}
-use lib.Dec.{leb}
-use lib.ListN.{length, getD}
-use Rattle.text.specs.Utf16.{Scalar, Scalars}
+use lib.ListN.{length, getD, length-map, List·getD-map}
+use borrow.Author.Tests.{lt-ltb, le-ltb}
+use Rattle.text.specs.Utf16.{Scalar, Scalars, encodeOne, encode16}
+use Rattle.text.specs.LowerAscii.{lowerAscii}
+use Rattle.text.specs.LowerAsciiLaws.{ascii-above, ascii-cases, ascii-unit}
 use Rattle.text.specs.Lower.{lower, lowered}
 
-pub lower-below : (c : ℕ) → c < 65 → lower c ≡ c
+pub lower-is : (c : ℕ) → lower c ≡ lowerAscii c
 unfolding lower
-lower-below c h = rw (lt-leb _ _ h)
+lower-is c = refl
 
-pub lower-above : (c : ℕ) → 90 < c → lower c ≡ c
-unfolding lower
-lower-above c h = let a : 65 ≤ c = omega arith in rw (le-leb _ _ a, lt-leb _ _ h)
-
-pub lower-letter : (c : ℕ) → 65 ≤ c → c ≤ 90 → lower c ≡ c + 32
-unfolding lower
-lower-letter c a h = rw (le-leb _ _ a, le-leb _ _ h)
-
--- either c is a letter A to Z, or it stays
-pub lower-cases : (c : ℕ) → ((c ≤ 90) × (lower c ≡ c + 32)) ⊎ (lower c ≡ c)
-unfolding lower
-lower-cases c = go (leb 65 c && leb c 90) refl
-  where
-    go : (b : Bool) → leb 65 c && leb c 90 ≡ b → ((c ≤ 90) × (cond b (c + 32) c ≡ c + 32)) ⊎ (cond b (c + 32) c ≡ c)
-    go true e = inl (leb-true c 90 (and-eq-true-iff (leb 65 c) (leb c 90) .0 e .1), refl)
-    go false e = inr refl
-
-pub lower-unit : (c : ℕ) → c < 65536 → lower c < 65536
-lower-unit c h = go (lower-cases c)
-  where
-    go : ((c ≤ 90) × (lower c ≡ c + 32)) ⊎ (lower c ≡ c) → lower c < 65536
-    go (inl w) = omega arith
-    go (inr w) = omega arith
+-- ---- texts
 
 pub lower-scalar : (c : ℕ) → Scalar c → Scalar (lower c)
-lower-scalar c k = go (lower-cases c)
+lower-scalar c k = rw (lower-is c) (go (ascii-cases c))
   where
-    go : ((c ≤ 90) × (lower c ≡ c + 32)) ⊎ (lower c ≡ c) → Scalar (lower c)
+    go : ((c ≤ 90) × (lowerAscii c ≡ c + 32)) ⊎ (lowerAscii c ≡ c) → Scalar (lowerAscii c)
     go (inl w) = inl (omega arith)
     go (inr w) = rw w k
 
@@ -54,11 +33,33 @@ pub lowered-append : (t u : List ℕ) → lowered (t ++ u) ≡ lowered t ++ lowe
 lowered-append [] u = refl
 lowered-append (c ∷ t) u = ap (λ (s : List ℕ). lower c ∷ s) (lowered-append t u)
 
-pub lowered-length : (t : List ℕ) → length (lowered t) ≡ length t
-lowered-length [] = refl
-lowered-length (c ∷ t) = ap suc (lowered-length t)
+-- ---- units
 
-pub lowered-at : (t : List ℕ) (i : ℕ) → i < length t → getD (lowered t) i 0 ≡ lower (getD t i 0)
-lowered-at [] i h = absurd (omega arith)
-lowered-at (c ∷ t) zero h = refl
-lowered-at (c ∷ t) (suc i) h = lowered-at t i (omega arith)
+-- A to Z are one unit each, and no half of a pair is one of them
+one-lowered : (c : ℕ) → encodeOne (lower c) ≡ map lowerAscii (encodeOne c)
+unfolding encodeOne
+one-lowered c =
+    rw (lower-is c)
+    (by-cases (decLt c 65536)
+    (λ (h : c < 65536). rw (lt-ltb c 65536 h, lt-ltb (lowerAscii c) 65536 (ascii-unit c h)))
+    (λ (h : ¬ (c < 65536)). rw (
+      ascii-above c (omega arith),
+      le-ltb c 65536 (omega arith),
+      ascii-above (55296 + (c - 65536) / 1024) (omega arith),
+      ascii-above (56320 + (c - 65536) % 1024) (omega arith),
+    )))
+
+-- so the units of a lowered text are those of the text, each lowered by itself
+encode-lowered : (t : List ℕ) → encode16 (lowered t) ≡ map lowerAscii (encode16 t)
+unfolding encode16
+encode-lowered [] = refl
+encode-lowered (c ∷ t) = rw (one-lowered c, encode-lowered t, map-append)
+
+-- as many as before
+pub lowered-units : (t : List ℕ) → length (encode16 (lowered t)) ≡ length (encode16 t)
+lowered-units t = rw (encode-lowered t, length-map)
+
+-- unit i
+pub lowered-unit : (t : List ℕ) (i : ℕ) → getD (encode16 (lowered t)) i 0 ≡ lowerAscii (getD (encode16 t) i 0)
+unfolding lowerAscii
+lowered-unit t i = ap (λ (us : List ℕ). getD us i 0) (encode-lowered t) ∙ List·getD-map lowerAscii (encode16 t) i 0

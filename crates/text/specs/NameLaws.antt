@@ -39,7 +39,8 @@ suffix-fits (suc n) h = omega (arith, decimal-fits 9 n (omega arith))
 pub rendered-bytes : (wide : Bool) (part : List ℕ) (number : ℕ) → utf8 (rendered wide part number) ≡ utf8 (base wide part) ++ suffix number
 rendered-bytes wide part number = utf8-append (base wide part) (suffix number) ∙ rw (utf8-ascii (suffix number) (suffix-ascii number))
 
-pub rendered-length : (wide : Bool) (part : List ℕ) (number : ℕ) → length (utf8 (rendered wide part number)) ≡ length (utf8 (base wide part)) + length (suffix number)
+pub rendered-length : (wide : Bool) (part : List ℕ) (number : ℕ)
+    → length (utf8 (rendered wide part number)) ≡ length (utf8 (base wide part)) + length (suffix number)
 rendered-length wide part number = ap length (rendered-bytes wide part number) ∙ length-append (utf8 (base wide part)) (suffix number)
 
 pub textBytes-length : (t : List ℕ) → length (textBytes t) ≡ 4 + length (utf8 t)

@@ -35,6 +35,16 @@ bytes-part k a s b = bytes-take k (drop a s) (λ i. rw (getD-drop a s i 0) (b (a
 
 -- ---- a read
 
+-- the number at a place is that of the bytes from there on, as readings take them
+pub leAt-is : (k : ℕ) (s : List ℕ) (at : ℕ) → leAt k s at ≡ le (take k (drop at s))
+unfolding leAt
+leAt-is k s at = refl
+
+-- the same, big-endian
+pub beAt-is : (k : ℕ) (s : List ℕ) (at : ℕ) → beAt k s at ≡ be (take k (drop at s))
+unfolding beAt
+beAt-is k s at = refl
+
 -- only the bytes read count
 pub leAt-same : (k : ℕ) (s t : List ℕ) (a b : ℕ) → take k (drop a s) ≡ take k (drop b t) → leAt k s a ≡ leAt k t b
 unfolding leAt
@@ -149,11 +159,13 @@ pub beAt-2 : (s : List ℕ) (at : ℕ) → at + 2 ≤ length s → beAt 2 s at �
 beAt-2 s at h = beAt-add 1 1 s at (omega arith) ∙ rw (beAt-one s at, beAt-one s (at + 1))
 
 -- four bytes, written out
-pub leAt-4 : (s : List ℕ) (at : ℕ) → at + 4 ≤ length s → leAt 4 s at ≡ getD s at 0 + getD s (at + 1) 0 * 256 + getD s (at + 2) 0 * 256 ^ 2 + getD s (at + 3) 0 * 256 ^ 3
+pub leAt-4 : (s : List ℕ) (at : ℕ) → at + 4 ≤ length s
+    → leAt 4 s at ≡ getD s at 0 + getD s (at + 1) 0 * 256 + getD s (at + 2) 0 * 256 ^ 2 + getD s (at + 3) 0 * 256 ^ 3
 leAt-4 s at h = leAt-add 2 2 s at (omega arith) ∙ rw (leAt-2 s at (omega arith), leAt-2 s (at + 2) (omega arith), add-assoc at 2 1) (omega arith)
 
 -- the same, big-endian
-pub beAt-4 : (s : List ℕ) (at : ℕ) → at + 4 ≤ length s → beAt 4 s at ≡ getD s (at + 3) 0 + getD s (at + 2) 0 * 256 + getD s (at + 1) 0 * 256 ^ 2 + getD s at 0 * 256 ^ 3
+pub beAt-4 : (s : List ℕ) (at : ℕ) → at + 4 ≤ length s
+    → beAt 4 s at ≡ getD s (at + 3) 0 + getD s (at + 2) 0 * 256 + getD s (at + 1) 0 * 256 ^ 2 + getD s at 0 * 256 ^ 3
 beAt-4 s at h = beAt-add 2 2 s at (omega arith) ∙ rw (beAt-2 s at (omega arith), beAt-2 s (at + 2) (omega arith), add-assoc at 2 1) (omega arith)
 
 -- ---- bytes of a number
@@ -214,6 +226,11 @@ beBytes-mod k x = ap (λ (n : ℕ). beBytes k (x % 256 ^ n)) (sym (add-zero k)) 
 -- the bytes of the high part and then those of the low part
 pub beBytes-parts : (k m x : ℕ) → beBytes (k + m) x ≡ beBytes k (x / 256 ^ m) ++ beBytes m (x % 256 ^ m)
 beBytes-parts k m x = beBytes-add k m x ∙ rw (beBytes-mod m x)
+
+-- one byte
+pub beBytes-one : (x : ℕ) → beBytes 1 x ≡ x % 256 ∷ []
+unfolding beBytes
+beBytes-one x = rw (div-one x)
 
 -- four bytes, written out
 pub beBytes-4 : (x : ℕ) → beBytes 4 x ≡ x / 16777216 % 256 ∷ x / 65536 % 256 ∷ x / 256 % 256 ∷ x % 256 ∷ []

@@ -55,7 +55,8 @@ wrote-byte {s} {a} {o} {n} w h v = record {
 }
 
 -- byte n of x was stored at n
-pub wrote-copy : {s o : List ℕ} {n : ℕ} (x : List ℕ) → Wrote s (take n x) o n → n < length x → n < length s → Wrote s (take (n + 1) x) (set o n (getD x n 0)) (n + 1)
+pub wrote-copy : {s o : List ℕ} {n : ℕ} (x : List ℕ) → Wrote s (take n x) o n → n < length x → n < length s
+    → Wrote s (take (n + 1) x) (set o n (getD x n 0)) (n + 1)
 wrote-copy {s} {o} {n} x w h l = wrote-as (wrote-byte w l (getD x n 0)) (rw (add-one, take-suc x n 0 h))
 
 -- b was written to the part `&mut out[n..]`, which has come back: the list is as the borrow checker leaves it
@@ -69,7 +70,18 @@ wrote-rest {s} {a} {o} {b} {p} {n} {m} w v =
     record {
       size = simp length-append (omega arith);
       fits = omega (arith, simp (length-take, length-drop) at room);
-      is = rw (v .is, w .is, take-over s a n e, drop-over s a n e, ← w .is, take-all (length o - n) (drop n s) short, drop-of-length-le (drop n s) short, append-nil, over-append s a b n e);
+      is =
+          rw (
+            v .is,
+            w .is,
+            take-over s a n e,
+            drop-over s a n e,
+            ← w .is,
+            take-all (length o - n) (drop n s) short,
+            drop-of-length-le (drop n s) short,
+            append-nil,
+            over-append s a b n e,
+          );
     }
 
 -- the part `&mut out[n..]` has room for what the whole has room for after n
@@ -98,7 +110,19 @@ wrote-front {s} {a} {b} {p} {o} {k} {m} v h w =
     record {
       size = simp length-append (omega arith);
       fits = omega (arith, simp (length-take, length-drop) at room);
-      is = w .is ∙ rw (← w .size, drop-at (take k s) (p ++ drop (length s - k) (drop k s)) k e, drop-of-length-le (drop k s) short, append-nil, v .is, take-all (length s - k) (drop k s) short, append-assoc, length-append, ← w .size, drop-drop);
+      is =
+          w .is ∙ rw (
+            ← w .size,
+            drop-at (take k s) (p ++ drop (length s - k) (drop k s)) k e,
+            drop-of-length-le (drop k s) short,
+            append-nil,
+            v .is,
+            take-all (length s - k) (drop k s) short,
+            append-assoc,
+            length-append,
+            ← w .size,
+            drop-drop,
+          );
     }
 
 -- the number of bytes, said in another way

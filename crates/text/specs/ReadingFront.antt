@@ -42,7 +42,9 @@ module _ {P A : Type 0} {a : A} where
   bytes-by n f at s b e k = go (leb n (length s)) refl e
     where
       go : (t : Bool) → leb n (length s) ≡ t → choose t (λ _. run (f (take n s)) (at + n) (drop n s)) (λ _. refused 3) ≡ gives a → P
-      go true q e = k (take n s) (drop n s) (length-take-le n s (leb-true n (length s) q)) (sym (take-append-drop n s)) (bytes-part n 0 s b) (λ i. rw (getD-drop n s i 0) (b (n + i))) e
+      go true q e =
+          k (take n s) (drop n s) (length-take-le n s (leb-true n (length s) q)) (sym (take-append-drop n s)) (bytes-part n 0 s b)
+          (λ i. rw (getD-drop n s i 0) (b (n + i))) e
       go false q e = refused-gives e
 
   -- a big-endian number

@@ -6,12 +6,13 @@ use Prim.Native.Nat.{ℕ, zero, suc, _+_, _%_, _^_}
 use native.Mathlib.Omega.{arith}
 use lib.Dec.{leb}
 use lib.ListN.{length, take, drop}
+use Rattle.text.specs.Never.{never}
 use Rattle.text.specs.Choose.{choose}
 use Rattle.text.specs.Reading.{Out, refused, gives, Reading, give, refuse, bytes, part, pass, left, here, run, _>>=_, _>>_, ask, onto, rows, rowsOn}
 
 -- refused is not given
 pub refused-gives : {A B : Type 0} {a : A} {q : ℕ} → refused q ≡ gives a → B
-refused-gives e = absurd (let z : _≡_ {A = ℕ} 0 1 = cc in omega arith)
+refused-gives e = never (cc)
 
 module _ {A : Type 0} (P : A → Type 0) where
   -- P holds of each value that the reading can give, whatever the bytes are
@@ -32,7 +33,8 @@ module _ {A : Type 0} (P : A → Type 0) where
   pub gives-run : (p : Reading A) → Gives p → (at : ℕ) (s : List ℕ) {a : A} → run p at s ≡ gives a → P a
   gives-run (give b) g at s {a} e = let h : b ≡ a = cc in rw h at g
   gives-run (refuse n) g at s e = refused-gives e
-  gives-run (bytes n f) g at s e = choose-gives (leb n (length s)) (run (f (take n s)) (at + n) (drop n s)) (gives-run (f (take n s)) (g (take n s)) (at + n) (drop n s)) e
+  gives-run (bytes n f) g at s e =
+      choose-gives (leb n (length s)) (run (f (take n s)) (at + n) (drop n s)) (gives-run (f (take n s)) (g (take n s)) (at + n) (drop n s)) e
   gives-run (part k f) g at [] e = refused-gives e
   gives-run (part k f) g at (x ∷ s) e = gives-run (f (x % 2 ^ k)) (g (x % 2 ^ k)) (at + 1) s e
   gives-run (pass n p) g at s e = choose-gives (leb n (length s)) (run p (at + n) (drop n s)) (gives-run p g (at + n) (drop n s)) e

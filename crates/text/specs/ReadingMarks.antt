@@ -9,6 +9,7 @@ use lib.Dec.{leb}
 use lib.ListN.{length, take, drop, getD, replicate, length-append, length-replicate, length-drop, length-take}
 use native.Mathlib.Decide.{decLe}
 use lib.Seq.{take-all, take-take, getD-take}
+use Rattle.text.specs.Never.{never}
 use Rattle.text.specs.Choose.{choose}
 use Rattle.text.specs.Reading.{refused, Got, bad, got, Reading, give, refuse, bytes, part, pass, left, here, run, walk, Block, from, runBlock}
 use Rattle.text.specs.NumberLaws.{drop-take}
@@ -54,6 +55,12 @@ module _ {A : Type 0} where
   unfoldable pub marksBlock : Block A → List ℕ → List Mark
   marksBlock c b = marksFrom c b (walk (c .start) b 0)
 
+  -- behind a start that was read: its own bytes count, and those behind the size don't
+  pub block-marks : (c : Block A) (b : List ℕ) {size at : ℕ} → walk (c .start) b 0 ≡ got size at
+      → marksBlock c b ≡ replicate at whole ++ (marks (c .rest size) at (drop at (take size b)) ++ replicate (length b - at - (size - at)) none)
+  unfolding marksBlock
+  block-marks c b q = rw q
+
 pub agree-length : (ms : List Mark) (s t : List ℕ) → Agree ms s t → length s ≡ length t
 agree-length [] [] [] a = refl
 agree-length [] [] (y ∷ t) a = absurd a
@@ -87,10 +94,12 @@ module _ {A : Type 0} where
   pub agree-same : (p : Reading A) (at : ℕ) (s t : List ℕ) → Agree (marks p at s) s t → run p at t ≡ run p at s
   agree-same (give a) at s t g = refl
   agree-same (refuse e) at s t g = refl
-  agree-same (bytes n f) at s t g = rw (← agree-length (marks (bytes n f) at s) s t g) (go (leb n (length s)) g (λ a. agree-same (f (take n s)) (at + n) (drop n s) (drop n t) a))
+  agree-same (bytes n f) at s t g =
+      rw (← agree-length (marks (bytes n f) at s) s t g) (go (leb n (length s)) g (λ a. agree-same (f (take n s)) (at + n) (drop n s) (drop n t) a))
     where
       go : (b : Bool) → Agree (choose b (λ _. replicate n whole ++ marks (f (take n s)) (at + n) (drop n s)) (λ _. replicate (length s) none)) s t
-          → (Agree (marks (f (take n s)) (at + n) (drop n s)) (drop n s) (drop n t) → run (f (take n s)) (at + n) (drop n t) ≡ run (f (take n s)) (at + n) (drop n s))
+          → (Agree (marks (f (take n s)) (at + n) (drop n s)) (drop n s) (drop n t)
+          → run (f (take n s)) (at + n) (drop n t) ≡ run (f (take n s)) (at + n) (drop n s))
           → choose b (λ _. run (f (take n t)) (at + n) (drop n t)) (λ _. refused 3) ≡ choose b (λ _. run (f (take n s)) (at + n) (drop n s)) (λ _. refused 3)
       go true g ih = let (e, r) = agree-whole n (marks (f (take n s)) (at + n) (drop n s)) s t g in rw (← e) (ih r)
       go false g ih = refl
@@ -98,7 +107,8 @@ module _ {A : Type 0} where
   agree-same (part k f) at [] (y ∷ t) g = absurd g
   agree-same (part k f) at (x ∷ s) [] g = absurd g
   agree-same (part k f) at (x ∷ s) (y ∷ t) g = rw (← g .0) (agree-same (f (x % 2 ^ k)) (at + 1) s t (g .1))
-  agree-same (pass n p) at s t g = rw (← agree-length (marks (pass n p) at s) s t g) (go (leb n (length s)) g (λ a. agree-same p (at + n) (drop n s) (drop n t) a))
+  agree-same (pass n p) at s t g =
+      rw (← agree-length (marks (pass n p) at s) s t g) (go (leb n (length s)) g (λ a. agree-same p (at + n) (drop n s) (drop n t) a))
     where
       go : (b : Bool) → Agree (choose b (λ _. replicate n none ++ marks p (at + n) (drop n s)) (λ _. replicate (length s) none)) s t
           → (Agree (marks p (at + n) (drop n s)) (drop n s) (drop n t) → run p (at + n) (drop n t) ≡ run p (at + n) (drop n s))
@@ -115,7 +125,9 @@ module _ {A : Type 0} where
     where
       go : (b : Bool) → leb n (length s) ≡ b → length (marks (f (take n s)) (at + n) (drop n s)) ≡ length (drop n s)
           → length (choose b (λ _. replicate n whole ++ marks (f (take n s)) (at + n) (drop n s)) (λ _. replicate (length s) none)) ≡ length s
-      go true e ih = let l = leb-true n (length s) e in rw (length-append (replicate n whole) (marks (f (take n s)) (at + n) (drop n s)), length-replicate n whole, ih, length-drop n s) (omega arith)
+      go true e ih =
+          let l = leb-true n (length s) e in
+          rw (length-append (replicate n whole) (marks (f (take n s)) (at + n) (drop n s)), length-replicate n whole, ih, length-drop n s) (omega arith)
       go false e ih = length-replicate (length s) none
   marks-length (part k f) at [] = refl
   marks-length (part k f) at (x ∷ s) = ap suc (marks-length (f (x % 2 ^ k)) (at + 1) s)
@@ -123,7 +135,9 @@ module _ {A : Type 0} where
     where
       go : (b : Bool) → leb n (length s) ≡ b → length (marks p (at + n) (drop n s)) ≡ length (drop n s)
           → length (choose b (λ _. replicate n none ++ marks p (at + n) (drop n s)) (λ _. replicate (length s) none)) ≡ length s
-      go true e ih = let l = leb-true n (length s) e in rw (length-append (replicate n none) (marks p (at + n) (drop n s)), length-replicate n none, ih, length-drop n s) (omega arith)
+      go true e ih =
+          let l = leb-true n (length s) e in
+          rw (length-append (replicate n none) (marks p (at + n) (drop n s)), length-replicate n none, ih, length-drop n s) (omega arith)
       go false e ih = length-replicate (length s) none
   marks-length (left f) at s = marks-length (f (length s)) at s
   marks-length (here f) at s = marks-length (f at) at s
@@ -131,8 +145,12 @@ module _ {A : Type 0} where
   walk-mono : (p : Reading A) (s : List ℕ) (at : ℕ) {a : A} {m : ℕ} → walk p s at ≡ got a m → at ≤ m
   walk-mono (give b) s at {a} {m} q = let z : at ≡ m = cc in omega arith
   walk-mono (refuse e) s at q = bad-got q
-  walk-mono (bytes n f) s at {a} {m} q = pick-by (leb (at + n) (length s)) (walk (f (take n (drop at s))) s (at + n)) 3 q λ l r. let z = walk-mono (f (take n (drop at s))) s (at + n) r in omega arith
-  walk-mono (part k f) s at {a} {m} q = pick-by (leb (at + 1) (length s)) (walk (f (getD s at 0 % 2 ^ k)) s (at + 1)) 3 q λ l r. let z = walk-mono (f (getD s at 0 % 2 ^ k)) s (at + 1) r in omega arith
+  walk-mono (bytes n f) s at {a} {m} q =
+      pick-by (leb (at + n) (length s)) (walk (f (take n (drop at s))) s (at + n)) 3 q λ l r.
+      let z = walk-mono (f (take n (drop at s))) s (at + n) r in omega arith
+  walk-mono (part k f) s at {a} {m} q =
+      pick-by (leb (at + 1) (length s)) (walk (f (getD s at 0 % 2 ^ k)) s (at + 1)) 3 q λ l r.
+      let z = walk-mono (f (getD s at 0 % 2 ^ k)) s (at + 1) r in omega arith
   walk-mono (pass n p) s at {a} {m} q = pick-by (leb (at + n) (length s)) (walk p s (at + n)) 3 q λ l r. let z = walk-mono p s (at + n) r in omega arith
   walk-mono (left f) s at q = walk-mono (f (length s - at)) s at q
   walk-mono (here f) s at q = walk-mono (f at) s at q
@@ -149,7 +167,8 @@ byte-same at m s t h e = sym (getD-take m t at 0 (omega arith)) ∙ (rw (← e) 
 
 module _ {A : Type 0} where
   -- only the bytes up to where a reading stands count
-  walk-front : (p : Reading A) (s t : List ℕ) (at : ℕ) {a : A} {m : ℕ} → length s ≡ length t → take m s ≡ take m t → walk p s at ≡ got a m → walk p t at ≡ got a m
+  walk-front : (p : Reading A) (s t : List ℕ) (at : ℕ) {a : A} {m : ℕ} → length s ≡ length t → take m s ≡ take m t → walk p s at ≡ got a m
+      → walk p t at ≡ got a m
   walk-front (give b) s t at l e q = q
   walk-front (refuse r) s t at l e q = q
   walk-front (bytes n f) s t at {a} {m} l e q =
@@ -177,7 +196,7 @@ module _ {A : Type 0} where
   -- a block whose start is refused
   from-bad : (k : ℕ → Reading A) (t : List ℕ) (w : Got ℕ) {r : ℕ} → out w ≡ refused r → from k t w ≡ refused r
   from-bad k t (bad e) {r} q = let z : e ≡ r = cc in rw z
-  from-bad k t (got a n) q = absurd (let z : _≡_ {A = ℕ} 0 1 = cc in omega arith)
+  from-bad k t (got a n) q = never (cc)
 
 module _ {A : Type 0} (c : Block A) (s t : List ℕ) where
   -- THE THEOREM for a block whose start says how much of it counts
@@ -194,7 +213,10 @@ module _ {A : Type 0} (c : Block A) (s t : List ℕ) where
           let p = marks (c .rest size) at (drop at (take size s)) in
           let (u, v) = agree-whole at (p ++ replicate (length s - at - (size - at)) none) s t a in
           let w = agree-take p (replicate (length s - at - (size - at)) none) (drop at s) (drop at t) v in
-          let n : length p ≡ min (size - at) (length s - at) = marks-length (c .rest size) at (drop at (take size s)) ∙ rw (drop-take at size s, length-take (size - at) (drop at s), length-drop at s) in
-          let x : take (length p) (drop at s) ≡ drop at (take size s) = rw (n, ← length-drop at s, take-min (size - at) (drop at s)) (sym (drop-take at size s)) in
-          let y : take (length p) (drop at t) ≡ drop at (take size t) = rw (n, l, ← length-drop at t, take-min (size - at) (drop at t)) (sym (drop-take at size t)) in
+          let n : length p ≡ min (size - at) (length s - at) =
+          marks-length (c .rest size) at (drop at (take size s)) ∙ rw (drop-take at size s, length-take (size - at) (drop at s), length-drop at s) in
+          let x : take (length p) (drop at s) ≡ drop at (take size s) =
+          rw (n, ← length-drop at s, take-min (size - at) (drop at s)) (sym (drop-take at size s)) in
+          let y : take (length p) (drop at t) ≡ drop at (take size t) =
+          rw (n, l, ← length-drop at t, take-min (size - at) (drop at t)) (sym (drop-take at size t)) in
           rw (e, walk-front (c .start) s t 0 l u e) (agree-same (c .rest size) at (drop at (take size s)) (drop at (take size t)) (rw (x, y) at w))

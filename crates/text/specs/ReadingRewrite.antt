@@ -106,7 +106,10 @@ rewrite-bytes (m ∷ ms) (x ∷ s) (y ∷ v) b c (suc i) = rewrite-bytes ms s v 
 
 -- THE TIE: to agree wherever a bit counts is to be a rewriting
 pub rewriting : (ms : List Mark) (s t : List ℕ) → length ms ≡ length s → Bytes t → Agree ms s t ↔ Rewritten ms s t
-rewriting ms s t e b = (λ a. record { values = t; bytes = b; size = sym (agree-length ms s t a); is = sym (agree-rewrites ms s t a) }, λ r. rw (r .is) (rewrite-agrees ms s (r .values) e))
+rewriting ms s t e b = (
+  λ a. record { values = t; bytes = b; size = sym (agree-length ms s t a); is = sym (agree-rewrites ms s t a) },
+  λ r. rw (r .is) (rewrite-agrees ms s (r .values) e),
+)
 
 module _ {A : Type 0} where
   -- whatever is put in, the reading is the same
@@ -123,9 +126,16 @@ module _ {A : Type 0} (c : Block A) (b : List ℕ) where
       go (bad r) e = marks-length (c .start) 0 b
       go (got size at) e =
           let p = marks (c .rest size) at (drop at (take size b)) in
-          let n : length p ≡ min (size - at) (length b - at) = marks-length (c .rest size) at (drop at (take size b)) ∙ rw (drop-take at size b, length-take (size - at) (drop at b), length-drop at b) in
+          let n : length p ≡ min (size - at) (length b - at) =
+          marks-length (c .rest size) at (drop at (take size b)) ∙ rw (drop-take at size b, length-take (size - at) (drop at b), length-drop at b) in
           let h = walk-within (c .start) b 0 (omega arith) e in
-          rw (length-append (replicate at whole) (p ++ replicate (length b - at - (size - at)) none), length-append p (replicate (length b - at - (size - at)) none), length-replicate at whole, length-replicate (length b - at - (size - at)) none, n) (omega arith)
+          rw (
+            length-append (replicate at whole) (p ++ replicate (length b - at - (size - at)) none),
+            length-append p (replicate (length b - at - (size - at)) none),
+            length-replicate at whole,
+            length-replicate (length b - at - (size - at)) none,
+            n,
+          ) (omega arith)
 
   pub block-rewrite : (v : List ℕ) → runBlock c (rewrite (marksBlock c b) b v) ≡ runBlock c b
   block-rewrite v = block-same c b (rewrite (marksBlock c b) b v) (rewrite-agrees (marksBlock c b) b v block-length)

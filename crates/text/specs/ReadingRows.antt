@@ -1,5 +1,5 @@
 -- Records of one size, one after another: the i-th is read at its place.
-use mathlib.Core.Path.{_≡_, refl, sym, _∙_, ap}
+use mathlib.Core.Path.{_≡_, refl, sym, _∙_, ap, fun-ext}
 use mathlib.Core.List.{List, [], _∷_}
 use mathlib.Core.Bool.{Bool, true, false}
 use Prim.Native.Nat.{ℕ, zero, suc, _+_, _*_, _≤_, _<_}
@@ -8,8 +8,8 @@ use native.Mathlib.Nat.{mul-suc}
 use native.Mathlib.Decide.{decLe}
 use lib.ListN.{length, getD}
 use Rattle.text.specs.Choose.{pick}
-use Rattle.text.specs.Reading.{Got, bad, got, Reading, walk, onto, rowsOn, rows}
-use Rattle.text.specs.ReadingLaws.{chain, walk-bind, chain-by, bad-got}
+use Rattle.text.specs.Reading.{Got, bad, got, Reading, give, walk, _>>=_, onto, rowsOn, rows}
+use Rattle.text.specs.ReadingLaws.{chain, walk-bind, bind-assoc, chain-by, bad-got}
 
 -- f at n places, size apart
 module _ {A : Type 0} where
@@ -40,34 +40,44 @@ module _ {P A B : Type 0} {b : B} {n : ℕ} where
   map-by g (bad r) q f = bad-got q
   map-by g (got a m) q f = f a (let z : m ≡ n = cc in rw z) (cc)
 
+-- a value that is made of what a reading gives
+walk-map : {A B : Type 0} (g : A → B) (p : Reading A) (s : List ℕ) (at : ℕ) → walk (p >>= (λ a. give (g a))) s at ≡ mapGot g (walk p s at)
+walk-map {A} {B} g p s at = walk-bind p (λ a. give (g a)) s at ∙ go (walk p s at)
+  where
+    go : (w : Got A) → chain w (λ a n. walk (give (g a)) s n) ≡ mapGot g w
+    go (bad r) = refl
+    go (got a n) = refl
+
+module _ {A : Type 0} (p : Reading A) where
+  rowsOn-onto : (n : ℕ) (done : List A) → rowsOn done n p ≡ rowsOn [] n p >>= (λ xs. give (onto done xs))
+  rowsOn-onto zero done = refl
+  rowsOn-onto (suc n) done =
+      ap (λ (k : A → Reading (List A)). p >>= k)
+      (fun-ext (λ x. rowsOn-onto n (x ∷ done) ∙ sym (ap (λ r. r >>= (λ xs. give (onto done xs))) (rowsOn-onto n (x ∷ []))
+      ∙ bind-assoc (rowsOn [] n p) (λ xs. give (x ∷ xs)) (λ xs. give (onto done xs)))))
+      ∙ sym (bind-assoc p (λ x. rowsOn (x ∷ []) n p) (λ xs. give (onto done xs)))
+
+  -- the definition: those done stand aside, or a record at a time
+  pub rows-on : (n : ℕ) → rows n p ≡ rowsOn [] n p
+  unfolding rows
+  rows-on n = refl
+
+  pub rows-none : rows 0 p ≡ give []
+  rows-none = rows-on 0
+
+  pub rows-step : (n : ℕ) → rows (suc n) p ≡ p >>= (λ x. rows n p >>= (λ xs. give (x ∷ xs)))
+  unfolding rows
+  rows-step n = ap (λ (k : A → Reading (List A)). p >>= k) (fun-ext (λ x. rowsOn-onto n (x ∷ [])))
+
 module _ {A : Type 0} where
-  rowsOn-is : (p : Reading A) (n : ℕ) (done : List A) (s : List ℕ) (at : ℕ) → walk (rowsOn done n p) s at ≡ mapGot (onto done) (walk (rowsOn [] n p) s at)
-  rowsOn-is p zero done s at = refl
-  rowsOn-is p (suc n) done s at =
-      walk-bind p (λ x. rowsOn (x ∷ done) n p) s at ∙ (go (walk p s at) (λ x m. rowsOn-is p n (x ∷ done) s m) (λ x m. rowsOn-is p n (x ∷ []) s m) ∙ ap (mapGot (onto done)) (sym (walk-bind p (λ x. rowsOn (x ∷ []) n p) s at)))
-    where
-      go : (g : Got A) → ((x : A) (m : ℕ) → walk (rowsOn (x ∷ done) n p) s m ≡ mapGot (onto (x ∷ done)) (walk (rowsOn [] n p) s m))
-          → ((x : A) (m : ℕ) → walk (rowsOn (x ∷ []) n p) s m ≡ mapGot (onto (x ∷ [])) (walk (rowsOn [] n p) s m))
-          → chain g (λ x m. walk (rowsOn (x ∷ done) n p) s m) ≡ mapGot (onto done) (chain g (λ x m. walk (rowsOn (x ∷ []) n p) s m))
-      go (bad r) e f = refl
-      go (got x m) e f = e x m ∙ (two (walk (rowsOn [] n p) s m) ∙ ap (mapGot (onto done)) (sym (f x m)))
-        where
-          two : (g : Got (List A)) → mapGot (onto (x ∷ done)) g ≡ mapGot (onto done) (mapGot (onto (x ∷ [])) g)
-          two (bad r) = refl
-          two (got l k) = refl
-
   pub rows-zero : (p : Reading A) (s : List ℕ) (at : ℕ) → walk (rows 0 p) s at ≡ got [] at
-  unfolding rows
-  rows-zero p s at = refl
+  rows-zero p s at = ap (λ r. walk r s at) (rows-none p)
 
-  pub rows-suc : (p : Reading A) (n : ℕ) (s : List ℕ) (at : ℕ) → walk (rows (suc n) p) s at ≡ chain (walk p s at) (λ x m. mapGot (λ xs. x ∷ xs) (walk (rows n p) s m))
-  unfolding rows
-  rows-suc p n s at = walk-bind p (λ x. rowsOn (x ∷ []) n p) s at ∙ go (walk p s at) (λ x m. rowsOn-is p n (x ∷ []) s m)
-    where
-      go : (g : Got A) → ((x : A) (m : ℕ) → walk (rowsOn (x ∷ []) n p) s m ≡ mapGot (onto (x ∷ [])) (walk (rowsOn [] n p) s m))
-          → chain g (λ x m. walk (rowsOn (x ∷ []) n p) s m) ≡ chain g (λ x m. mapGot (λ xs. x ∷ xs) (walk (rowsOn [] n p) s m))
-      go (bad r) f = refl
-      go (got x m) f = f x m
+  pub rows-suc : (p : Reading A) (n : ℕ) (s : List ℕ) (at : ℕ)
+      → walk (rows (suc n) p) s at ≡ chain (walk p s at) (λ x m. mapGot (λ xs. x ∷ xs) (walk (rows n p) s m))
+  rows-suc p n s at =
+      ap (λ r. walk r s at) (rows-step p n) ∙ walk-bind p (λ x. rows n p >>= (λ xs. give (x ∷ xs))) s at
+      ∙ ap (chain (walk p s at)) (fun-ext (λ x. fun-ext (λ m. walk-map (λ xs. x ∷ xs) (rows n p) s m)))
 
   -- records that are there: the list is what stands at the places
   pub rows-there : (p : Reading A) (s : List ℕ) (f : ℕ → A) (size : ℕ) → ((at : ℕ) → at + size ≤ length s → walk p s at ≡ got (f at) (at + size))
@@ -75,7 +85,8 @@ module _ {A : Type 0} where
   rows-there p s f size one zero at h = rows-zero p s at ∙ ap (got []) (omega arith)
   rows-there p s f size one (suc n) at h =
       let m : size * suc n ≡ size * n + size = mul-suc size n in
-      rows-suc p n s at ∙ rw (one at (omega arith), rows-there p s f size one n (at + size) (omega arith)) (ap (got (f at ∷ cells f size (at + size) n)) (omega arith))
+      rows-suc p n s at ∙ rw (one at (omega arith), rows-there p s f size one n (at + size) (omega arith))
+      (ap (got (f at ∷ cells f size (at + size) n)) (omega arith))
 
   -- records that are not all there
   pub rows-short : (p : Reading A) (s : List ℕ) (f : ℕ → A) (size : ℕ) → ((at : ℕ) → at + size ≤ length s → walk p s at ≡ got (f at) (at + size))
@@ -100,7 +111,8 @@ module _ {A : Type 0} where
       go (walk (rows n p) s k) x k e refl r (λ ys j. rows-got p s f size one n k ys j)
     where
       go : (g : Got (List A)) (x : A) (k : ℕ) → walk p s at ≡ got x k → walk (rows n p) s k ≡ g → mapGot (λ xs. x ∷ xs) g ≡ got xs m
-          → ((ys : List A) (j : ℕ) → walk (rows n p) s k ≡ got ys j → (ys ≡ cells f size k n) × (j ≡ k + size * n)) → (xs ≡ cells f size at (suc n)) × (m ≡ at + size * suc n)
+          → ((ys : List A) (j : ℕ) → walk (rows n p) s k ≡ got ys j → (ys ≡ cells f size k n) × (j ≡ k + size * n))
+          → (xs ≡ cells f size at (suc n)) × (m ≡ at + size * suc n)
       go (bad r) x k e g q ih = bad-got q
       go (got ys j) x k e g q ih =
           let o = one at x k e in

@@ -3,7 +3,7 @@ use mathlib.Core.Bool.{Bool, true, false}
 use mathlib.Core.List.{List, [], _∷_, _++_}
 use Prim.Native.Nat.{ℕ}
 use Rattle.text.specs.Choose.{choose}
-use Rattle.text.specs.Utf16.{isHigh, isLow, ofPair, units}
+use Rattle.text.specs.Utf16.{isHigh, isLow, ofPair, units, encode16}
 use Rattle.text.specs.Lower.{lowered}
 use Rattle.text.specs.declared.utf16.Scalar.{Scalar}
 use Rattle.text.specs.declared.utf16.Scalar.the-variants.{One, Two, Ill}
@@ -21,6 +21,6 @@ scalarOf (u ∷ v ∷ us) =
     (λ _. choose (isLow v) (λ _. Two (ofPair u v)) (λ _. Ill))
     (λ _. choose (isLow u) (λ _. Ill) (λ _. One u))
 
--- the units of a lowered name: those of its base, and its suffix, which has no letter
-unfoldable pub nameUnits : Bool → List ℕ → List ℕ → List ℕ
-nameUnits wide part suffix = lowered (unitsOf wide part) ++ suffix
+-- the units of a lowered name: those of its base, lowered as scalar values, and its suffix, which has no letter
+unfoldable pub nameUnits : List ℕ → List ℕ → List ℕ
+nameUnits base suffix = encode16 (lowered base) ++ suffix

@@ -6,6 +6,7 @@ use mathlib.Core.Logic.{inl}
 use Prim.Native.Nat.{ℕ, zero, suc, _+_, _*_, _/_, _≤_, _<_}
 use native.Mathlib.Omega.{arith}
 use lib.ListN.{length, drop, getD}
+use Rattle.text.specs.Never.{never}
 use Rattle.text.specs.NumberLaws.{Bytes}
 use Rattle.text.specs.Number.{leAt}
 use Rattle.text.specs.Utf16.{Decoded, well, ill, isWell, more, ofPair, utf16, units, encode16, Scalars}
@@ -42,7 +43,8 @@ decoded-units false part b = sym (latin1 part b)
 decoded-units true part b = refl
 
 -- the units of a text encode it, and it is of scalar values
-pub base-units : (wide : Bool) (part : List ℕ) → Bytes part → isWell (decoded wide part) ≡ true → (encode16 (base wide part) ≡ unitsOf wide part) × Scalars (base wide part)
+pub base-units : (wide : Bool) (part : List ℕ) → Bytes part → isWell (decoded wide part) ≡ true
+    → (encode16 (base wide part) ≡ unitsOf wide part) × Scalars (base wide part)
 base-units wide part b e =
     let q = decoded-units wide part b in
     rw q (encode-decode (unitsOf wide part) (unitsOf-words wide part b) (rw q at e))
@@ -117,12 +119,12 @@ scalar-first (u ∷ us) s l e = first (cases (u ∷ us)) ∙ ap (λ (s : Scalar)
 
 pub scalar-one : (us : List ℕ) {c : ℕ} → scalarOf us ≡ One c → utf16 us ≡ more c (utf16 (drop 1 us))
 unfolding scalarOf
-scalar-one [] e = absurd (let z : _≡_ {A = ℕ} 0 1 = cc in omega arith)
+scalar-one [] e = never (cc)
 scalar-one (u ∷ us) {c} e = scalar-first (u ∷ us) (One c) (omega arith) e
 
 pub scalar-two : (us : List ℕ) {c : ℕ} → scalarOf us ≡ Two c → utf16 us ≡ more c (utf16 (drop 2 us))
 unfolding scalarOf
-scalar-two [] e = absurd (let z : _≡_ {A = ℕ} 0 1 = cc in omega arith)
+scalar-two [] e = never (cc)
 scalar-two (u ∷ us) {c} e = scalar-first (u ∷ us) (Two c) (omega arith) e
 
 pub scalar-ill : (us : List ℕ) → 0 < length us → scalarOf us ≡ Ill → utf16 us ≡ ill

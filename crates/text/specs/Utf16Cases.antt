@@ -9,6 +9,7 @@ use lib.Dec.{leb, ltb}
 use lib.ListN.{drop, getD}
 use lib.Seq.{getD-drop}
 use borrow.Author.Tests.{lt-ltb, le-ltb, le-leb, lt-leb}
+use Rattle.text.specs.Never.{never}
 use Rattle.text.specs.Choose.{lt-or-le}
 use Rattle.text.specs.Utf16.{Decoded, well, ill, isWell, scalars, more, isHigh, isLow, ofPair, utf16}
 
@@ -130,4 +131,4 @@ isWell-more c ill = refl
 
 pub scalars-more : (c : ℕ) (d : Decoded) → isWell d ≡ true → scalars (more c d) ≡ c ∷ scalars d
 scalars-more c (well t) e = refl
-scalars-more c ill e = absurd (let z : _≡_ {A = ℕ} 0 1 = cc in omega arith)
+scalars-more c ill e = never (cc)

@@ -8,6 +8,7 @@ use native.Mathlib.Omega.{arith}
 use lib.Dec.{ltb}
 use lib.ListN.{length}
 use borrow.Author.Tests.{lt-ltb, le-ltb, ltb-true, ltb-false}
+use Rattle.text.specs.Never.{never}
 use Rattle.text.specs.Utf16.{Decoded, well, ill, isWell, scalars, more, ofPair, utf16, encodeOne, encode16, Scalar, Scalars}
 use Rattle.text.specs.Affix.{allAscii}
 use Rattle.text.specs.Utf16Cases.{Words, High, Low, Single, Cases, none, single, pair, stray, lone, cases, utf16-none, utf16-single, utf16-pair, utf16-stray, utf16-lone}
@@ -98,7 +99,7 @@ encode-decode us w e = go (utf16 us) e (means (cases us) w)
   where
     go : (d : Decoded) → isWell d ≡ true → Means us d → (encode16 (scalars d) ≡ us) × Scalars (scalars d)
     go (well t) e m = m
-    go ill e m = absurd (let z : _≡_ {A = ℕ} 0 1 = cc in omega arith)
+    go ill e m = never (cc)
 
 -- units that are no encoding are ill-formed
 pub no-encoding : (us : List ℕ) → Words us → ((t : List ℕ) → Scalars t → encode16 t ≡ us → ⊥) → utf16 us ≡ ill

@@ -2,7 +2,9 @@
 ghost use mathlib.Core.Path.{_≡_};
 ghost use Prim.Native.Nat.{_+_, _<_, _≤_};
 ghost use lib.ListN.{length};
-ghost use Rattle.text.specs.City.{shiftMix, hashLen16Mul, hashLen16, mulOf, len1to3, len4to7, len8to16, len0to16, mix4, len17to32, swapMul, mixU, mixV, mixY, mixLast, mix8, len33to64, weak32, weakAt, nextX, nextY, nextZ, nextV, nextW, turn, start, finish, longer, cityHash64};
+ghost use Rattle.text.specs.City.{shiftMix, hashLen16Mul, hashLen16, mulOf, len1to3, len4to7, len8to16, len0to16, mix4, len17to32};
+ghost use Rattle.text.specs.City.{swapMul, mixU, mixV, mixY, mixLast, mix8, len33to64};
+ghost use Rattle.text.specs.City.{weak32, weakAt, nextX, nextY, nextZ, nextV, nextW, turn, start, finish, longer, cityHash64};
 use super::number::le32;
 use super::number::le64;
 use super::number::wide64;

@@ -7,7 +7,7 @@ ghost use lib.ListN.{length, getD, take, drop};
 ghost use Rattle.text.specs.Number.{leAt};
 ghost use Rattle.text.specs.Output.{Wrote};
 ghost use Rattle.text.specs.Utf16.{isWell, unitBytes};
-ghost use Rattle.text.specs.Name.{decoded, rendered};
+ghost use Rattle.text.specs.Name.{decoded, base, rendered};
 ghost use Rattle.text.specs.City.{cityHash64};
 ghost use Rattle.text.specs.Units.{nameUnits};
 ghost use Rattle.text.specs.Id.{idOf};
@@ -16,7 +16,7 @@ use super::city::hash_len0to32;
 use super::city::hash_len33up;
 use super::city::last_mix;
 use super::city::one_turn;
-use super::lower::lower_scalar;
+use super::lower::lower_ascii;
 use super::name::put_suffix;
 use super::number;
 use super::number::le64;
@@ -25,20 +25,22 @@ use super::units::unit_count;
 
 // Unit i of a lowered name.
 fn name_unit(part: &[u8], wide: bool, suffix: &[u8], i: usize) -> u32
-    requires { ⌜ i < length (nameUnits wide (now part) (now suffix)) ⌝ }
-    ensures { λ r. ⌜ (r ≡ getD (nameUnits wide (now (part .entry)) (now (suffix .entry))) i 0) × (r < 65536) ⌝ }
+    requires { ⌜ (isWell (decoded wide (now part)) ≡ true) × (i < length (nameUnits (base wide (now part)) (now suffix))) ⌝ }
+    ensures { λ r. ⌜ (r ≡ getD (nameUnits (base wide (now (part .entry))) (now (suffix .entry))) i 0) × (r < 65536) ⌝ }
 {
     let n = unit_count(part, wide);
     if i < n {
-        return lower_scalar(unit_at(part, wide, i));
+        return lower_ascii(unit_at(part, wide, i));
     }
     number::wide(suffix[i - n])
 }
 
 // The n units of a lowered name from a place on, in UTF-16LE.
 fn put_units(out: &mut [u8], part: &[u8], wide: bool, suffix: &[u8], from: usize, n: usize) -> usize
-    requires { ⌜ (from + n ≤ length (nameUnits wide (now part) (now suffix))) × (2 * n ≤ length (now out)) ⌝ }
-    ensures { λ r. ⌜ Wrote (now (out .entry)) (unitBytes (take n (drop from (nameUnits wide (now (part .entry)) (now (suffix .entry)))))) (now (out .exit)) r ⌝ }
+    requires { ⌜ (isWell (decoded wide (now part)) ≡ true) × (from + n ≤ length (nameUnits (base wide (now part)) (now suffix)))
+        × (2 * n ≤ length (now out)) ⌝ }
+    ensures { λ r. ⌜ Wrote (now (out .entry)) (unitBytes (take n (drop from (nameUnits (base wide (now (part .entry))) (now (suffix .entry))))))
+        (now (out .exit)) r ⌝ }
 {
     let mut at: usize = 0;
     let mut i: usize = 0;
@@ -54,8 +56,8 @@ fn put_units(out: &mut [u8], part: &[u8], wide: bool, suffix: &[u8], from: usize
 
 // The 64 bytes of the 32 units of a lowered name from a place on.
 fn chunk_at(part: &[u8], wide: bool, suffix: &[u8], from: usize) -> [u8; 64]
-    requires { ⌜ from + 32 ≤ length (nameUnits wide (now part) (now suffix)) ⌝ }
-    ensures { λ r. ⌜ r ≡ unitBytes (take 32 (drop from (nameUnits wide (now (part .entry)) (now (suffix .entry))))) ⌝ }
+    requires { ⌜ (isWell (decoded wide (now part)) ≡ true) × (from + 32 ≤ length (nameUnits (base wide (now part)) (now suffix))) ⌝ }
+    ensures { λ r. ⌜ r ≡ unitBytes (take 32 (drop from (nameUnits (base wide (now (part .entry))) (now (suffix .entry))))) ⌝ }
 {
     let mut chunk = [0u8; 64];
     put_units(&mut chunk, part, wide, suffix, from, 32);
@@ -64,8 +66,8 @@ fn chunk_at(part: &[u8], wide: bool, suffix: &[u8], from: usize) -> [u8; 64]
 
 // The word of the first four units of a lowered name.
 fn first_word(part: &[u8], wide: bool, suffix: &[u8]) -> u64
-    requires { ⌜ 4 ≤ length (nameUnits wide (now part) (now suffix)) ⌝ }
-    ensures { λ r. ⌜ r ≡ leAt 8 (unitBytes (nameUnits wide (now (part .entry)) (now (suffix .entry)))) 0 ⌝ }
+    requires { ⌜ (isWell (decoded wide (now part)) ≡ true) × (4 ≤ length (nameUnits (base wide (now part)) (now suffix))) ⌝ }
+    ensures { λ r. ⌜ r ≡ leAt 8 (unitBytes (nameUnits (base wide (now (part .entry))) (now (suffix .entry)))) 0 ⌝ }
 {
     let mut word = [0u8; 8];
     put_units(&mut word, part, wide, suffix, 0, 4);
@@ -74,8 +76,8 @@ fn first_word(part: &[u8], wide: bool, suffix: &[u8]) -> u64
 
 // CityHash64 of a lowered name of more than 32 units.
 fn long_hash(part: &[u8], wide: bool, suffix: &[u8], n: usize) -> u64
-    requires { ⌜ (n ≡ length (nameUnits wide (now part) (now suffix))) × (32 < n) × (n < 2 ^ 33) ⌝ }
-    ensures { λ r. ⌜ r ≡ cityHash64 (unitBytes (nameUnits wide (now (part .entry)) (now (suffix .entry)))) ⌝ }
+    requires { ⌜ (isWell (decoded wide (now part)) ≡ true) × (n ≡ length (nameUnits (base wide (now part)) (now suffix))) × (32 < n) × (n < 2 ^ 33) ⌝ }
+    ensures { λ r. ⌜ r ≡ cityHash64 (unitBytes (nameUnits (base wide (now (part .entry))) (now (suffix .entry)))) ⌝ }
 {
     let last = chunk_at(part, wide, suffix, n - 32);
     let first = first_word(part, wide, suffix);
@@ -93,8 +95,8 @@ fn long_hash(part: &[u8], wide: bool, suffix: &[u8], n: usize) -> u64
 
 // CityHash64 of a lowered name.
 fn units_hash(part: &[u8], wide: bool, suffix: &[u8]) -> u64
-    requires { ⌜ (length (now part) < 2 ^ 32) × (length (now suffix) < 2 ^ 32) ⌝ }
-    ensures { λ r. ⌜ r ≡ cityHash64 (unitBytes (nameUnits wide (now (part .entry)) (now (suffix .entry)))) ⌝ }
+    requires { ⌜ (isWell (decoded wide (now part)) ≡ true) × (length (now part) < 2 ^ 32) × (length (now suffix) < 2 ^ 32) ⌝ }
+    ensures { λ r. ⌜ r ≡ cityHash64 (unitBytes (nameUnits (base wide (now (part .entry))) (now (suffix .entry)))) ⌝ }
 {
     let n = unit_count(part, wide) + suffix.len();
     if 32 < n {

@@ -1,10 +1,10 @@
-// A to Z lowered.
+// Lowering one character: A to Z.
 ghost use mathlib.Core.Path.{_≡_};
-ghost use Rattle.text.specs.Lower.{lower};
+ghost use Rattle.text.specs.LowerAscii.{lowerAscii};
 
-// The lower-case form of a scalar value: A to Z become a to z.
-pub fn lower_scalar(c: u32) -> u32
-    ensures { λ r. ⌜ r ≡ lower c ⌝ }
+// A to Z become a to z; every other value stays.
+pub fn lower_ascii(c: u32) -> u32
+    ensures { λ r. ⌜ r ≡ lowerAscii c ⌝ }
 {
     if c < 65 {
         return c;

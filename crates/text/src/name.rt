@@ -105,7 +105,8 @@ pub fn put_name(out: &mut [u8], part: &[u8], wide: bool, number: u32) -> usize
 
 // The rendered name as a text: its length in 4 bytes, then its bytes.
 pub fn put_name_text(out: &mut [u8], part: &[u8], wide: bool, number: u32) -> usize
-    requires { ⌜ (isWell (decoded wide (now part)) ≡ true) × (length (textBytes (rendered wide (now part) number)) ≤ length (now out)) × (length (utf8 (rendered wide (now part) number)) < 2 ^ 32) ⌝ }
+    requires { ⌜ (isWell (decoded wide (now part)) ≡ true) × (length (textBytes (rendered wide (now part) number)) ≤ length (now out))
+        × (length (utf8 (rendered wide (now part) number)) < 2 ^ 32) ⌝ }
     ensures { λ r. ⌜ Wrote (now (out .entry)) (textBytes (rendered wide (now (part .entry)) number)) (now (out .exit)) r ⌝ }
 {
     let n = put_name(&mut out[4..], part, wide, number);

@@ -36,7 +36,8 @@ pub extern "C" fn text_name_id(part: &[u8], wide: bool, number: u32) -> u64
 // the buffer as it was.
 #[no_mangle]
 pub extern "C" fn text_put_name(out: &mut [u8], part: &[u8], wide: bool, number: u32) -> u64
-    ensures { λ r. ⌜ (r ≡ nameAnswer (length (now (out .entry))) wide (now (part .entry)) number) × (now (out .exit) ≡ nameAfter (now (out .entry)) wide (now (part .entry)) number) ⌝ }
+    ensures { λ r. ⌜ (r ≡ nameAnswer (length (now (out .entry))) wide (now (part .entry)) number)
+        × (now (out .exit) ≡ nameAfter (now (out .entry)) wide (now (part .entry)) number) ⌝ }
 {
     if is_fine(part, wide) {
         if text::name::name_len(part, wide, number) <= out.len() {

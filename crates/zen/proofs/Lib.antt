@@ -1,2 +1,3 @@
-pub mod Notes
+pub mod Noting
+pub mod Seeking
 pub mod Walk

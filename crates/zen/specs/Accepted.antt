@@ -16,15 +16,15 @@ use Rattle.text.specs.ReadingGives.{refused-gives}
 use Rattle.text.specs.ReadingRows.{cells, cells-at, cells-length}
 use Rattle.text.specs.Number.{leAt}
 use Rattle.text.specs.NumberLaws.{Bytes, bytes-part, leAt-part, leAt-lt}
-use Rattle.zen.specs.Batch.{Batch, batch}
+use Rattle.zen.specs.Batch.{batch}
 use Rattle.zen.specs.Zen.{Read, Tables, Imports, summary, ordered, bulk, tables, exportAt, imports, content, header, lead, packageBlock, named, asciis, noExport}
-use Rattle.zen.specs.Answers.{Order, answer, batched, hashesOf, exportsOf, namesOf, importedOf, numbersOf, hashCount, exportCount}
+use Rattle.zen.specs.Answers.{Order, answer, hashesOf, exportsOf, namesOf, importedOf, numbersOf, hashCount, exportCount}
 use Rattle.zen.specs.TableLaws.{bulk-got, tables-is, hashesIn, exportsIn}
 use Rattle.zen.specs.AnswersLaws.{accepted-got}
 use Rattle.zen.specs.Places.{textsAt, Held}
 use Rattle.zen.specs.SummaryLaws.{order-of, summary-got}
 use Rattle.zen.specs.BlockLaws.{block-is, block-low, block-bad, lead-got}
-use Rattle.zen.specs.FoundBatch.{FoundAt, found-at, found-held}
+use Rattle.zen.specs.FoundBatch.{FoundAt, found-by, found-end, found-held}
 use Rattle.zen.specs.ImportLaws.{imports-short, imports-is}
 use Rattle.zen.specs.declared.summary.Summary.{Summary}
 use Rattle.zen.specs.declared.names.Names.{Names}
@@ -48,20 +48,6 @@ tables-got s m n o t k q =
     let z : record { hashes = hashesIn s m; exports = exportsIn s m } ≡ t = cc in
     record { hashes = ap (λ t. t .hashes) (sym z); exports = ap (λ t. t .exports) (sym z); named = rw (← z) d; ends = cc }
 
--- a batch: where it is, and that its texts are those at its names' places
-record BatchGot (s : List ℕ) (at : ℕ) (ns : Batch) (e : ℕ) : Type 0 where
-  found : FoundAt s at (ns .place)
-  texts : ns .texts ≡ textsAt s (ns .place .headers) (ns .place .strings) (ns .place .count)
-  ends : e ≡ ns .place .«end»
-
-batch-got : (s : List ℕ) (at : ℕ) (ns : Batch) (e : ℕ) → at ≤ length s → walk batch s at ≡ got ns e → BatchGot s at ns e
-unfolding batched
-batch-got s at ns e l q =
-    let f = found-at s at (ns .place) l (rw q refl) in
-    let z : got ns e ≡ got (record { place = ns .place; texts = f .texts }) (ns .place .«end») = sym q ∙ f .is in
-    let y : ns ≡ record { place = ns .place; texts = f .texts } = cc in
-    record { found = f; texts = ap (λ b. b .texts) y ∙ f .same; ends = cc }
-
 record ImportsGot (s : List ℕ) (at index count : ℕ) (v : Imports) : Type 0 where
   found : FoundAt s at (v .batch .place)
   texts : v .batch .texts ≡ textsAt s (v .batch .place .headers) (v .batch .place .strings) (v .batch .place .count)
@@ -70,10 +56,11 @@ record ImportsGot (s : List ℕ) (at index count : ℕ) (v : Imports) : Type 0 w
   within : index < count
   ascii : asciis (v .batch .texts) ≡ true
 
-imports-got : (s : List ℕ) (at index count : ℕ) (v : Imports) (k : ℕ) → at ≤ length s → walk (imports index count) s at ≡ got v k → ImportsGot s at index count v
+imports-got : (s : List ℕ) (at index count : ℕ) (v : Imports) (k : ℕ) → at ≤ length s → walk (imports index count) s at ≡ got v k
+    → ImportsGot s at index count v
 unfolding imports
 imports-got s at index count v k l q =
-    chain-by (walk batch s at) _ (sym (walk-bind batch _ s at) ∙ q) λ ns e u w. go (ns .place) (batch-got s at ns e l u .found)
+    chain-by (walk batch s at) _ (sym (walk-bind batch _ s at) ∙ q) λ ns e u w. go (ns .place) (found-by s at ns e l u)
   where
     go : (n : Names) → FoundAt s at n → ImportsGot s at index count v
     go n f = two (decLe (n .«end» + 4 * n .count) (length s))
@@ -87,7 +74,8 @@ imports-got s at index count v k l q =
             let z = eqb-true (length s - (n .«end» + 4 * n .count)) 0 a in
             let d : Imports = record { batch = record { place = n; texts = f .texts }; numbers = cells (leAt 4 s) 4 (n .«end») (n .count) } in
             let y : d ≡ v = cc in
-            let x : ImportsGot s at index count d = record { found = f; texts = f .same; numbers = refl; ends = omega arith; within = ltb-true index count b; ascii = c } in
+            let x : ImportsGot s at index count d =
+            record { found = f; texts = f .same; numbers = refl; ends = omega arith; within = ltb-true index count b; ascii = c } in
             rw y at x
 
 -- what the header's reading says
@@ -113,12 +101,34 @@ content-got s size m o r n q =
     chain-by (walk (bulk (m .hashes)) s e) _ (sym (walk-bind (bulk (m .hashes)) _ s e) ∙ v) λ x k f g.
     chain-by (walk (tables m (ns .place .count)) s k) _ (sym (walk-bind (tables m (ns .place .count)) _ s k) ∙ g) λ t j h i.
     chain-by (walk (imports (m .index) (ns .place .count)) s j) _ (sym (walk-bind (imports (m .index) (ns .place .count)) _ s j) ∙ i) λ is y z w.
-    let a = batch-got s 52 ns e (omega (arith, o .low, o .imports, o .exports, o .bundles, o .imported, o .high)) u in
+    let a = found-by s 52 ns e (omega (arith, o .low, o .imports, o .exports, o .bundles, o .imported, o .high)) u in
     let d = tables-got s m (ns .place .count) o t j (rw (bulk-got s e (m .hashes) f) at h) in
     let b = imports-got s (m .imported) (m .index) (ns .place .count) is y (o .high) (rw (d .ends) at z) in
-    let c : Read = record { layout = record { size = size; summary = m; names = ns .place; imported = is .batch .place }; names = ns .texts; hashes = t .hashes; exports = t .exports; imported = is .batch .texts; numbers = is .numbers } in
+    let c : Read = record {
+      layout = record { size = size; summary = m; names = ns .place; imported = is .batch .place };
+      names = ns .texts;
+      hashes = t .hashes;
+      exports = t .exports;
+      imported = is .batch .texts;
+      numbers = is .numbers;
+    } in
     let l : c ≡ r = cc in
-    let p : Says s size c = record { size = refl; order = o; hashes = d .hashes; exports = d .exports; named = d .named; index = b .within; found = a .found; names = a .texts; behind = b .found; imported = b .texts; numbers = b .numbers; ends = b .ends; ascii = b .ascii } in
+    let p : Says s size c = record {
+      size = refl;
+      order = o;
+      hashes = d .hashes;
+      exports = d .exports;
+      named = d .named;
+      index = b .within;
+      found = a;
+      names = found-end ns u a .1
+          ∙ a .same;
+      behind = b .found;
+      imported = b .texts;
+      numbers = b .numbers;
+      ends = b .ends;
+      ascii = b .ascii;
+    } in
     rw l at p
 
 header-got : (s : List ℕ) (r : Read) (n : ℕ) → walk (header (length s)) s 8 ≡ got r n → Says s (length s) r
@@ -235,19 +245,34 @@ parts b l q =
 -- ---- the i-th of each
 module _ {b : List ℕ} {l : Layout} (p : Parts b l) (i : ℕ) where
   pub hash-there : i < length (hashesOf (runBlock packageBlock b)) → l .summary .hashes + 8 * i + 8 ≤ l .size
-  hash-there h = omega (arith, p .hash-count, div-add-mod' (l .summary .imports - l .summary .hashes) 8, p .order .imports, p .order .exports, p .order .bundles, p .order .imported, p .order .high)
+  hash-there h =
+      omega (
+        arith,
+        p .hash-count,
+        div-add-mod' (l .summary .imports - l .summary .hashes) 8,
+        p .order .imports,
+        p .order .exports,
+        p .order .bundles,
+        p .order .imported,
+        p .order .high,
+      )
 
-  pub hash-is : i < length (hashesOf (runBlock packageBlock b)) → getD (hashesOf (runBlock packageBlock b)) i 0 ≡ leAt 8 (take (l .size) b) (l .summary .hashes + 8 * i)
+  pub hash-is : i < length (hashesOf (runBlock packageBlock b))
+      → getD (hashesOf (runBlock packageBlock b)) i 0 ≡ leAt 8 (take (l .size) b) (l .summary .hashes + 8 * i)
   hash-is h = rw (p .hashes) (cells-at (leAt 8 (take (l .size) b)) 8 (l .summary .hashes) (hashCount l) i 0 (rw (p .hash-count) at h))
 
   pub export-there : i < length (exportsOf (runBlock packageBlock b)) → l .summary .exports + 72 * i + 72 ≤ l .size
-  export-there h = omega (arith, p .export-count, div-add-mod' (l .summary .bundles - l .summary .exports) 72, p .order .bundles, p .order .imported, p .order .high)
+  export-there h =
+      omega (arith, p .export-count, div-add-mod' (l .summary .bundles - l .summary .exports) 72, p .order .bundles, p .order .imported, p .order .high)
 
-  pub export-is : i < length (exportsOf (runBlock packageBlock b)) → getD (exportsOf (runBlock packageBlock b)) i noExport ≡ exportAt (take (l .size) b) (l .summary .exports + 72 * i)
+  pub export-is : i < length (exportsOf (runBlock packageBlock b))
+      → getD (exportsOf (runBlock packageBlock b)) i noExport ≡ exportAt (take (l .size) b) (l .summary .exports + 72 * i)
   export-is h = rw (p .exports) (cells-at (exportAt (take (l .size) b)) 72 (l .summary .exports) (exportCount l) i noExport (rw (p .export-count) at h))
 
   pub number-there : i < l .imported .count → l .imported .«end» + 4 * i + 4 ≤ l .size
   number-there h = omega (arith, p .ends)
 
   pub number-is : i < l .imported .count → getD (numbersOf (runBlock packageBlock b)) i 0 ≡ leAt 4 b (l .imported .«end» + 4 * i)
-  number-is h = rw (p .numbers) (cells-at (leAt 4 (take (l .size) b)) 4 (l .imported .«end») (l .imported .count) i 0 h ∙ (leAt-part 4 0 (l .size) b (l .imported .«end» + 4 * i) (number-there h) ∙ ap (leAt 4 b) (omega arith)))
+  number-is h =
+      rw (p .numbers) (cells-at (leAt 4 (take (l .size) b)) 4 (l .imported .«end») (l .imported .count) i 0 h
+      ∙ (leAt-part 4 0 (l .size) b (l .imported .«end» + 4 * i) (number-there h) ∙ ap (leAt 4 b) (omega arith)))

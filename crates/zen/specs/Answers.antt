@@ -11,14 +11,20 @@ use Rattle.zen.specs.declared.zen.Package.{Package}
 use Rattle.zen.specs.declared.zen.Package.the-variants.{Accepted, Rejected}
 use Rattle.zen.specs.declared.names.NameBatch.{NameBatch}
 use Rattle.zen.specs.declared.names.NameBatch.the-variants.{Found, Refused}
+use Rattle.zen.specs.declared.lead.Lead.{Lead}
+use Rattle.zen.specs.declared.lead.Lead.the-variants.{Header, Fault}
 use Rattle.zen.specs.declared.summary.Summed.{Summed}
 use Rattle.zen.specs.declared.summary.Summed.the-variants.{Told, Missed}
 use Rattle.zen.specs.declared.names.Checked.{Checked}
 use Rattle.zen.specs.declared.names.Checked.the-variants.{Passed, Failed}
 
+unfoldable pub led : Got ℕ → Lead
+led (bad e) = Fault e
+led (got size n) = Header size
+
 unfoldable pub checked : {A : Type 0} → Got A → Checked
 checked (bad e) = Failed e
-checked (got a n) = Passed n
+checked (got a n) = Passed
 
 unfoldable pub summed : Got Summary → Summed
 summed (bad e) = Missed e

@@ -4,32 +4,34 @@ use mathlib.Core.List.{List, _∷_}
 use Prim.Native.Nat.{ℕ, zero, suc, _-_, _≤_, _<_}
 use native.Mathlib.Omega.{arith}
 use native.Mathlib.Numerals.{sub-one}
+use Rattle.text.specs.Never.{never}
 use Rattle.text.specs.Reading.{Out, refused, gives, Got, bad, got, Reading, walk, rows}
 use Rattle.text.specs.ReadingRows.{mapGot, rows-zero, rows-suc}
 use Rattle.zen.specs.Batch.{Batch}
 use Rattle.zen.specs.Zen.{Imports, Read}
-use Rattle.zen.specs.Answers.{summed, batched, imported, checked, answer}
+use Rattle.zen.specs.Answers.{led, summed, batched, imported, checked, answer}
 use Rattle.zen.specs.declared.names.Names.{Names}
 use Rattle.zen.specs.declared.summary.Summary.{Summary}
 use Rattle.zen.specs.declared.names.NameBatch.the-variants.{Found, Refused}
+use Rattle.zen.specs.declared.lead.Lead.the-variants.{Header, Fault}
 use Rattle.zen.specs.declared.summary.Summed.the-variants.{Told, Missed}
 use Rattle.zen.specs.declared.names.Checked.the-variants.{Passed, Failed}
 use Rattle.zen.specs.declared.zen.Layout.{Layout}
 use Rattle.zen.specs.declared.zen.Package.the-variants.{Accepted, Rejected}
 
--- a check: where it ends, or the question
+-- a check: passed, or the question
 module _ {A : Type 0} where
-  pub checked-passed : (g : Got A) {n : ℕ} → checked g ≡ Passed n → (a : A) × (g ≡ got a n)
+  pub checked-passed : (g : Got A) → checked g ≡ Passed → (a : A) × (n : ℕ) × (g ≡ got a n)
   unfolding checked
-  checked-passed (got a m) q = (a, cc)
-  checked-passed (bad r) q = absurd (let z : _≡_ {A = ℕ} 0 1 = cc in omega arith)
+  checked-passed (got a n) q = (a, n, refl)
+  checked-passed (bad r) q = never (cc)
 
   pub checked-failed : (g : Got A) {r : ℕ} → checked g ≡ Failed r → g ≡ bad r
   unfolding checked
-  checked-failed (got a m) q = absurd (let z : _≡_ {A = ℕ} 0 1 = cc in omega arith)
+  checked-failed (got a m) q = never (cc)
   checked-failed (bad r) q = cc
 
-  pub checked-got : {g : Got A} {a : A} {n : ℕ} → g ≡ got a n → checked g ≡ Passed n
+  pub checked-got : {g : Got A} {a : A} {n : ℕ} → g ≡ got a n → checked g ≡ Passed
   unfolding checked
   checked-got q = rw q
 
@@ -43,47 +45,58 @@ module _ {A B : Type 0} where
   checked-map (got a m) f = refl
   checked-map (bad r) f = refl
 
+-- what stands before the header
+pub led-header : (g : Got ℕ) {size : ℕ} → led g ≡ Header size → (n : ℕ) × (g ≡ got size n)
+unfolding led
+led-header (got a n) {size} q = (n, let z : a ≡ size = cc in rw z)
+led-header (bad e) q = never (cc)
+
+pub led-fault : (g : Got ℕ) {e : ℕ} → led g ≡ Fault e → g ≡ bad e
+unfolding led
+led-fault (got a n) q = never (cc)
+led-fault (bad e) q = cc
+
 -- a package
 pub accepted-got : (x : Out Read) {l : Layout} → answer x ≡ Accepted l → (r : Read) × (x ≡ gives r) × (r .layout ≡ l)
 unfolding answer
-accepted-got (refused e) q = absurd (let z : _≡_ {A = ℕ} 0 1 = cc in omega arith)
+accepted-got (refused e) q = never (cc)
 accepted-got (gives r) q = (r, refl, cc)
 
 pub rejected-got : (x : Out Read) {e : ℕ} → answer x ≡ Rejected e → x ≡ refused e
 unfolding answer
 rejected-got (refused f) q = cc
-rejected-got (gives r) q = absurd (let z : _≡_ {A = ℕ} 0 1 = cc in omega arith)
+rejected-got (gives r) q = never (cc)
 
 -- a summary
 pub summed-told : (g : Got Summary) {m : Summary} → summed g ≡ Told m → (n : ℕ) × (g ≡ got m n)
 unfolding summed
 summed-told (got a k) {m} q = (k, let z : a ≡ m = cc in rw z)
-summed-told (bad r) q = absurd (let z : _≡_ {A = ℕ} 0 1 = cc in omega arith)
+summed-told (bad r) q = never (cc)
 
 pub summed-missed : (g : Got Summary) {r : ℕ} → summed g ≡ Missed r → g ≡ bad r
 unfolding summed
-summed-missed (got a k) q = absurd (let z : _≡_ {A = ℕ} 0 1 = cc in omega arith)
+summed-missed (got a k) q = never (cc)
 summed-missed (bad r) q = cc
 
 -- a batch, and the imported names (that a batch was found: FoundBatch)
 pub batched-refused : (g : Got Batch) {r : ℕ} → batched g ≡ Refused r → g ≡ bad r
 unfolding batched
-batched-refused (got a k) q = absurd (let z : _≡_ {A = ℕ} 0 1 = cc in omega arith)
+batched-refused (got a k) q = never (cc)
 batched-refused (bad r) q = cc
 
 pub imported-found : (g : Got Imports) {n : Names} → imported g ≡ Found n → (v : Imports) × (k : ℕ) × (g ≡ got v k) × (v .batch .place ≡ n)
 unfolding imported
 imported-found (got v k) q = (v, k, refl, cc)
-imported-found (bad r) q = absurd (let z : _≡_ {A = ℕ} 0 1 = cc in omega arith)
+imported-found (bad r) q = never (cc)
 
 pub imported-refused : (g : Got Imports) {r : ℕ} → imported g ≡ Refused r → g ≡ bad r
 unfolding imported
-imported-refused (got v k) q = absurd (let z : _≡_ {A = ℕ} 0 1 = cc in omega arith)
+imported-refused (got v k) q = never (cc)
 imported-refused (bad r) q = cc
 
 -- a check of records one after another, from one on: none is left; one is read; one is refused
 module _ {A : Type 0} (p : Reading A) (s : List ℕ) where
-  pub rows-none : (k at : ℕ) → k ≤ 0 → checked (walk (rows k p) s at) ≡ Passed at
+  pub rows-none : (k at : ℕ) → k ≤ 0 → checked (walk (rows k p) s at) ≡ Passed
   rows-none zero at l = checked-got (rows-zero p s at)
   rows-none (suc k) at l = absurd (omega arith)
 

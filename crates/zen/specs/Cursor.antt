@@ -1,13 +1,22 @@
--- A read at a position (document 01: "`Cursor` holds its bytes and position"; question 3: "are its bytes there?"). Assumes nothing.
-use mathlib.Core.Bool.{cond}
+-- Reading through a cursor (document 01: "`Cursor` holds its bytes and position"): a read finds what the reading gives at the
+-- cursor's position (question 3: "are its bytes there?"). Assumes nothing.
 use mathlib.Core.List.{List}
-use Prim.Native.Nat.{ℕ, _+_}
-use lib.Dec.{leb}
-use lib.ListN.{length}
-use Rattle.text.specs.Number.{leAt}
+use Prim.Native.Nat.{ℕ}
+use Rattle.text.specs.Reading.{Got, bad, got, walk}
+use Rattle.zen.specs.Batch.{u32}
 use Rattle.zen.specs.declared.cursor.Word.{Word}
-use Rattle.zen.specs.declared.cursor.Word.the-variants.{Got, Short}
+use Rattle.zen.specs.declared.cursor.Word.the-variants.{Got as Word-at, Short}
 
--- the four bytes from a position on, little-endian, and the position after them; or that they are not there
-unfoldable pub wordAt : List ℕ → ℕ → Word
-wordAt s at = cond (leb (at + 4) (length s)) (Got (leAt 4 s at) (at + 4)) Short
+-- a number and the position behind it, or that its bytes are not there
+unfoldable pub worded : Got ℕ → Word
+worded (bad r) = Short
+worded (got n at) = Word-at n at
+
+-- the u32 at a position
+abbrev pub wordAt : List ℕ → ℕ → Word
+wordAt s at = worded (walk u32 s at)
+
+-- the position that a read leaves: behind what it found, or where it was
+unfoldable pub behind : Word → ℕ → ℕ
+behind (Word-at n next) at = next
+behind Short at = at

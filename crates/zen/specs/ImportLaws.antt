@@ -35,7 +35,8 @@ module _ (s : List ℕ) (h p : ℕ) where
   asciis-fail zero l q = absurd (omega arith)
   asciis-fail (suc k) l q = rw q
 
-  pub asciis-pass : (k : ℕ) → 0 < k → allAscii (base (headAt s h .wide) (take (headAt s h .size) (drop p s))) ≡ true → asciis (textsAt s h p k) ≡ asciis (textsAt s (h + 2) (p + headAt s h .size) (k - 1))
+  pub asciis-pass : (k : ℕ) → 0 < k → allAscii (base (headAt s h .wide) (take (headAt s h .size) (drop p s))) ≡ true
+      → asciis (textsAt s h p k) ≡ asciis (textsAt s (h + 2) (p + headAt s h .size) (k - 1))
   unfolding textsAt
   asciis-pass zero l q = absurd (omega arith)
   asciis-pass (suc k) l q = rw (q, sub-one)
@@ -49,13 +50,22 @@ module _ (s : List ℕ) (at index count : ℕ) where
   module _ (n : Names) (f : FoundAt s at n) where
     pub imports-short : length s < n .«end» + 4 * n .count → walk (imports index count) s at ≡ bad 3
     unfolding imports
-    imports-short l = then-walk batch _ s at (f .is) ∙ then-bad (rows (n .count) u32) _ s (n .«end») (rows-short u32 s (leAt 4 s) 4 (number-there 4 s) (number-short 4 s) (n .count) (n .«end») (f .inside) l)
+    imports-short l =
+        then-walk batch _ s at (f .is)
+        ∙ then-bad (rows (n .count) u32) _ s (n .«end»)
+        (rows-short u32 s (leAt 4 s) 4 (number-there 4 s) (number-short 4 s) (n .count) (n .«end») (f .inside) l)
 
     pub imports-is : n .«end» + 4 * n .count ≤ length s
-        → walk (imports index count) s at ≡ pick (eqb (length s - (n .«end» + 4 * n .count)) 0) (pick (ltb index count) (pick (asciis (f .texts)) (got (record { batch = record { place = n; texts = f .texts }; numbers = cells (leAt 4 s) 4 (n .«end») (n .count) }) (n .«end» + 4 * n .count)) (bad 23)) (bad 10)) (bad 22)
+        → walk (imports index count) s at
+        ≡ pick (eqb (length s - (n .«end» + 4 * n .count)) 0)
+        (pick (ltb index count) (pick (asciis (f .texts))
+        (got (record { batch = record { place = n; texts = f .texts }; numbers = cells (leAt 4 s) 4 (n .«end») (n .count) })
+        (n .«end» + 4 * n .count)) (bad 23)) (bad 10)) (bad 22)
     unfolding imports
     imports-is l =
-        then-walk batch _ s at (f .is) ∙ (then-walk (rows (n .count) u32) _ s (n .«end») (rows-there u32 s (leAt 4 s) 4 (number-there 4 s) (n .count) (n .«end») l)
-        ∙ (ask-is (eqb (length s - (n .«end» + 4 * n .count)) 0) 22 _ s (n .«end» + 4 * n .count) ∙ pick-cong (eqb (length s - (n .«end» + 4 * n .count)) 0) (bad 22) λ a.
+        then-walk batch _ s at (f .is)
+        ∙ (then-walk (rows (n .count) u32) _ s (n .«end») (rows-there u32 s (leAt 4 s) 4 (number-there 4 s) (n .count) (n .«end») l)
+        ∙ (ask-is (eqb (length s - (n .«end» + 4 * n .count)) 0) 22 _ s (n .«end» + 4 * n .count)
+        ∙ pick-cong (eqb (length s - (n .«end» + 4 * n .count)) 0) (bad 22) λ a.
         ask-is (ltb index count) 10 _ s (n .«end» + 4 * n .count) ∙ pick-cong (ltb index count) (bad 10) λ b.
         ask-is (asciis (f .texts)) 23 _ s (n .«end» + 4 * n .count)))

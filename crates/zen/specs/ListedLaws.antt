@@ -14,7 +14,7 @@ use Rattle.text.specs.Name.{decoded, base}
 use Rattle.text.specs.Number.{le}
 use Rattle.text.specs.Index.{kind}
 use Rattle.text.specs.Signed.{twos}
-use Rattle.text.specs.Reading.{got, give, walk, ask, rows, rowsOn, onto}
+use Rattle.text.specs.Reading.{got, give, walk, ask, rows, onto}
 use Rattle.text.specs.ReadingLaws.{walk-bind, chain-by, pick-by, ask-by, bad-got}
 use Rattle.text.specs.ReadingMarks.{Mark, whole, none}
 use Rattle.text.specs.ReadingTrail.{trail, trail-bind, trail-ask, trail-rows, copies, copies-replicate}
@@ -41,7 +41,8 @@ export-trail s at = refl
 -- ---- a batch
 
 -- the strings are used up
-strings-trail : (hs : List Head) (done : List (List ℕ)) (room : ℕ) (s : List ℕ) (p : ℕ) {ts : List (List ℕ)} {e : ℕ} → walk (stringsOn done hs room) s p ≡ got ts e
+strings-trail : (hs : List Head) (done : List (List ℕ)) (room : ℕ) (s : List ℕ) (p : ℕ) {ts : List (List ℕ)} {e : ℕ}
+    → walk (stringsOn done hs room) s p ≡ got ts e
     → (trail (stringsOn done hs room) s p ≡ replicate room whole) × (e ≡ p + room)
 strings-trail [] done room s p {ts} {e} q =
     ask-by (eqb room 0) 7 (give (onto done [])) s p q λ t r.
@@ -55,7 +56,8 @@ strings-trail (h ∷ hs) done room s p q =
     let z = leb-true (h .size) room t in
     let y : h .size + (room - h .size) ≡ room = omega arith in
     let i = strings-trail hs (base (h .wide) (take (h .size) (drop p s)) ∷ done) (room - h .size) s (p + h .size) r in (
-      trail-ask 5 _ s p t ∙ (ap (λ ms. replicate (h .size) whole ++ ms) (trail-ask 6 _ s (p + h .size) u ∙ i .0) ∙ (replicate-append-replicate (h .size) (room - h .size) whole ∙ ap (λ n. replicate n whole) y)),
+      trail-ask 5 _ s p t ∙ (ap (λ ms. replicate (h .size) whole ++ ms) (trail-ask 6 _ s (p + h .size) u ∙ i .0)
+          ∙ (replicate-append-replicate (h .size) (room - h .size) whole ∙ ap (λ n. replicate n whole) y)),
       omega (arith, i .1),
     )
 
@@ -70,10 +72,10 @@ record Body (n : ℕ) (b : Batch) (m : ℕ) (ms : List Mark) : Type 0 where
   is : ms ≡ replicate (8 * n) none ++ (replicate (2 * n) whole ++ replicate (b .place .«end» - b .place .strings) whole)
 
 body-trail : (n room : ℕ) (s : List ℕ) (at : ℕ) {b : Batch} {m : ℕ} → walk (body n room) s at ≡ got b m → Body n b m (trail (body n room) s at)
-unfolding body strings rows
+unfolding body strings
 body-trail n room s at {b} {m} q =
     pick-by (leb (at + 8 * n) (length s)) _ 3 q λ l r.
-    chain-by (walk (rowsOn [] n head) s (at + 8 * n)) _ (sym (walk-bind (rowsOn [] n head) _ s (at + 8 * n)) ∙ r) λ hs p f r.
+    chain-by (walk (rows n head) s (at + 8 * n)) _ (sym (walk-bind (rows n head) _ s (at + 8 * n)) ∙ r) λ hs p f r.
     ask-by (leb room (length s - p)) 3 _ s p r λ t r.
     chain-by (walk (stringsOn [] hs room) s p) _ (sym (walk-bind (stringsOn [] hs room) _ s p) ∙ r) λ ts e g r.
     let c : Batch = record { place = record { count = n; headers = at + 8 * n; strings = p; «end» = e }; texts = ts } in
@@ -81,21 +83,28 @@ body-trail n room s at {b} {m} q =
     let y : e ≡ m = cc in
     let i = strings-trail hs [] room s p g in
     let w : e - p ≡ room = omega (arith, i .1) in
-    let h = trail-rows head s (replicate 2 whole) (λ at a m q. head-trail s at) n [] (at + 8 * n) f ∙ copies-replicate n 2 whole in
+    let h = trail-rows head s (replicate 2 whole) (λ at a m q. head-trail s at) n (at + 8 * n) f ∙ copies-replicate n 2 whole in
     let x : Body n c e (trail (body n room) s at) = record {
       count = refl;
       «end» = refl;
-      is = ap (λ ms. replicate (8 * n) none ++ ms) (trail-bind (rowsOn [] n head) _ s (at + 8 * n) f ∙ rw (h, trail-ask 3 _ s p t, trail-bind (stringsOn [] hs room) _ s p g, i .0, w, append-nil (replicate room whole)));
+      is =
+          ap (λ ms. replicate (8 * n) none ++ ms)
+          (trail-bind (rows n head) _ s (at + 8 * n) f
+          ∙ rw (h, trail-ask 3 _ s p t, trail-bind (stringsOn [] hs room) _ s p g, i .0, w, append-nil (replicate room whole)));
     } in
     rw (← z, ← y) x
 
-some-trail : (n : ℕ) (s : List ℕ) (at : ℕ) {b : Batch} {m : ℕ} → walk (someNames n) s at ≡ got b m → (ms : List Mark) × Body n b m ms × (trail (someNames n) s at ≡ replicate 12 whole ++ ms)
+some-trail : (n : ℕ) (s : List ℕ) (at : ℕ) {b : Batch} {m : ℕ} → walk (someNames n) s at ≡ got b m
+    → (ms : List Mark) × Body n b m ms × (trail (someNames n) s at ≡ replicate 12 whole ++ ms)
 unfolding someNames
 some-trail n s at q =
     pick-by (leb (at + 4) (length s)) _ 3 q λ l r.
     pick-by (leb (at + 4 + 8) (length s)) _ 3 r λ l r.
-    ask-by (eqb (le (take 8 (drop (at + 4) s))) 0xC1640000) 4 _ s (at + 4 + 8) r λ t r.
-    (_, body-trail n (le (take 4 (drop at s))) s (at + 4 + 8) r, ap (λ ms. replicate 12 whole ++ ms) (trail-ask 4 (body n (le (take 4 (drop at s)))) s (at + 4 + 8) t))
+    ask-by (eqb (le (take 8 (drop (at + 4) s))) 0xC1640000) 4 _ s (at + 4 + 8) r λ t r. (
+      _,
+      body-trail n (le (take 4 (drop at s))) s (at + 4 + 8) r,
+      ap (λ ms. replicate 12 whole ++ ms) (trail-ask 4 (body n (le (take 4 (drop at s)))) s (at + 4 + 8) t),
+    )
 
 pub batch-trail : (s : List ℕ) (at : ℕ) {b : Batch} {m : ℕ} → walk batch s at ≡ got b m → (trail batch s at ≡ batchMarks (b .place)) × (m ≡ b .place .«end»)
 unfolding batch noNames batchMarks
@@ -119,7 +128,8 @@ batch-trail s at {b} {m} q = pick-by (leb (at + 4) (length s)) _ 3 q λ l r. go 
 
 -- ---- a script block
 
-entries-trail : (n names : ℕ) (done : List Entry) (s : List ℕ) (at : ℕ) {es : List Entry} {m : ℕ} → walk (entriesOn done names n) s at ≡ got es m → trail (entriesOn done names n) s at ≡ copies n entryMarks
+entries-trail : (n names : ℕ) (done : List Entry) (s : List ℕ) (at : ℕ) {es : List Entry} {m : ℕ} → walk (entriesOn done names n) s at ≡ got es m
+    → trail (entriesOn done names n) s at ≡ copies n entryMarks
 entries-trail zero names done s at q = refl
 entries-trail (suc n) names done s at q =
     chain-by (walk entry s at) _ (sym (walk-bind entry _ s at) ∙ q) λ e p f r.
@@ -128,7 +138,8 @@ entries-trail (suc n) names done s at q =
     ask-by (fresh (e .global) done) 12 _ s p r λ v r.
     trail-bind entry _ s at f ∙ rw (entry-trail s at, trail-ask 10 _ s p t, trail-ask 11 _ s p u, trail-ask 12 _ s p v, entries-trail n names (e ∷ done) s p r)
 
-opening-trail : (s : List ℕ) (at : ℕ) {o : Start} {m : ℕ} → walk opening s at ≡ got o m → trail opening s at ≡ batchMarks (o .layout .names) ++ replicate 4 whole
+opening-trail : (s : List ℕ) (at : ℕ) {o : Start} {m : ℕ} → walk opening s at ≡ got o m
+    → trail opening s at ≡ batchMarks (o .layout .names) ++ replicate 4 whole
 unfolding opening
 opening-trail s at {o} {m} q =
     chain-by (walk batch s at) _ (sym (walk-bind batch _ s at) ∙ q) λ b p f r.
@@ -149,7 +160,14 @@ script-trail s at {o} {m} q =
     ask-by (eqb (length s - j) 0) 13 _ s j r λ t r.
     let z : record { layout = i .layout; names = i .names; entries = es } ≡ o = cc in
     let y : j ≡ m = cc in (
-      trail-bind opening _ s at f ∙ rw (← z, opening-trail s at f, trail-bind (entriesOn [] n (i .layout .count)) _ s p g, entries-trail (i .layout .count) n [] s p g, trail-ask 13 _ s j t) (append-assoc (batchMarks (i .layout .names)) (replicate 4 whole) _),
+      trail-bind opening _ s at f
+          ∙ rw (
+            ← z,
+            opening-trail s at f,
+            trail-bind (entriesOn [] n (i .layout .count)) _ s p g,
+            entries-trail (i .layout .count) n [] s p g,
+            trail-ask 13 _ s j t,
+          ) (append-assoc (batchMarks (i .layout .names)) (replicate 4 whole) _),
       rw (← y) (eqb-true (length s - j) 0 t),
     )
 
@@ -164,22 +182,23 @@ offset-trail s at x m q =
 
 -- behind the flag and the header size
 pub summary-trail : (s : List ℕ) (at : ℕ) {m : Summary} {e : ℕ} → walk summary s at ≡ got m e → replicate 8 whole ++ trail summary s at ≡ summaryMarks
-unfolding summary summaryMarks nameMarks rows
+unfolding summary summaryMarks nameMarks
 summary-trail s at q =
     pick-by (leb (at + 3) (length s)) _ 3 q λ l r.
     pick-by (leb (at + 3 + 1) (length s)) _ 3 r λ l r.
     pick-by (leb (at + 3 + 1 + 4) (length s)) _ 3 r λ l r.
     pick-by (leb (at + 3 + 1 + 4 + 4) (length s)) _ 3 r λ l r.
     pick-by (leb (at + 3 + 1 + 4 + 4 + 4) (length s)) _ 3 r λ l r.
-    chain-by (walk (rowsOn [] 7 offset) s (at + 3 + 1 + 4 + 4 + 4)) _ (sym (walk-bind (rowsOn [] 7 offset) _ s (at + 3 + 1 + 4 + 4 + 4)) ∙ r) λ os p f r.
-    let h = trail-rows offset s (replicate 4 whole) (offset-trail s) 7 [] (at + 3 + 1 + 4 + 4 + 4) f in
-    rw (trail-bind (rowsOn [] 7 offset) _ s (at + 3 + 1 + 4 + 4 + 4) f, h)
+    chain-by (walk (rows 7 offset) s (at + 3 + 1 + 4 + 4 + 4)) _ (sym (walk-bind (rows 7 offset) _ s (at + 3 + 1 + 4 + 4 + 4)) ∙ r) λ os p f r.
+    let h = trail-rows offset s (replicate 4 whole) (offset-trail s) 7 (at + 3 + 1 + 4 + 4 + 4) f in
+    rw (trail-bind (rows 7 offset) _ s (at + 3 + 1 + 4 + 4 + 4) f, h)
 
 ask-met : (t : Bool) (e : ℕ) (s : List ℕ) (at : ℕ) {u : Unit {0}} {m : ℕ} → walk (ask t e) s at ≡ got u m → t ≡ true
 ask-met true e s at q = refl
 ask-met false e s at q = bad-got q
 
-bulk-trail : (stop : ℕ) (s : List ℕ) (at : ℕ) {u : Unit {0}} {m : ℕ} → walk (bulk stop) s at ≡ got u m → trail (bulk stop) s at ≡ replicate 8 whole ++ replicate (stop - (at + 8)) none
+bulk-trail : (stop : ℕ) (s : List ℕ) (at : ℕ) {u : Unit {0}} {m : ℕ} → walk (bulk stop) s at ≡ got u m
+    → trail (bulk stop) s at ≡ replicate 8 whole ++ replicate (stop - (at + 8)) none
 unfolding bulk
 bulk-trail stop s at q =
     pick-by (leb (at + 8) (length s)) _ 3 q λ l r.
@@ -192,39 +211,60 @@ bulk-trail stop s at q =
     ap (λ ms. replicate 8 whole ++ ms) (trail-ask 18 _ s (at + 8) t ∙ rw (v, y, append-nil (replicate z none)))
 
 tables-trail : (m : Summary) (n : ℕ) (s : List ℕ) (at : ℕ) {t : Tables} {e : ℕ} → walk (tables m n) s at ≡ got t e
-    → trail (tables m n) s at ≡ replicate (m .imports - m .hashes) whole ++ (replicate (m .exports - m .imports) none ++ (copies ((m .bundles - m .exports) / 72) exportMarks ++ replicate (m .imported - m .bundles) none))
-unfolding tables rows
+    → trail (tables m n) s at
+    ≡ replicate (m .imports - m .hashes) whole
+    ++ (replicate (m .exports - m .imports) none ++ (copies ((m .bundles - m .exports) / 72) exportMarks ++ replicate (m .imported - m .bundles) none))
+unfolding tables
 tables-trail m n s at q =
     let hn = (m .imports - m .hashes) / 8 in
     let xn = (m .bundles - m .exports) / 72 in
     ask-by (eqb ((m .imports - m .hashes) % 8) 0) 20 _ s at q λ a r.
-    chain-by (walk (rowsOn [] hn u64) s at) _ (sym (walk-bind (rowsOn [] hn u64) _ s at) ∙ r) λ hs p f r.
+    chain-by (walk (rows hn u64) s at) _ (sym (walk-bind (rows hn u64) _ s at) ∙ r) λ hs p f r.
     ask-by (eqb ((m .exports - m .imports) % 8) 0) 20 _ s p r λ b r.
     pick-by (leb (p + (m .exports - m .imports)) (length s)) _ 3 r λ l r.
     let o = p + (m .exports - m .imports) in
     ask-by (eqb ((m .bundles - m .exports) % 72) 0) 21 _ s o r λ c r.
-    chain-by (walk (rowsOn [] xn export) s o) _ (sym (walk-bind (rowsOn [] xn export) _ s o) ∙ r) λ es j g r.
+    chain-by (walk (rows xn export) s o) _ (sym (walk-bind (rows xn export) _ s o) ∙ r) λ es j g r.
     ask-by (named n es) 10 _ s j r λ d r.
-    let h = trail-rows u64 s (replicate 8 whole) (λ at a m q. refl) hn [] at f ∙ (copies-replicate hn 8 whole ∙ ap (λ n. replicate n whole) (in-parts 7 (m .imports - m .hashes) a)) in
-    let x = trail-rows export s exportMarks (λ at a m q. export-trail s at) xn [] o g in
-    trail-ask 20 _ s at a ∙ (trail-bind (rowsOn [] hn u64) _ s at f
-    ∙ rw (h, trail-ask 20 _ s p b, trail-ask 21 _ s o c, trail-bind (rowsOn [] xn export) _ s o g, x, trail-ask 10 _ s j d, append-nil (replicate (m .imported - m .bundles) none)))
+    let h = trail-rows u64 s (replicate 8 whole) (λ at a m q. refl) hn at f
+    ∙ (copies-replicate hn 8 whole ∙ ap (λ n. replicate n whole) (in-parts 7 (m .imports - m .hashes) a)) in
+    let x = trail-rows export s exportMarks (λ at a m q. export-trail s at) xn o g in
+    trail-ask 20 _ s at a ∙ (trail-bind (rows hn u64) _ s at f
+    ∙ rw (
+      h,
+      trail-ask 20 _ s p b,
+      trail-ask 21 _ s o c,
+      trail-bind (rows xn export) _ s o g,
+      x,
+      trail-ask 10 _ s j d,
+      append-nil (replicate (m .imported - m .bundles) none),
+    ))
 
 -- nothing is left behind the numbers
 imports-trail : (i c : ℕ) (s : List ℕ) (at : ℕ) {is : Imports} {e : ℕ} → walk (imports i c) s at ≡ got is e
     → (trail (imports i c) s at ≡ batchMarks (is .batch .place) ++ replicate (4 * is .batch .place .count) whole) × (length s - e ≡ 0)
-unfolding imports rows
+unfolding imports
 imports-trail i c s at {is} {e} q =
     chain-by (walk batch s at) _ (sym (walk-bind batch _ s at) ∙ q) λ b p f r.
     let n = b .place .count in
-    chain-by (walk (rowsOn [] n u32) s p) _ (sym (walk-bind (rowsOn [] n u32) _ s p) ∙ r) λ ks j g r.
+    chain-by (walk (rows n u32) s p) _ (sym (walk-bind (rows n u32) _ s p) ∙ r) λ ks j g r.
     ask-by (eqb (length s - j) 0) 22 _ s j r λ t r.
     ask-by (ltb i c) 10 _ s j r λ u r.
     ask-by (asciis (b .texts)) 23 _ s j r λ v r.
     let z : record { batch = b; numbers = ks } ≡ is = cc in
     let y : j ≡ e = cc in
-    let h = trail-rows u32 s (replicate 4 whole) (λ at a m q. refl) n [] p g ∙ copies-replicate n 4 whole in (
-      trail-bind batch _ s at f ∙ rw (← z, batch-trail s at f .0, trail-bind (rowsOn [] n u32) _ s p g, h, trail-ask 22 _ s j t, trail-ask 10 _ s j u, trail-ask 23 _ s j v, append-nil (replicate (4 * n) whole)),
+    let h = trail-rows u32 s (replicate 4 whole) (λ at a m q. refl) n p g ∙ copies-replicate n 4 whole in (
+      trail-bind batch _ s at f
+          ∙ rw (
+            ← z,
+            batch-trail s at f .0,
+            trail-bind (rows n u32) _ s p g,
+            h,
+            trail-ask 22 _ s j t,
+            trail-ask 10 _ s j u,
+            trail-ask 23 _ s j v,
+            append-nil (replicate (4 * n) whole),
+          ),
       rw (← y) (eqb-true (length s - j) 0 t),
     )
 
@@ -237,7 +277,8 @@ record Content (all : ℕ) (s : List ℕ) (r : Read) (e : ℕ) (ms : List Mark) 
   «end» : length s - e ≡ 0
   is : ms ≡ contentMarks (r .layout)
 
-content-trail : (size : ℕ) (m : Summary) (s : List ℕ) (at : ℕ) {r : Read} {e : ℕ} → walk (content size m) s at ≡ got r e → Content size s r e (trail (content size m) s at)
+content-trail : (size : ℕ) (m : Summary) (s : List ℕ) (at : ℕ) {r : Read} {e : ℕ} → walk (content size m) s at ≡ got r e
+    → Content size s r e (trail (content size m) s at)
 unfolding content tableMarks
 content-trail size m s at {r} {e} q =
     chain-by (walk batch s at) _ (sym (walk-bind batch _ s at) ∙ q) λ ns p f w.
@@ -261,7 +302,16 @@ content-trail size m s at {r} {e} q =
       «end» = x .1;
       is =
           trail-bind batch _ s at f
-          ∙ rw (b .0, trail-bind (bulk (m .hashes)) _ s p g, bulk-trail (m .hashes) s p g, trail-bind (tables m (ns .place .count)) _ s j h, tables-trail m (ns .place .count) s j h, trail-bind (imports (m .index) (ns .place .count)) _ s k i, x .0, b .1) (simp (append-assoc, append-nil));
+          ∙ rw (
+            b .0,
+            trail-bind (bulk (m .hashes)) _ s p g,
+            bulk-trail (m .hashes) s p g,
+            trail-bind (tables m (ns .place .count)) _ s j h,
+            tables-trail m (ns .place .count) s j h,
+            trail-bind (imports (m .index) (ns .place .count)) _ s k i,
+            x .0,
+            b .1,
+          ) (simp (append-assoc, append-nil));
     } in
     rw (← z, ← y) a
 

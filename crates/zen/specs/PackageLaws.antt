@@ -19,7 +19,6 @@ use Rattle.zen.specs.Places.{placeAt, partAt}
 use Rattle.zen.specs.PlacesLaws.{texts-length}
 use Rattle.zen.specs.Holds.{Holds, holds-take}
 use Rattle.zen.specs.Accepted.{parts}
-use Rattle.zen.specs.Refusals.{refusal-byte}
 use Rattle.zen.specs.declared.places.Place.{Place}
 use Rattle.zen.specs.declared.tables.Export.{Export}
 use Rattle.zen.specs.declared.zen.Layout.{Layout}
@@ -27,8 +26,8 @@ use Rattle.zen.specs.declared.zen.Package.the-variants.{Accepted, Reject
 
 -- ---- a rejected block
 
-pub rejected-read : (b : List ℕ) (q : ℕ) → answer (runBlock packageBlock b) ≡ Rejected q → (runBlock packageBlock b ≡ refused q) × (q < 256)
-rejected-read b q e = let r = rejected-got (runBlock packageBlock b) e in (r, refusal-byte b q r)
+pub rejected-read : (b : List ℕ) (q : ℕ) → answer (runBlock packageBlock b) ≡ Rejected q → runBlock packageBlock b ≡ refused q
+rejected-read b q e = rejected-got (runBlock packageBlock b) e
 
 -- ---- elements that passed a test
 
@@ -76,7 +75,8 @@ module _ (b : List ℕ) (l : Layout) (acc : answer (runBlock packageBlock b) ≡
     imported-text h e = let k = parts b l acc in rw (e, k .imported) (holds-take b (l .size) (l .imported) (k .size) y (k .imported-held y) i h)
 
   -- the names that are rendered, from the texts and the numbers
-  pub imported-name : (i : ℕ) → importedNameOf (runBlock packageBlock b) i ≡ getD (importedOf (runBlock packageBlock b)) i [] ++ suffix (getD (numbersOf (runBlock packageBlock b)) i 0)
+  pub imported-name : (i : ℕ)
+      → importedNameOf (runBlock packageBlock b) i ≡ getD (importedOf (runBlock packageBlock b)) i [] ++ suffix (getD (numbersOf (runBlock packageBlock b)) i 0)
   unfolding importedNameOf importedOf numbersOf
   imported-name i = let (r, y, z) = accepted-read in rw y
 
@@ -90,8 +90,10 @@ module _ (b : List ℕ) (l : Layout) (acc : answer (runBlock packageBlock b) ≡
         → rendered (p .wide) (partAt b p) (getD (numbersOf (runBlock packageBlock b)) i 0) ≡ importedNameOf (runBlock packageBlock b) i
     imported-rendered i h e = rw (imported-name i, imported-text y i p h e .text)
 
-    pub package-text : p ≡ placeAt (take (l .size) b) (l .names) (l .summary .index) → Holds b p (getD (namesOf (runBlock packageBlock b)) (l .summary .index) [])
+    pub package-text : p ≡ placeAt (take (l .size) b) (l .names) (l .summary .index)
+        → Holds b p (getD (namesOf (runBlock packageBlock b)) (l .summary .index) [])
     package-text e = name-text y (l .summary .index) p (parts b l acc .index) e
 
-    pub package-rendered : p ≡ placeAt (take (l .size) b) (l .names) (l .summary .index) → rendered (p .wide) (partAt b p) (l .summary .number) ≡ packageNameOf (runBlock packageBlock b)
+    pub package-rendered : p ≡ placeAt (take (l .size) b) (l .names) (l .summary .index)
+        → rendered (p .wide) (partAt b p) (l .summary .number) ≡ packageNameOf (runBlock packageBlock b)
     package-rendered e = rw (package-name, package-text e .text)

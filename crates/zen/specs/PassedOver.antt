@@ -1,25 +1,25 @@
 -- What document 01 lists under "Passed over" may take any values, and no reading changes: neither a value nor a refusal.
 use mathlib.Core.Path.{_≡_, refl, sym, _∙_, ap}
 use mathlib.Core.Logic.{_↔_}
-use mathlib.Core.List.{List, [], _++_, append-nil}
+use mathlib.Core.List.{List, _++_, append-nil}
 use Prim.Native.Nat.{ℕ, _-_, _≤_}
 use native.Mathlib.Omega.{arith}
 use native.Mathlib.Decide.{decLe}
-use lib.ListN.{length, take, drop, replicate, length-take, drop-of-length-le}
+use lib.ListN.{length, take, drop, replicate}
 use lib.Seq.{length-take-le}
-use Rattle.text.specs.Number.{leAt}
 use Rattle.text.specs.NumberLaws.{Bytes}
-use Rattle.text.specs.Reading.{refused, gives, Got, bad, got, run, walk, from, runBlock}
-use Rattle.text.specs.ReadingMarks.{whole, none, Agree, marks, marks-length, agree-same, marksFrom, marksBlock, block-same}
+use Rattle.text.specs.Reading.{gives, Got, bad, got, run, walk, runBlock}
+use Rattle.text.specs.ReadingLaws.{block-read}
+use Rattle.text.specs.ReadingMarks.{whole, none, Agree, marks, marks-length, agree-same, marksBlock, block-marks, block-same}
 use Rattle.text.specs.ReadingRewrite.{Rewritten, rewriting, rewrite, run-rewrite, block-length, block-rewrite}
 use Rattle.text.specs.ReadingTrail.{trail, trail-marks, run-got}
 use Rattle.text.specs.ReadingGives.{refused-gives}
-use Rattle.zen.specs.Field.{low30}
 use Rattle.zen.specs.Batch.{Batch, batch}
 use Rattle.zen.specs.Script.{Objects, entry, script}
-use Rattle.zen.specs.ScriptAnswers.{entryAt}
-use Rattle.zen.specs.Zen.{Read, summary, export, exportAt, lead, header, packageBlock}
-use Rattle.zen.specs.BlockLaws.{lead-got}
+use Rattle.zen.specs.Zen.{Read, summary, export, lead, header, packageBlock}
+use Rattle.zen.specs.BlockLaws.{block-low, block-bad, lead-got}
+use Rattle.zen.specs.ScriptLaws.{entry-there}
+use Rattle.zen.specs.TableLaws.{export-there}
 use Rattle.zen.specs.Listed.{batchMarks, entryMarks, summaryMarks, exportMarks, scriptMarks, headerMarks, packageMarks}
 use Rattle.zen.specs.ListedLaws.{batch-trail, entry-trail, summary-trail, export-trail, script-trail, header-trail}
 use Rattle.zen.specs.declared.summary.Summary.{Summary}
@@ -51,23 +51,20 @@ package-rewriting b c h = rewriting (marksBlock packageBlock b) b c (block-lengt
 
 -- of a script entry and of an export, whatever their bytes are
 pub entry-marks : (s : List ℕ) → length s ≡ 32 → marks entry 0 s ≡ entryMarks
-unfolding entry entryAt low30 leAt
-entry-marks s e =
-    let w : walk entry s 0 ≡ got (entryAt s 0) 32 = rw e in
-    trail-marks entry s 0 w ∙ rw (e, entry-trail s 0)
+entry-marks s e = trail-marks entry s 0 (entry-there s 0 (omega arith)) ∙ rw (e, entry-trail s 0) (append-nil entryMarks)
 
 pub export-marks : (s : List ℕ) → length s ≡ 72 → marks export 0 s ≡ exportMarks
-unfolding export exportAt low30 leAt
-export-marks s e =
-    let w : walk export s 0 ≡ got (exportAt s 0) 72 = rw e in
-    trail-marks export s 0 w ∙ rw (e, export-trail s 0)
+export-marks s e = trail-marks export s 0 (export-there s 0 (omega arith)) ∙ rw (e, export-trail s 0) (append-nil exportMarks)
 
 -- of a batch and of a summary, wherever they are read
-pub batch-marks : (s : List ℕ) (at : ℕ) {b : Batch} {m : ℕ} → walk batch s at ≡ got b m → marks batch at (drop at s) ≡ batchMarks (b .place) ++ replicate (length s - m) none
+pub batch-marks : (s : List ℕ) (at : ℕ) {b : Batch} {m : ℕ} → walk batch s at ≡ got b m
+    → marks batch at (drop at s) ≡ batchMarks (b .place) ++ replicate (length s - m) none
 batch-marks s at q = trail-marks batch s at q ∙ rw (batch-trail s at q .0)
 
-pub summary-marks : (s : List ℕ) {m : Summary} {e : ℕ} → walk summary s 8 ≡ got m e → replicate 8 whole ++ marks summary 8 (drop 8 s) ≡ summaryMarks ++ replicate (length s - e) none
-summary-marks s {m} {e} q = ap (λ ms. replicate 8 whole ++ ms) (trail-marks summary s 8 q) ∙ ap (λ ms. ms ++ replicate (length s - e) none) (summary-trail s 8 q)
+pub summary-marks : (s : List ℕ) {m : Summary} {e : ℕ} → walk summary s 8 ≡ got m e
+    → replicate 8 whole ++ marks summary 8 (drop 8 s) ≡ summaryMarks ++ replicate (length s - e) none
+summary-marks s {m} {e} q =
+    ap (λ ms. replicate 8 whole ++ ms) (trail-marks summary s 8 q) ∙ ap (λ ms. ms ++ replicate (length s - e) none) (summary-trail s 8 q)
 
 -- of an accepted script block: those of the list
 pub script-marks : (b : List ℕ) {o : Objects} → run script 0 b ≡ gives o → marks script 0 b ≡ scriptMarks (o .layout)
@@ -75,11 +72,6 @@ script-marks b q =
     let w = run-got script b 0 (omega arith) q in
     let t = script-trail b 0 (w .1) in
     trail-marks script b 0 (w .1) ∙ rw (t .0, t .1) (append-nil _)
-
--- a header under 8 bytes ends before the package's name
-short : (size : ℕ) → run (header size) 8 [] ≡ refused 3
-unfolding header summary
-short size = refl
 
 header-marks : (b : List ℕ) (size : ℕ) {r : Read} → 8 ≤ size → size ≤ length b → run (header size) 8 (drop 8 (take size b)) ≡ gives r
     → replicate 8 whole ++ (marks (header size) 8 (drop 8 (take size b)) ++ replicate (length b - 8 - (size - 8)) none) ≡ packageMarks (r .layout) (length b)
@@ -95,21 +87,24 @@ header-marks b size {r} h l q =
 
 -- of an accepted package block: those of the list
 pub package-marks : (b : List ℕ) {r : Read} → runBlock packageBlock b ≡ gives r → marksBlock packageBlock b ≡ packageMarks (r .layout) (length b)
-unfolding runBlock marksBlock
-package-marks b {r} q = go (walk lead b 0) refl q
+package-marks b {r} q = go (walk lead b 0) refl
   where
-    go : (w : Got ℕ) → walk lead b 0 ≡ w → from header b w ≡ gives r → marksFrom packageBlock b w ≡ packageMarks (r .layout) (length b)
-    go (bad e) f q = refused-gives q
-    go (got size at) f q = rw (lead-got b size at f .0) (sized (decLe 8 size) (rw (lead-got b size at f .0) at q))
+    go : (w : Got ℕ) → walk lead b 0 ≡ w → marksBlock packageBlock b ≡ packageMarks (r .layout) (length b)
+    go (bad e) f = refused-gives (sym (block-bad b f) ∙ q)
+    go (got size at) f = sized (decLe 8 size)
       where
-        sized : Dec (8 ≤ size) → run (header size) 8 (drop 8 (take size b)) ≡ gives r → marksFrom packageBlock b (got size 8) ≡ packageMarks (r .layout) (length b)
-        sized (yes h) q = header-marks b size h (lead-got b size at f .1) q
-        sized (no h) q = refused-gives (sym (short size) ∙ rw (drop-of-length-le (take size b) {i = 8} (simp length-take (omega arith))) at q)
+        led : walk lead b 0 ≡ got size 8
+        led = f ∙ ap (got size) (lead-got b size at f .0)
+
+        sized : Dec (8 ≤ size) → marksBlock packageBlock b ≡ packageMarks (r .layout) (length b)
+        sized (yes h) = block-marks packageBlock b led ∙ header-marks b size h (lead-got b size at f .1) (sym (block-read packageBlock b led) ∙ q)
+        sized (no h) = refused-gives (sym (block-low b led (omega arith)) ∙ q)
 
 -- ---- what is listed may take any values: an accepted block stays accepted, with the same value
 
 pub script-passed : (b c : List ℕ) {o : Objects} → run script 0 b ≡ gives o → Agree (scriptMarks (o .layout)) b c → run script 0 c ≡ gives o
 script-passed b c q a = script-same b c (rw (script-marks b q) a) ∙ q
 
-pub package-passed : (b c : List ℕ) {r : Read} → runBlock packageBlock b ≡ gives r → Agree (packageMarks (r .layout) (length b)) b c → runBlock packageBlock c ≡ gives r
+pub package-passed : (b c : List ℕ) {r : Read} → runBlock packageBlock b ≡ gives r → Agree (packageMarks (r .layout) (length b)) b c
+    → runBlock packageBlock c ≡ gives r
 package-passed b c q a = package-same b c (rw (package-marks b q) a) ∙ q

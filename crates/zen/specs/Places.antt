@@ -24,10 +24,6 @@ textsAt s h p (suc k) = base (headAt s h .wide) (take (headAt s h .size) (drop p
 unfoldable pub placeAt : List ℕ → Names → ℕ → Place
 placeAt s n i = record { start = nameStart s (n .headers) (n .strings) i; size = headAt s (n .headers + 2 * i) .size; wide = headAt s (n .headers + 2 * i) .wide }
 
--- how many names there are from a note to the next, so that 256 notes do
-abbrev pub stepOf : ℕ → ℕ
-stepOf count = count / 256 + 1
-
 -- the bytes at a place
 abbrev pub partAt : List ℕ → Place → List ℕ
 partAt s p = take (p .size) (drop (p .start) s)
@@ -39,7 +35,3 @@ pub record Held (s : List ℕ) (n : Names) : Type 0 where
   pub ends : n .«end» ≤ length s
   pub span : n .«end» - n .strings < 4294967296
   pub well : (i : ℕ) → i < n .count → isWell (decoded (placeAt s n i .wide) (partAt s (placeAt s n i))) ≡ true
-
--- every step-th name's place among the strings
-pub record Marked (s : List ℕ) (n : Names) (marks : List ℕ) : Type 0 where
-  pub at : (j : ℕ) → j < 256 → stepOf (n .count) * j ≤ n .count → getD marks j 0 ≡ nameStart s (n .headers) (n .strings) (stepOf (n .count) * j) - n .strings

@@ -6,6 +6,7 @@ use native.Mathlib.Omega.{arith}
 use borrow.Author.Tests.{eqb-true}
 use lib.Dec.{eqb}
 use lib.ListN.{length, getD}
+use Rattle.text.specs.Never.{never}
 use Rattle.text.specs.Index.{kind}
 use Rattle.text.specs.Name.{base, suffix}
 use Rattle.text.specs.NumberLaws.{Bytes}
@@ -27,12 +28,12 @@ use Rattle.zen.specs.declared.script.Script.the-variants.{Accepted, Reje
 pub accepted-objects : (x : Out Objects) {l : Layout} → scriptAnswer x ≡ Accepted l → (o : Objects) × (x ≡ gives o) × (o .layout ≡ l)
 unfolding scriptAnswer
 accepted-objects (gives o) q = (o, refl, cc)
-accepted-objects (refused r) q = absurd (let z : _≡_ {A = ℕ} 0 1 = cc in omega arith)
+accepted-objects (refused r) q = never (cc)
 
 pub rejected-objects : (x : Out Objects) {r : ℕ} → scriptAnswer x ≡ Rejected r → x ≡ refused r
 unfolding scriptAnswer
 rejected-objects (refused r) q = cc
-rejected-objects (gives o) q = absurd (let z : _≡_ {A = ℕ} 0 1 = cc in omega arith)
+rejected-objects (gives o) q = never (cc)
 
 -- and what it came to has these parts
 module _ {x : Out Objects} {o : Objects} (q : x ≡ gives o) where
@@ -75,7 +76,8 @@ script-parts b l q = go (walk script b 0) refl
         pick-by (eqb (length b - (t .layout .entries + 32 * t .layout .count)) 0) _ 13 r λ s r.
         let g = opening-got b t at u in
         let i : run script 0 b ≡ gives (objectsAt b t) = run-script b ∙ ap out (e ∙ sym r) in
-        let w : t .layout ≡ l = let y : gives (objectsAt b t) ≡ gives (a .0) = sym i ∙ a .1 in let x : objectsAt b t ≡ a .0 = cc in ap (λ o. o .layout) x ∙ a .2 in
+        let w : t .layout ≡ l = let y : gives (objectsAt b t) ≡ gives (a .0) = sym i ∙ a .1 in let x : objectsAt b t ≡ a .0 =
+        cc in ap (λ o. o .layout) x ∙ a .2 in
         let h : length b ≤ t .layout .entries + 32 * t .layout .count = omega (arith, eqb-true (length b - (t .layout .entries + 32 * t .layout .count)) 0 s) in
         let c = eqb-true (faultAt b (t .layout)) 0 f in
         let p : ScriptParts b (t .layout) = record {
@@ -115,7 +117,8 @@ module _ (b : List ℕ) (l : Layout) (p : ScriptParts b l) where
 
     -- an object's name, from its place
     pub object-name : (o : Objects) → run script 0 b ≡ gives o
-        → objectName o (entryOf b l i) ≡ base (placeAt b (l .names) (entryOf b l i .index) .wide) (partAt b (placeAt b (l .names) (entryOf b l i .index))) ++ suffix (entryOf b l i .number)
+        → objectName o (entryOf b l i)
+        ≡ base (placeAt b (l .names) (entryOf b l i .index) .wide) (partAt b (placeAt b (l .names) (entryOf b l i .index))) ++ suffix (entryOf b l i .number)
     object-name o q = rw (← names-of q, name-text (entryOf b l i .index) (p .index i h))
 
 -- an entry that the accepted block lists: where it is, and that it is the one there

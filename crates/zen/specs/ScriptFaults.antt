@@ -36,7 +36,8 @@ module _ (e : Entry) (names : ℕ) where
   unfolding faultOf
   no-fault q = go (ltb (e .index) names) (eqb (kind (e .global)) 1) refl refl q
     where
-      go : (a b : Bool) → ltb (e .index) names ≡ a → eqb (kind (e .global)) 1 ≡ b → _≡_ {A = ℕ} (cond a (cond b 0 11) 10) 0 → (e .index < names) × (kind (e .global) ≡ 1)
+      go : (a b : Bool) → ltb (e .index) names ≡ a → eqb (kind (e .global)) 1 ≡ b → _≡_ {A = ℕ} (cond a (cond b 0 11) 10) 0
+          → (e .index < names) × (kind (e .global) ≡ 1)
       go true true a b q = (ltb-true (e .index) names a, eqb-true (kind (e .global)) 1 b)
       go true false a b q = absurd (omega arith)
       go false b a c q = absurd (omega arith)
@@ -65,7 +66,8 @@ module _ (g : ℕ) where
   fresh-none [] q j h e = absurd (omega arith)
   fresh-none (x ∷ es) q j h e = go (ℕ-discrete g (x .global)) j h e (fresh-none es)
     where
-      go : Dec (g ≡ x .global) → (j : ℕ) → j < suc (length es) → getD (x ∷ es) j noEntry .global ≡ g → (fresh g es ≡ true → (j : ℕ) → j < length es → getD es j noEntry .global ≡ g → ⊥) → ⊥
+      go : Dec (g ≡ x .global) → (j : ℕ) → j < suc (length es) → getD (x ∷ es) j noEntry .global ≡ g
+          → (fresh g es ≡ true → (j : ℕ) → j < length es → getD es j noEntry .global ≡ g → ⊥) → ⊥
       go (yes y) j h e ih = let r = rw (eq-eqb g (x .global) y) at q in let z : _≡_ {A = ℕ} 0 1 = cc in omega arith
       go (no n) zero h e ih = n (sym e)
       go (no n) (suc j) h e ih = ih (rw (ne-eqb g (x .global) n) at q) j (omega arith) e
@@ -85,7 +87,8 @@ module _ (g : ℕ) where
 module _ (s : List ℕ) (from n g : ℕ) where
   pub fresh-all : freshAt s from n g ≡ true → (j : ℕ) → j < n → entryAt s (from + 32 * j) .global ≡ g → ⊥
   unfolding freshAt
-  fresh-all q j h e = fresh-none g (cells (entryAt s) 32 from n) q j (rw (cells-length (entryAt s) 32 from n) h) (rw (cells-at (entryAt s) 32 from n j noEntry h) e)
+  fresh-all q j h e =
+      fresh-none g (cells (entryAt s) 32 from n) q j (rw (cells-length (entryAt s) 32 from n) h) (rw (cells-at (entryAt s) 32 from n j noEntry h) e)
 
   pub all-fresh : ((j : ℕ) → j < n → entryAt s (from + 32 * j) .global ≡ g → ⊥) → freshAt s from n g ≡ true
   unfolding freshAt
@@ -96,7 +99,8 @@ module _ (s : List ℕ) (from n g : ℕ) where
 
   pub fresh-seen : (j : ℕ) → j < n → entryAt s (from + 32 * j) .global ≡ g → freshAt s from n g ≡ false
   unfolding freshAt
-  fresh-seen j h e = seen-fresh g (cells (entryAt s) 32 from n) j (rw (cells-length (entryAt s) 32 from n) h) (rw (cells-at (entryAt s) 32 from n j noEntry h) e)
+  fresh-seen j h e =
+      seen-fresh g (cells (entryAt s) 32 from n) j (rw (cells-length (entryAt s) 32 from n) h) (rw (cells-at (entryAt s) 32 from n j noEntry h) e)
 
 -- the entries from one on: none is left; one has the global index; one has not
 module _ (s : List ℕ) (g : ℕ) where
@@ -118,7 +122,8 @@ module _ (s : List ℕ) (g : ℕ) where
 -- ---- the first fault of a list, and of the rest of it
 module _ (names : ℕ) where
   -- the first of a list's two parts
-  pub fault-append : (seen xs ys : List Entry) → faultOn names seen (xs ++ ys) ≡ cond (eqb (faultOn names seen xs) 0) (faultOn names (onto xs seen) ys) (faultOn names seen xs)
+  pub fault-append : (seen xs ys : List Entry)
+      → faultOn names seen (xs ++ ys) ≡ cond (eqb (faultOn names seen xs) 0) (faultOn names (onto xs seen) ys) (faultOn names seen xs)
   fault-append seen [] ys = refl
   fault-append seen (x ∷ xs) ys = go (eqb (faultOf x names) 0) refl (fresh (x .global) seen) _ _ _ (fault-append (x ∷ seen) xs ys)
     where
@@ -157,7 +162,9 @@ module _ (s : List ℕ) (l : Layout) where
   fault-none i h = let e : l .count - i ≡ 0 = omega arith in rw e
 
   module _ (i : ℕ) (h : i < l .count) where
-    pub fault-step : faultFrom s l i ≡ cond (eqb (faultOf (entryOf s l i) (l .names .count)) 0) (cond (freshAt s (l .entries) i (entryOf s l i .global)) (faultFrom s l (i + 1)) 12) (faultOf (entryOf s l i) (l .names .count))
+    pub fault-step : faultFrom s l i
+        ≡ cond (eqb (faultOf (entryOf s l i) (l .names .count)) 0)
+        (cond (freshAt s (l .entries) i (entryOf s l i .global)) (faultFrom s l (i + 1)) 12) (faultOf (entryOf s l i) (l .names .count))
     unfolding faultFrom freshAt
     fault-step =
         let e : l .count - i ≡ suc (l .count - (i + 1)) = omega arith in
@@ -180,8 +187,10 @@ module _ (s : List ℕ) (l : Layout) where
         fault-next q = fault-step ∙ rw (← is, own, q)
 
     -- no fault from it on: none of its own, its global index is new, and none behind it
-    fault-over : faultFrom s l i ≡ 0 → (faultOf (entryOf s l i) (l .names .count) ≡ 0) × (freshAt s (l .entries) i (entryOf s l i .global) ≡ true) × (faultFrom s l (i + 1) ≡ 0)
-    fault-over q = go (faultOf (entryOf s l i) (l .names .count)) (freshAt s (l .entries) i (entryOf s l i .global)) (faultFrom s l (i + 1)) (sym fault-step ∙ q)
+    fault-over : faultFrom s l i ≡ 0
+        → (faultOf (entryOf s l i) (l .names .count) ≡ 0) × (freshAt s (l .entries) i (entryOf s l i .global) ≡ true) × (faultFrom s l (i + 1) ≡ 0)
+    fault-over q =
+        go (faultOf (entryOf s l i) (l .names .count)) (freshAt s (l .entries) i (entryOf s l i .global)) (faultFrom s l (i + 1)) (sym fault-step ∙ q)
       where
         go : (x : ℕ) (t : Bool) (r : ℕ) → cond (eqb x 0) (cond t r 12) x ≡ 0 → (x ≡ 0) × (t ≡ true) × (r ≡ 0)
         go zero true r q = (refl, refl, q)

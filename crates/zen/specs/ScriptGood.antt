@@ -63,7 +63,8 @@ onto-entered names (z ∷ d) l a b = onto-entered names d (z ∷ l) (λ e m. a e
 fresh-apart : (g : ℕ) (es : List Entry) → fresh g es ≡ true → (d : Entry) → List·Memᴰ d es → d .global ≡ g → ⊥
 fresh-apart g (x ∷ es) t d m e = go (eqb g (x .global)) refl (fresh-apart g es) t m
   where
-    go : (b : Bool) → eqb g (x .global) ≡ b → (fresh g es ≡ true → (d : Entry) → List·Memᴰ d es → d .global ≡ g → ⊥) → (not b && fresh g es) ≡ true → List·Memᴰ d (x ∷ es) → ⊥
+    go : (b : Bool) → eqb g (x .global) ≡ b → (fresh g es ≡ true → (d : Entry) → List·Memᴰ d es → d .global ≡ g → ⊥) → (not b && fresh g es) ≡ true
+        → List·Memᴰ d (x ∷ es) → ⊥
     go true q ih t m = let z : _≡_ {A = ℕ} 0 1 = cc in omega arith
     go false q ih t (List·Memᴰ·head p) = eqb-false g (x .global) q (sym e ∙ ap (λ (w : Entry). w .global) p)
     go false q ih t (List·Memᴰ·tail m) = ih t d m e
@@ -72,7 +73,8 @@ fresh-apart g (x ∷ es) t d m e = go (eqb g (x .global)) refl (fresh-apart g es
 abbrev Read : ℕ → List Entry → Type 0
 Read names es = Apart es × Entered names es
 
-grow : (names : ℕ) (done : List Entry) (e : Entry) → Read names done → ltb (e .index) names ≡ true → eqb (kind (e .global)) 1 ≡ true → fresh (e .global) done ≡ true → Read names (e ∷ done)
+grow : (names : ℕ) (done : List Entry) (e : Entry) → Read names done → ltb (e .index) names ≡ true → eqb (kind (e .global)) 1 ≡ true
+    → fresh (e .global) done ≡ true → Read names (e ∷ done)
 grow names done e r i k f = ((fresh-apart (e .global) done f, r .0), each)
   where
     each : Entered names (e ∷ done)
@@ -80,7 +82,8 @@ grow names done e r i k f = ((fresh-apart (e .global) done f, r .0), each)
     each d (List·Memᴰ·tail m) = r .1 d m
 
 entries-on : (names n : ℕ) (done : List Entry) → Read names done → Gives (Read names) (entriesOn done names n)
-entries-on names zero done r = (onto-apart done [] (r .0) tt (λ x y m n e. List·Memᴰ·not-nil n), onto-entered names done [] (r .1) (λ e m. absurd (List·Memᴰ·not-nil m)))
+entries-on names zero done r =
+    (onto-apart done [] (r .0) tt (λ x y m n e. List·Memᴰ·not-nil n), onto-entered names done [] (r .1) (λ e m. absurd (List·Memᴰ·not-nil m)))
 entries-on names (suc n) done r =
     gives-bind (λ a. Unit {0}) (Read names) entry _ (gives-any entry) λ e u.
     gives-ask (Read names) (ltb (e .index) names) 10 _ λ i.
@@ -131,5 +134,6 @@ script-good b o e = gives-run Good script whole 0 b e
   where
     whole : Gives Good script
     whole = gives-bind (λ o. length (o .names) ≡ o .layout .names .count) Good opening _ opening-counted λ o c.
-        gives-bind (Read (o .layout .names .count)) Good (entriesOn [] (o .layout .names .count) (o .layout .count)) _ (entries-on (o .layout .names .count) (o .layout .count) [] (tt, λ e m. absurd (List·Memᴰ·not-nil m))) λ es r left.
+        gives-bind (Read (o .layout .names .count)) Good (entriesOn [] (o .layout .names .count) (o .layout .count)) _
+        (entries-on (o .layout .names .count) (o .layout .count) [] (tt, λ e m. absurd (List·Memᴰ·not-nil m))) λ es r left.
         gives-ask Good (eqb left 0) 13 _ λ t. record { apart = r .0; entered = rw c (r .1) }

@@ -7,12 +7,13 @@ use native.Mathlib.Omega.{arith}
 use native.Mathlib.Decide.{decLe}
 use borrow.Author.Tests.{le-leb, lt-leb, leb-true}
 use lib.Dec.{leb}
-use lib.ListN.{length}
+use lib.ListN.{length, take, drop}
 use lib.Signed.{nonNeg}
 use Rattle.text.specs.Reading.{Got, bad, got, walk, rows}
 use Rattle.text.specs.ReadingLaws.{walk-bind, pick-by, bad-got, walk-within, ask-by, pick-short}
 use Rattle.text.specs.ReadingRows.{rows-got}
-use Rattle.text.specs.Number.{leAt}
+use Rattle.text.specs.Number.{le, leAt}
+use Rattle.text.specs.NumberLaws.{leAt-is}
 use Rattle.text.specs.Signed.{twos}
 use Rattle.zen.specs.Zen.{offset, summary, summaryAt, ordered}
 use Rattle.zen.specs.Answers.{Order}
@@ -26,18 +27,21 @@ module _ (s : List ℕ) (at : ℕ) where
   offset-short l = rw (lt-leb _ _ l)
 
   pub offset-negative : at + 4 ≤ length s → nonNeg (twos 32 (leAt 4 s at)) ≡ false → walk offset s at ≡ bad 16
-  unfolding offset leAt
-  offset-negative l g = rw (le-leb _ _ l, g)
+  unfolding offset
+  offset-negative l g = rw (le-leb _ _ l, ← leAt-is 4 s at, g)
 
   pub offset-there : at + 4 ≤ length s → nonNeg (twos 32 (leAt 4 s at)) ≡ true → walk offset s at ≡ got (leAt 4 s at) (at + 4)
-  unfolding offset leAt
-  offset-there l g = rw (le-leb _ _ l, g)
+  unfolding offset
+  offset-there l g = rw (le-leb _ _ l, ← leAt-is 4 s at, g)
 
   pub offset-got : (a m : ℕ) → walk offset s at ≡ got a m → (a ≡ leAt 4 s at) × (m ≡ at + 4)
-  unfolding offset leAt
+  unfolding offset
   offset-got a m q =
       pick-by (leb (at + 4) (length s)) _ 3 q λ l r.
-      ask-by (nonNeg (twos 32 (leAt 4 s at))) 16 _ s (at + 4) r λ g e. (cc, cc)
+      let x = le (take 4 (drop at s)) in
+      ask-by (nonNeg (twos 32 x)) 16 _ s (at + 4) r λ g e.
+      let y : x ≡ a = cc in
+      (sym y ∙ sym (leAt-is 4 s at), cc)
 
 -- the summary
 module _ (s : List ℕ) where
@@ -53,13 +57,36 @@ module _ (s : List ℕ) where
   module _ (l : 24 ≤ length s) where
     pub summary-failed : {r : ℕ} → walk (rows 7 offset) s 24 ≡ bad r → walk summary s 8 ≡ bad r
     unfolding summary
-    summary-failed q = rw (le-leb 11 (length s) (omega arith), le-leb 12 (length s) (omega arith), le-leb 16 (length s) (omega arith), le-leb 20 (length s) (omega arith), le-leb 24 (length s) l, walk-bind (rows 7 offset), q)
+    summary-failed q =
+        rw (
+          le-leb 11 (length s) (omega arith),
+          le-leb 12 (length s) (omega arith),
+          le-leb 16 (length s) (omega arith),
+          le-leb 20 (length s) (omega arith),
+          le-leb 24 (length s) l,
+          walk-bind (rows 7 offset),
+          q,
+        )
 
     pub summary-passed : {os : List ℕ} {n : ℕ} → walk (rows 7 offset) s 24 ≡ got os n → (walk summary s 8 ≡ got (summaryAt s) 52) × (52 ≤ length s)
-    unfolding summary summaryAt low30 leAt
+    unfolding summary summaryAt low30
     summary-passed {os} {n} q =
-        let g = rows-got offset s (leAt 4 s) 4 (offset-got s) 7 24 os n q in
-        (rw (le-leb 11 (length s) (omega arith), le-leb 12 (length s) (omega arith), le-leb 16 (length s) (omega arith), le-leb 20 (length s) (omega arith), le-leb 24 (length s) l, walk-bind (rows 7 offset), q, g .0, g .1), omega (arith, g .1, walk-within (rows 7 offset) s 24 l q))
+        let g = rows-got offset s (leAt 4 s) 4 (offset-got s) 7 24 os n q in (
+          rw (
+            leAt-is 3 s 8,
+            leAt-is 4 s 12,
+            le-leb 11 (length s) (omega arith),
+            le-leb 12 (length s) (omega arith),
+            le-leb 16 (length s) (omega arith),
+            le-leb 20 (length s) (omega arith),
+            le-leb 24 (length s) l,
+            walk-bind (rows 7 offset),
+            q,
+            g .0,
+            g .1,
+          ),
+          omega (arith, g .1, walk-within (rows 7 offset) s 24 l q),
+        )
 
 -- the summary that was read
 pub summary-got : (s : List ℕ) {m : Summary} {n : ℕ} → walk summary s 8 ≡ got m n → (m ≡ summaryAt s) × (n ≡ 52) × (52 ≤ length s)

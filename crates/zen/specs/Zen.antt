@@ -61,7 +61,8 @@ summaryAt s = record {
 -- each at least its predecessor (first: 52), and at most the header size
 unfoldable pub ordered : Summary → ℕ → Bool
 ordered m size =
-    leb 52 (m .hashes) && leb (m .hashes) (m .imports) && leb (m .imports) (m .exports) && leb (m .exports) (m .bundles) && leb (m .bundles) (m .headers) && leb (m .headers) (m .entries) && leb (m .entries) (m .imported) && leb (m .imported) size
+    leb 52 (m .hashes) && leb (m .hashes) (m .imports) && leb (m .imports) (m .exports) && leb (m .exports) (m .bundles) && leb (m .bundles)
+    (m .headers) && leb (m .headers) (m .entries) && leb (m .entries) (m .imported) && leb (m .imported) size
 
 -- bulk size, bulk bytes passed over: not negative? 18; do they end at the public hashes? 19
 unfoldable pub bulk : ℕ → Reading (Unit {0})

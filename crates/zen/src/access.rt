@@ -6,14 +6,17 @@ ghost use Rattle.text.specs.Reading.{runBlock};
 ghost use Rattle.text.specs.Id.{idOf};
 ghost use Rattle.zen.specs.Zen.{noExport, packageBlock};
 ghost use Rattle.zen.specs.Answers.{answer, exportsOf, hashesOf, numbersOf, importedNameOf, exportCount, hashCount};
-ghost use Rattle.zen.specs.Places.{placeAt, Marked};
+ghost use Rattle.zen.specs.Places.{placeAt};
+ghost use Rattle.zen.specs.Notes.{noteCount, Noted};
 ghost use Rattle.zen.specs.declared.zen.Package.the-variants.{Accepted};
+use super::notes::NOTES;
+use super::notes::note_names;
+use super::notes::place_at;
 use super::places::Place;
-use super::places::mark_names;
-use super::places::place_at;
 use super::reader;
 use super::tables::Export;
 use super::tables::export_in;
+use super::texts::place_id;
 use super::zen::Layout;
 
 // The public hash of number i of an accepted package.
@@ -63,57 +66,55 @@ pub fn imported_number(b: &[u8], l: Layout, i: usize) -> u32
 }
 
 // Notes where the names of an accepted package start.
-pub fn mark_package_names(b: &[u8], l: Layout, marks: &mut [u32; 256])
-    requires { ⌜ (answer (runBlock packageBlock (now b)) ≡ Accepted l) × (length (now marks) ≡ 256) ⌝ }
-    ensures { λ _. ⌜ Marked (take (l .size) (now (b .entry))) (l .names) (now (marks .exit)) × (length (now (marks .exit)) ≡ 256) ⌝ }
+pub fn note_package_names(b: &[u8], l: Layout, notes: &mut [u32; NOTES])
+    requires { ⌜ (answer (runBlock packageBlock (now b)) ≡ Accepted l) × (length (now notes) ≡ noteCount) ⌝ }
+    ensures { λ _. ⌜ Noted (take (l .size) (now (b .entry))) (l .names) (now (notes .exit)) × (length (now (notes .exit)) ≡ noteCount) ⌝ }
 {
     let size = l.size;
-    mark_names(&b[0..size], l.names, marks);
+    note_names(&b[0..size], l.names, notes);
 }
 
 // Where name i of an accepted package is.
-pub fn name_place(b: &[u8], l: Layout, marks: &[u32; 256], i: usize) -> Place
-    requires { ⌜ (answer (runBlock packageBlock (now b)) ≡ Accepted l) × (i < l .names .count) × Marked (take (l .size) (now b)) (l .names) (now marks) ⌝ }
+pub fn name_place(b: &[u8], l: Layout, notes: &[u32; NOTES], i: usize) -> Place
+    requires { ⌜ (answer (runBlock packageBlock (now b)) ≡ Accepted l) × (i < l .names .count) × Noted (take (l .size) (now b)) (l .names) (now notes) ⌝ }
     ensures { λ r. ⌜ r ≡ placeAt (take (l .size) (now (b .entry))) (l .names) i ⌝ }
 {
     let size = l.size;
-    place_at(&b[0..size], l.names, marks, i)
+    place_at(&b[0..size], l.names, notes, i)
 }
 
 // Notes where the imported names of an accepted package start.
-pub fn mark_imported_names(b: &[u8], l: Layout, marks: &mut [u32; 256])
-    requires { ⌜ (answer (runBlock packageBlock (now b)) ≡ Accepted l) × (length (now marks) ≡ 256) ⌝ }
-    ensures { λ _. ⌜ Marked (take (l .size) (now (b .entry))) (l .imported) (now (marks .exit)) × (length (now (marks .exit)) ≡ 256) ⌝ }
+pub fn note_imported_names(b: &[u8], l: Layout, notes: &mut [u32; NOTES])
+    requires { ⌜ (answer (runBlock packageBlock (now b)) ≡ Accepted l) × (length (now notes) ≡ noteCount) ⌝ }
+    ensures { λ _. ⌜ Noted (take (l .size) (now (b .entry))) (l .imported) (now (notes .exit)) × (length (now (notes .exit)) ≡ noteCount) ⌝ }
 {
     let size = l.size;
-    mark_names(&b[0..size], l.imported, marks);
+    note_names(&b[0..size], l.imported, notes);
 }
 
 // Where imported name i of an accepted package is.
-pub fn imported_place(b: &[u8], l: Layout, marks: &[u32; 256], i: usize) -> Place
-    requires { ⌜ (answer (runBlock packageBlock (now b)) ≡ Accepted l) × (i < l .imported .count) × Marked (take (l .size) (now b)) (l .imported) (now marks) ⌝ }
+pub fn imported_place(b: &[u8], l: Layout, notes: &[u32; NOTES], i: usize) -> Place
+    requires { ⌜ (answer (runBlock packageBlock (now b)) ≡ Accepted l) × (i < l .imported .count) × Noted (take (l .size) (now b)) (l .imported) (now notes) ⌝ }
     ensures { λ r. ⌜ r ≡ placeAt (take (l .size) (now (b .entry))) (l .imported) i ⌝ }
 {
     let size = l.size;
-    place_at(&b[0..size], l.imported, marks, i)
+    place_at(&b[0..size], l.imported, notes, i)
 }
 
 // Where the base of an accepted package's name is.
-pub fn package_name_place(b: &[u8], l: Layout, marks: &[u32; 256]) -> Place
-    requires { ⌜ (answer (runBlock packageBlock (now b)) ≡ Accepted l) × Marked (take (l .size) (now b)) (l .names) (now marks) ⌝ }
+pub fn package_name_place(b: &[u8], l: Layout, notes: &[u32; NOTES]) -> Place
+    requires { ⌜ (answer (runBlock packageBlock (now b)) ≡ Accepted l) × Noted (take (l .size) (now b)) (l .names) (now notes) ⌝ }
     ensures { λ r. ⌜ r ≡ placeAt (take (l .size) (now (b .entry))) (l .names) (l .summary .index) ⌝ }
 {
-    name_place(b, l, marks, l.summary.index)
+    name_place(b, l, notes, l.summary.index)
 }
 
 // The id of imported name i of an accepted package.
-pub fn imported_id(b: &[u8], l: Layout, marks: &[u32; 256], i: usize) -> u64
-    requires { ⌜ (answer (runBlock packageBlock (now b)) ≡ Accepted l) × (i < l .imported .count) × Marked (take (l .size) (now b)) (l .imported) (now marks) ⌝ }
+pub fn imported_id(b: &[u8], l: Layout, notes: &[u32; NOTES], i: usize) -> u64
+    requires { ⌜ (answer (runBlock packageBlock (now b)) ≡ Accepted l) × (i < l .imported .count) × Noted (take (l .size) (now b)) (l .imported) (now notes) ⌝ }
     ensures { λ r. ⌜ r ≡ idOf (importedNameOf (runBlock packageBlock (now (b .entry))) i) ⌝ }
 {
-    let p = imported_place(b, l, marks, i);
+    let p = imported_place(b, l, notes, i);
     let number = imported_number(b, l, i);
-    let start = p.start;
-    let end = start + p.size;
-    text::id::name_id(&b[start..end], p.wide, number)
+    place_id(b, p, number)
 }

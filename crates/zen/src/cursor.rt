@@ -1,16 +1,14 @@
 // A read position over a borrowed block (reader.rs). The struct keeps the Rust's form in a few thin functions, each of which takes
-// it apart and calls one on the slice and the number.
+// it apart and calls one on the slice and the number. It goes in by value, and the one behind a read comes back.
 ghost use mathlib.Core.Path.{_≡_};
-ghost use Prim.Native.Nat.{_-_};
-ghost use lib.ListN.{length};
-ghost use Rattle.zen.specs.Cursor.{wordAt};
+ghost use Rattle.zen.specs.Cursor.{wordAt, behind};
 
 pub struct Cursor<'a> {
     pub buf: &'a [u8],
     pub pos: usize,
 }
 
-// What a read finds: the number and the position after it, or that its bytes are not there.
+// What a read finds: the number and the position behind it, or that its bytes are not there.
 pub enum Word {
     Got(u32, usize),
     Short,
@@ -30,14 +28,14 @@ pub fn u32_from(s: &[u8], at: usize) -> Word
     Word::Got(text::number::le32(s, at), at + 4)
 }
 
-// How many bytes of a slice are left from a position on.
-pub fn left_from(s: &[u8], at: usize) -> usize
-    ensures { λ r. ⌜ r ≡ length (now (s .entry)) - at ⌝ }
+// The position that a read leaves: behind what it found, or where it was.
+pub fn pos_behind(w: Word, at: usize) -> usize
+    ensures { λ r. ⌜ r ≡ behind w at ⌝ }
 {
-    if s.len() < at {
-        return 0;
+    match w {
+        Word::Got(_, next) => next,
+        Word::Short => at,
     }
-    s.len() - at
 }
 
 // A cursor at the start of a block.
@@ -47,13 +45,6 @@ pub fn new<'a>(buf: &'a [u8]) -> Cursor<'a>
     Cursor { buf, pos: 0 }
 }
 
-// How many bytes are left.
-pub fn remaining<'a>(c: Cursor<'a>) -> usize
-    ensures { λ r. ⌜ r ≡ length (now (c .entry .buf)) - c .entry .pos ⌝ }
-{
-    left_from(c.buf, c.pos)
-}
-
 // The u32 that the cursor is at.
 pub fn read_u32<'a>(c: Cursor<'a>) -> Word
     ensures { λ r. ⌜ r ≡ wordAt (now (c .entry .buf)) (c .entry .pos) ⌝ }
@@ -61,9 +52,10 @@ pub fn read_u32<'a>(c: Cursor<'a>) -> Word
     u32_from(c.buf, c.pos)
 }
 
-// The first u32 of a block: a package's versioning flag.
-pub fn first_u32(b: &[u8]) -> Word
-    ensures { λ r. ⌜ r ≡ wordAt (now (b .entry)) 0 ⌝ }
+// The cursor behind what a read of it found.
+pub fn next<'a>(c: Cursor<'a>, w: Word) -> Cursor<'a>
+    ensures { λ r. ⌜ (r .buf ≡ c .entry .buf) × (r .pos ≡ behind w (c .entry .pos)) ⌝ }
 {
-    read_u32(new(b))
+    let pos = pos_behind(w, c.pos);
+    Cursor { buf: c.buf, pos }
 }

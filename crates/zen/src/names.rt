@@ -23,7 +23,7 @@ pub struct Head {
 }
 
 pub enum Checked {
-    Passed(usize),
+    Passed,
     Failed(u8),
 }
 
@@ -73,7 +73,7 @@ fn check_names(s: &[u8], count: usize, headers: usize, from: usize, end: usize) 
         left = left - 1;
     }
     if p == end {
-        return Checked::Passed(end);
+        return Checked::Passed;
     }
     Checked::Failed(7)
 }
@@ -98,11 +98,11 @@ fn read_body(s: &[u8], at: usize, count: usize, room: usize) -> NameBatch
     }
     match check_names(s, count, headers, strings, next) {
         Checked::Failed(r) => NameBatch::Refused(r),
-        Checked::Passed(after) => NameBatch::Found(Names {
+        Checked::Passed => NameBatch::Found(Names {
             count,
             headers,
             strings,
-            end: after,
+            end: next,
         }),
     }
 }

@@ -12,14 +12,6 @@ pub fn byte(s: &[u8], at: usize) -> usize
     s[at] as usize
 }
 
-// The number of two bytes.
-pub fn u16_le(s: &[u8], at: usize) -> usize
-    requires { ⌜ at + 2 ≤ length (now s) ⌝ }
-    ensures { λ r. ⌜ (r ≡ leAt 2 (now (s .entry)) at) × (r < 65536) ⌝ }
-{
-    text::number::le16(s, at) as usize
-}
-
 // The number of four bytes.
 pub fn u32_le(s: &[u8], at: usize) -> usize
     requires { ⌜ at + 4 ≤ length (now s) ⌝ }

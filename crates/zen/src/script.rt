@@ -5,14 +5,10 @@ ghost use lib.ListN.{length, getD};
 ghost use Rattle.text.specs.Reading.{run};
 ghost use Rattle.zen.specs.Script.{script};
 ghost use Rattle.zen.specs.ScriptAnswers.{opened, entryAt, faultOf, freshAt, faultAt, scriptAnswer, entriesOf, noEntry};
-ghost use Rattle.zen.specs.Places.{placeAt, Marked};
 ghost use Rattle.zen.specs.declared.script.Script.the-variants.{Accepted};
 use super::names::NameBatch;
 use super::names::Names;
 use super::names::read_batch;
-use super::places::Place;
-use super::places::mark_names;
-use super::places::place_at;
 use super::reader;
 use text::number::le32;
 use text::number::le64;
@@ -161,20 +157,4 @@ pub fn entry_at(b: &[u8], l: Layout, i: usize) -> Entry
     ensures { λ r. ⌜ r ≡ getD (entriesOf (run script 0 (now (b .entry)))) i noEntry ⌝ }
 {
     entry_in(b, l.entries + 32 * i)
-}
-
-// Notes where the names of an accepted block start.
-pub fn mark_object_names(b: &[u8], l: Layout, marks: &mut [u32; 256])
-    requires { ⌜ (scriptAnswer (run script 0 (now b)) ≡ Accepted l) × (length (now marks) ≡ 256) ⌝ }
-    ensures { λ _. ⌜ Marked (now (b .entry)) (l .names) (now (marks .exit)) × (length (now (marks .exit)) ≡ 256) ⌝ }
-{
-    mark_names(b, l.names, marks);
-}
-
-// Where name i of an accepted block is: an object's, by its entry's index.
-pub fn object_place(b: &[u8], l: Layout, marks: &[u32; 256], i: usize) -> Place
-    requires { ⌜ (scriptAnswer (run script 0 (now b)) ≡ Accepted l) × (i < l .names .count) × Marked (now b) (l .names) (now marks) ⌝ }
-    ensures { λ r. ⌜ r ≡ placeAt (now (b .entry)) (l .names) i ⌝ }
-{
-    place_at(b, l.names, marks, i)
 }

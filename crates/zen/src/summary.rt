@@ -44,7 +44,7 @@ fn check_offsets(s: &[u8], from: usize) -> Checked
             }
         }
     }
-    Checked::Passed(at)
+    Checked::Passed
 }
 
 fn summary_in(s: &[u8]) -> Summary
@@ -73,7 +73,7 @@ pub fn read_summary(s: &[u8]) -> Summed
     }
     match check_offsets(s, 24) {
         Checked::Failed(r) => Summed::Missed(r),
-        Checked::Passed(at) => Summed::Told(summary_in(s)),
+        Checked::Passed => Summed::Told(summary_in(s)),
     }
 }
 

@@ -5,14 +5,13 @@ ghost use Rattle.text.specs.Reading.{runBlock, walk};
 ghost use Rattle.text.specs.ReadingLaws.{out};
 ghost use Rattle.zen.specs.Zen.{content, header, packageBlock};
 ghost use Rattle.zen.specs.Answers.{answer, Order};
-use super::cursor::Word;
-use super::cursor::first_u32;
 use super::imports::check_imports;
+use super::lead::Lead;
+use super::lead::read_lead;
 use super::names::Checked;
 use super::names::NameBatch;
 use super::names::Names;
 use super::names::read_batch;
-use super::reader;
 use super::summary::Summary;
 use super::summary::Summed;
 use super::summary::in_order;
@@ -42,9 +41,9 @@ fn check_content(s: &[u8], m: Summary) -> Package
         NameBatch::Refused(r) => Package::Rejected(r),
         NameBatch::Found(n) => match check_bulk(s, n.end, m.hashes) {
             Checked::Failed(r) => Package::Rejected(r),
-            Checked::Passed(from) => match check_tables(s, m, n.count) {
+            Checked::Passed => match check_tables(s, m, n.count) {
                 Checked::Failed(r) => Package::Rejected(r),
-                Checked::Passed(at) => match check_imports(s, at, m.index, n.count) {
+                Checked::Passed => match check_imports(s, m.imported, m.index, n.count) {
                     NameBatch::Refused(r) => Package::Rejected(r),
                     NameBatch::Found(i) => Package::Accepted(Layout {
                         size: s.len(),
@@ -76,20 +75,9 @@ fn check_header(s: &[u8]) -> Package
 pub fn check_package(b: &[u8]) -> Package
     ensures { λ r. ⌜ r ≡ answer (runBlock packageBlock (now (b .entry))) ⌝ }
 {
-    match first_u32(b) {
-        Word::Short => Package::Rejected(3),
-        Word::Got(flag, _) => {
-            if flag != 0 {
-                return Package::Rejected(14);
-            }
-            let n = b.len();
-            if n < 8 {
-                return Package::Rejected(3);
-            }
-            let size = reader::u32_le(b, 4);
-            if n < size {
-                return Package::Rejected(15);
-            }
+    match read_lead(b) {
+        Lead::Fault(r) => Package::Rejected(r),
+        Lead::Header(size) => {
             if size < 8 {
                 return Package::Rejected(3);
             }

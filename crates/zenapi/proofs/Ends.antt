@@ -22,7 +22,8 @@ use Rattle.zen.specs.declared.zen.Package.the-variants.{Accepted}
 use Rattle.zenapi.specs.Answers.{packageIn, ends}
 
 module _ (s : List ℕ) (n : Names) (es : List Export) (i : ℕ) where
-  ends-step : i < length es → ends s n (drop i es) ≡ placeAt s n (getD es i noExport .index) .start + placeAt s n (getD es i noExport .index) .size + ends s n (drop (i + 1) es)
+  ends-step : i < length es
+      → ends s n (drop i es) ≡ placeAt s n (getD es i noExport .index) .start + placeAt s n (getD es i noExport .index) .size + ends s n (drop (i + 1) es)
   unfolding ends
   ends-step h = rw (add-one i, drop-cons es i noExport h)
 

@@ -29,7 +29,7 @@ ends-of b x r y = rw y
 module _ (b : List ℕ) (p : Package) (e : p ≡ answer (packageIn b)) where
   module _ (q : ℕ) (d : p ≡ Rejected q) where
     gone : packageIn b ≡ refused q
-    gone = rejected-read b q (sym e ∙ d) .0
+    gone = rejected-read b q (sym e ∙ d)
 
     pub told : q ≡ refusal (packageIn b)
     unfolding refusal
@@ -86,7 +86,8 @@ module _ (b : List ℕ) (p : Package) (e : p ≡ answer (packageIn b)) where
       unfolding exportAnswer
       export-past n k w h = cell-past exportFields (exportsOf (packageIn b)) i k (rw (parts b l accepted .export-count, ← w) h)
 
-      pub export-there : (n k : ℕ) (x : Export) (r : ℕ) → n ≡ exportCount l → i < n → x ≡ getD (exportsOf (packageIn b)) i noExport → r ≡ getD (exportFields x) k none → r ≡ exportAnswer (packageIn b) i k
+      pub export-there : (n k : ℕ) (x : Export) (r : ℕ) → n ≡ exportCount l → i < n → x ≡ getD (exportsOf (packageIn b)) i noExport
+          → r ≡ getD (exportFields x) k none → r ≡ exportAnswer (packageIn b) i k
       unfolding exportAnswer
       export-there n k x r w h = cell-at exportFields (exportsOf (packageIn b)) i noExport k (export-here n w h)
 

@@ -46,6 +46,7 @@ module _ (b : List ℕ) (p : Script) (e : p ≡ scriptAnswer (scriptIn b)) where
       unfolding objectAnswer
       object-past k h = cell-past objectFields (entriesOf (scriptIn b)) i k (rw entries h)
 
-      pub object-there : (k : ℕ) (x : Entry) (r : ℕ) → i < l .count → x ≡ getD (entriesOf (scriptIn b)) i noEntry → r ≡ getD (objectFields x) k none → r ≡ objectAnswer (scriptIn b) i k
+      pub object-there : (k : ℕ) (x : Entry) (r : ℕ) → i < l .count → x ≡ getD (entriesOf (scriptIn b)) i noEntry → r ≡ getD (objectFields x) k none
+          → r ≡ objectAnswer (scriptIn b) i k
       unfolding objectAnswer
       object-there k x r h = cell-at objectFields (entriesOf (scriptIn b)) i noEntry k (object-here h)

@@ -38,7 +38,7 @@ own d = rw (d .text) d
 module _ (b : List ℕ) (i : ℕ) where
   pub no-text : (p : Package) (q which : ℕ) → p ≡ answer (packageIn b) → p ≡ Rejected q → Stands b which i Missing
   unfolding Stands
-  no-text p q which e d = rw (rejected-read b q (sym e ∙ d) .0, refused-count q which) (omega arith)
+  no-text p q which e d = rw (rejected-read b q (sym e ∙ d), refused-count q which) (omega arith)
 
   pub no-kind : (which : ℕ) → 2 ≤ which → Stands b which i Missing
   unfolding Stands textCount
@@ -60,7 +60,8 @@ module _ (b : List ℕ) (i : ℕ) where
           let d = name-text b l a y i p h e in
           record { here = rw (name-count b l a) h; base = own d; text = append-nil _ ∙ d .text }
 
-      pub imported-there : (n : ℕ) → i < l .imported .count → p ≡ placeAt (take (l .size) b) (l .imported) i → n ≡ getD (numbersOf (packageIn b)) i 0 → Stands b 1 i (At p n)
+      pub imported-there : (n : ℕ) → i < l .imported .count → p ≡ placeAt (take (l .size) b) (l .imported) i → n ≡ getD (numbersOf (packageIn b)) i 0
+          → Stands b 1 i (At p n)
       unfolding Stands textCount textAt
       imported-there n h e q =
           record { here = rw (imported-count b l a) h; base = own (imported-text b l a y i p h e); text = rw q (imported-rendered b l a y p i h e) }
@@ -82,14 +83,17 @@ module _ (old b : List ℕ) (which i : ℕ) where
     there e = rw e at s
 
   module _ {p : Place} {n : ℕ} (f : Found b which i p n) where
-    pub put-short : length old < length (utf8 (rendered (p .wide) (partAt b p) n)) → (none ≡ textAnswer (length old) (packageIn b) which i) × (old ≡ textAfter old (packageIn b) which i)
+    pub put-short : length old < length (utf8 (rendered (p .wide) (partAt b p) n))
+        → (none ≡ textAnswer (length old) (packageIn b) which i) × (old ≡ textAfter old (packageIn b) which i)
     unfolding fits
-    put-short h = unfit (rw (lt-ltb i (textCount (packageIn b) which) (f .here), ← f .text, lt-leb (length (utf8 (rendered (p .wide) (partAt b p) n))) (length old) h))
+    put-short h =
+        unfit (rw (lt-ltb i (textCount (packageIn b) which) (f .here), ← f .text, lt-leb (length (utf8 (rendered (p .wide) (partAt b p) n))) (length old) h))
 
     pub put-there : {new : List ℕ} {size : ℕ} → Wrote old (utf8 (rendered (p .wide) (partAt b p) n)) new size
         → (size ≡ textAnswer (length old) (packageIn b) which i) × (new ≡ textAfter old (packageIn b) which i)
     unfolding fits textAnswer textAfter
     put-there w =
         let h : length (utf8 (rendered (p .wide) (partAt b p) n)) ≤ length old = omega (arith, w .size, w .fits) in
-        let e : fits (length old) (packageIn b) which i ≡ true = rw (lt-ltb i (textCount (packageIn b) which) (f .here), ← f .text, le-leb (length (utf8 (rendered (p .wide) (partAt b p) n))) (length old) h) in
+        let e : fits (length old) (packageIn b) which i ≡ true =
+        rw (lt-ltb i (textCount (packageIn b) which) (f .here), ← f .text, le-leb (length (utf8 (rendered (p .wide) (partAt b p) n))) (length old) h) in
         (rw (e, ← f .text) (w .size), rw (e, ← f .text) (w .is))

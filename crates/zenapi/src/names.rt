@@ -7,9 +7,10 @@ ghost use Rattle.zenapi.specs.Answers.{packageIn, idAnswer, ends, endsAn
 use zen::access::export_at;
 use zen::access::export_count;
 use zen::access::imported_id;
-use zen::access::mark_imported_names;
-use zen::access::mark_package_names;
 use zen::access::name_place;
+use zen::access::note_imported_names;
+use zen::access::note_package_names;
+use zen::notes::NOTES;
 use zen::zen::Layout;
 use zen::zen::Package;
 use zen::zen::check_package;
@@ -25,9 +26,9 @@ pub extern "C" fn zen_imported_id(b: &[u8], i: usize) -> u64
             if l.imported.count <= i {
                 return 0xffff_ffff_ffff_ffff;
             }
-            let mut marks = [0u32; 256];
-            mark_imported_names(b, l, &mut marks);
-            imported_id(b, l, &marks, i)
+            let mut notes = [0u32; NOTES];
+            note_imported_names(b, l, &mut notes);
+            imported_id(b, l, &notes, i)
         }
     }
 }
@@ -37,14 +38,14 @@ fn names_ends(b: &[u8], l: Layout) -> u64
     requires { ⌜ answer (packageIn (now b)) ≡ Accepted l ⌝ }
     ensures { λ r. ⌜ r ≡ ends (take (l .size) (now (b .entry))) (l .names) (exportsOf (packageIn (now (b .entry)))) ⌝ }
 {
-    let mut marks = [0u32; 256];
-    mark_package_names(b, l, &mut marks);
+    let mut notes = [0u32; NOTES];
+    note_package_names(b, l, &mut notes);
     let n = export_count(l);
     let mut total: u64 = 0;
     let mut i: usize = 0;
     while i < n {
         let e = export_at(b, l, i);
-        let p = name_place(b, l, &marks, e.index);
+        let p = name_place(b, l, &notes, e.index);
         let end = p.start + p.size;
         total = total + end as u64;
         i = i + 1;

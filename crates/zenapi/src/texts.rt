@@ -7,10 +7,13 @@ ghost use Rattle.zenapi.specs.Answers.{packageIn};
 ghost use Rattle.zenapi.specs.Texts.{Stands, textAnswer, textAfter};
 use zen::access::imported_number;
 use zen::access::imported_place;
-use zen::access::mark_imported_names;
-use zen::access::mark_package_names;
 use zen::access::name_place;
+use zen::access::note_imported_names;
+use zen::access::note_package_names;
+use zen::notes::NOTES;
 use zen::places::Place;
+use zen::texts::place_len;
+use zen::texts::put_place;
 use zen::zen::Layout;
 use zen::zen::Package;
 use zen::zen::check_package;
@@ -28,9 +31,9 @@ fn find_base(b: &[u8], l: Layout, i: usize) -> Text
     if l.names.count <= i {
         return Text::Missing;
     }
-    let mut marks = [0u32; 256];
-    mark_package_names(b, l, &mut marks);
-    Text::At(name_place(b, l, &marks, i), 0)
+    let mut notes = [0u32; NOTES];
+    note_package_names(b, l, &mut notes);
+    Text::At(name_place(b, l, &notes, i), 0)
 }
 
 fn find_imported(b: &[u8], l: Layout, i: usize) -> Text
@@ -40,9 +43,9 @@ fn find_imported(b: &[u8], l: Layout, i: usize) -> Text
     if l.imported.count <= i {
         return Text::Missing;
     }
-    let mut marks = [0u32; 256];
-    mark_imported_names(b, l, &mut marks);
-    Text::At(imported_place(b, l, &marks, i), imported_number(b, l, i))
+    let mut notes = [0u32; NOTES];
+    note_imported_names(b, l, &mut notes);
+    Text::At(imported_place(b, l, &notes, i), imported_number(b, l, i))
 }
 
 fn find_text(b: &[u8], which: u32, i: usize) -> Text
@@ -61,15 +64,14 @@ fn find_text(b: &[u8], which: u32, i: usize) -> Text
 // Text i at the front of the buffer, and its length; where it is not there or has no room, the buffer as it was.
 #[no_mangle]
 pub extern "C" fn zen_put_name(out: &mut [u8], b: &[u8], which: u32, i: usize) -> u64
-    ensures { λ r. ⌜ (r ≡ textAnswer (length (now (out .entry))) (packageIn (now (b .entry))) which i) × (now (out .exit) ≡ textAfter (now (out .entry)) (packageIn (now (b .entry))) which i) ⌝ }
+    ensures { λ r. ⌜ (r ≡ textAnswer (length (now (out .entry))) (packageIn (now (b .entry))) which i)
+        × (now (out .exit) ≡ textAfter (now (out .entry)) (packageIn (now (b .entry))) which i) ⌝ }
 {
     match find_text(b, which, i) {
         Text::Missing => 0xffff_ffff_ffff_ffff,
         Text::At(p, number) => {
-            let start = p.start;
-            let end = start + p.size;
-            if text::name::name_len(&b[start..end], p.wide, number) <= out.len() {
-                return text::name::put_name(out, &b[start..end], p.wide, number) as u64;
+            if place_len(b, p, number) <= out.len() {
+                return put_place(out, b, p, number) as u64;
             }
             0xffff_ffff_ffff_ffff
         }

@@ -15,7 +15,9 @@ returns-2 c = rw (lt-leb _ _ (c .before .before .if1 .left), le-leb _ _ (c .befo
 
 returns-3 : tie.Need-returns-3
 unfolding len0to16
-returns-3 c = rw (lt-leb _ _ (c .before .before .before .if1 .left), lt-leb _ _ (c .before .before .if2 .left), lt-ltb _ _ (c .before .if3 .taken)) (c .hash-len1to3 .ensures)
+returns-3 c =
+    rw (lt-leb _ _ (c .before .before .before .if1 .left), lt-leb _ _ (c .before .before .if2 .left), lt-ltb _ _ (c .before .if3 .taken))
+    (c .hash-len1to3 .ensures)
 
 returns-4 : tie.Need-returns-4
 unfolding len0to16

@@ -9,4 +9,6 @@ unfolding len17to32
 returns c = cc
 
 pub hash-len17to32-spec : {M : Type 1} → statement M
-hash-len17to32-spec = tie.close (tie.spec (search needs) (search needs) (search needs) (search needs) (search needs) (search needs) (search needs) (search needs) (search needs) (search needs) (search needs) returns)
+hash-len17to32-spec =
+    tie.close (tie.spec (search needs) (search needs) (search needs) (search needs) (search needs) (search needs) (search needs) (search needs)
+    (search needs) (search needs) (search needs) returns)

@@ -14,4 +14,6 @@ returns c =
     cc (shl-exact {a = h .result} 8 8 64 (h .ensures .1) (lit≤ tt), shl-exact {a = l .result} 8 2 64 (l .ensures .1) (lit≤ tt))
 
 pub hash-len1to3-spec : {M : Type 1} → statement M
-hash-len1to3-spec = tie.close (tie.spec (search needs) (search needs) (search needs) (search needs) (search needs) (search needs) (search needs) (search needs) (search needs) (search needs) (search needs) (search needs) (search needs) returns)
+hash-len1to3-spec =
+    tie.close (tie.spec (search needs) (search needs) (search needs) (search needs) (search needs) (search needs) (search needs) (search needs)
+    (search needs) (search needs) (search needs) (search needs) (search needs) returns)

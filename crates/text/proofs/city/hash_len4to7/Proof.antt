@@ -13,4 +13,5 @@ returns c =
     cc (shl-exact {a = a .result} 32 3 64 (a .ok) (lit≤ tt))
 
 pub hash-len4to7-spec : {M : Type 1} → statement M
-hash-len4to7-spec = tie.close (tie.spec (search needs) (search needs) (search needs) (search needs) (search needs) (search needs) (search needs) (search needs) returns)
+hash-len4to7-spec =
+    tie.close (tie.spec (search needs) (search needs) (search needs) (search needs) (search needs) (search needs) (search needs) (search needs) returns)

@@ -46,4 +46,6 @@ returns c =
 pub hash-longer-spec : {M : Type 1} → statement M
 hash-longer-spec =
     tie.close
-    (tie.spec Inv-loop μ-loop (search needs) (search needs) (search needs) (search needs) (search needs) first-state-requires (search needs) loop-holds (search needs) (search needs) (search needs) one-turn-requires (search needs) (search needs) (search needs) loop-again (search needs) returns)
+    (tie.spec Inv-loop μ-loop (search needs) (search needs) (search needs) (search needs) (search needs) first-state-requires
+    (search needs) loop-holds (search needs) (search needs) (search needs) one-turn-requires (search needs) (search needs) (search needs) loop-again
+    (search needs) returns)

@@ -9,4 +9,5 @@ unfolding turn
 returns c = cc
 
 pub one-turn-spec : {M : Type 1} → statement M
-one-turn-spec = tie.close (tie.spec (search needs) (search needs) (search needs) (search needs) (search needs) (search needs) (search needs) (search needs) returns)
+one-turn-spec =
+    tie.close (tie.spec (search needs) (search needs) (search needs) (search needs) (search needs) (search needs) (search needs) (search needs) returns)

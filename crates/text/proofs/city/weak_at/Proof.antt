@@ -9,4 +9,5 @@ unfolding weakAt
 returns c = cc
 
 pub weak-at-spec : {M : Type 1} → statement M
-weak-at-spec = tie.close (tie.spec (search needs) (search needs) (search needs) (search needs) (search needs) (search needs) (search needs) (search needs) returns)
+weak-at-spec =
+    tie.close (tie.spec (search needs) (search needs) (search needs) (search needs) (search needs) (search needs) (search needs) (search needs) returns)

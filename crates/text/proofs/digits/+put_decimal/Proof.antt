@@ -26,12 +26,16 @@ below t = and 1 put-decimal-kinds.ps (falls 1 put-decimal-kinds.ps _<_ μ-put-de
 
 module _ (t : ℕ) where
   -- the tenth has a digit less
-  shorter : (c : lts.Else1 (below t, put-decimal.Post) (at t) put-decimal.Post) → length (decimal (c .before .before .args .n)) ≡ length (decimal (c .before .before .args .n / 10)) + 1
+  shorter : (c : lts.Else1 (below t, put-decimal.Post) (at t) put-decimal.Post)
+      → length (decimal (c .before .before .args .n)) ≡ length (decimal (c .before .before .args .n / 10)) + 1
   shorter c = decimal-length _ (c .if1 .left) (omega arith)
 
   -- with the last digit
   all : (c : lts.After-slice-known2 (below t, put-decimal.Post) (at t) put-decimal.Post)
-      → Wrote (c .before .before .before .before .before .before .args .out .now) (decimal (c .before .before .before .before .before .before .args .n)) (set (c .before .before .put-decimal .last .0) (c .before .before .put-decimal .result) (48 + c .before .before .before .before .before .before .args .n % 10)) (c .before .before .put-decimal .result + 1)
+      → Wrote (c .before .before .before .before .before .before .args .out .now)
+      (decimal (c .before .before .before .before .before .before .args .n))
+      (set (c .before .before .put-decimal .last .0) (c .before .before .put-decimal .result)
+      (48 + c .before .before .before .before .before .before .args .n % 10)) (c .before .before .put-decimal .result + 1)
   all c =
       wrote-as (wrote-byte (c .before .before .put-decimal .ensures) (omega (arith, shorter (c .before .before .before .before))) _)
       (decimal-more _ (c .before .before .before .before .if1 .left) (omega arith))

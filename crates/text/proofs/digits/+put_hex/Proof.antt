@@ -27,12 +27,16 @@ below t = and 1 put-hex-kinds.ps (falls 1 put-hex-kinds.ps _<_ μ-put-hex t) put
 
 module _ (t : ℕ) where
   -- the last digit goes to k - 1
-  place : (c : lts.After-put-hex (below t, put-hex.Post, hex-digit-reads.Asked, hex-digit-reads.Learnt) (at t) put-hex.Post) → c .put-hex .result ≡ c .before .before .before .before .args .k - 1
+  place : (c : lts.After-put-hex (below t, put-hex.Post, hex-digit-reads.Asked, hex-digit-reads.Learnt) (at t) put-hex.Post)
+      → c .put-hex .result ≡ c .before .before .before .before .args .k - 1
   place c = c .put-hex .ensures .size ∙ length-hex _ _
 
   -- with the last digit
   all : (c : lts.After-hex-digit (below t, put-hex.Post, hex-digit-reads.Asked, hex-digit-reads.Learnt) (at t) put-hex.Post)
-      → Wrote (c .before .before .before .before .before .before .before .args .out .now) (hex (c .before .before .before .before .before .before .before .args .k) (c .before .before .before .before .before .before .before .args .n)) (set (c .before .before .before .put-hex .last .0) (c .before .before .before .put-hex .result) (c .hex-digit .result)) (c .before .before .before .put-hex .result + 1)
+      → Wrote (c .before .before .before .before .before .before .before .args .out .now)
+      (hex (c .before .before .before .before .before .before .before .args .k) (c .before .before .before .before .before .before .before .args .n))
+      (set (c .before .before .before .put-hex .last .0) (c .before .before .before .put-hex .result) (c .hex-digit .result))
+      (c .before .before .before .put-hex .result + 1)
   all c =
       wrote-as (wrote-byte (c .before .before .before .put-hex .ensures) (omega (arith, place (c .before .before .before))) (c .hex-digit .result))
       (rw (c .hex-digit .ensures) (hex-more _ _ (c .before .before .before .before .before .if1 .left)))

@@ -6,6 +6,7 @@ use borrow.Author.Needs.{needs}
 use lib.ListN.{take}
 use Rattle.text.specs.Number.{leAt}
 use Rattle.text.specs.Utf16.{unitBytes}
+use Rattle.text.specs.Name.{base}
 use Rattle.text.specs.Units.{nameUnits}
 use Rattle.text.proofs.NameUnits.{wrote-whole, first-bytes}
 use Rattle.text.proofs.id.first_word.Statement.{statement}
@@ -26,8 +27,9 @@ le64-requires c κs = search needs
 returns : tie.Need-returns
 returns c =
     let a = c .before .before .before .before .before .before .before .args in
-    let us : List ℕ = nameUnits (a .wide) (a .part .now) (a .suffix .now) in
-    let e : c .before .before .before .put-units .last .0 ≡ unitBytes (take 4 us) = wrote-whole us 0 4 (c .before .before .before .put-units .ensures) (search needs) (search needs) in
+    let us : List ℕ = nameUnits (base (a .wide) (a .part .now)) (a .suffix .now) in
+    let e : c .before .before .before .put-units .last .0 ≡ unitBytes (take 4 us) =
+    wrote-whole us 0 4 (c .before .before .before .put-units .ensures) (search needs) (search needs) in
     c .le64 .ensures ∙ ap (λ (s : List ℕ). leAt 8 s 0) e ∙ first-bytes us
 
 pub first-word-spec : {M : Type 1} → statement M

@@ -8,6 +8,7 @@ use lib.ListN.{drop}
 use Rattle.text.specs.Utf16.{unitBytes}
 use Rattle.text.specs.City.{turns}
 use Rattle.text.specs.CityLaws.{turns-end}
+use Rattle.text.specs.Name.{base}
 use Rattle.text.specs.Units.{nameUnits}
 use Rattle.text.proofs.NameUnits.{turns-next, long-units}
 use Rattle.text.proofs.id.long_hash.Statement.{statement}
@@ -15,7 +16,8 @@ use Rattle.text.proofs.id.long_hash.Tie as tie
 
 abbrev Inv-loop : tie.InvT-loop
 Inv-loop part wide suffix n first t₀ from₀ left₀ t from left =
-    (turns left (drop (2 * from) (unitBytes (nameUnits wide part suffix))) t ≡ turns left₀ (unitBytes (nameUnits wide part suffix)) t₀) × (2 * from + 64 * left < 2 * n)
+    (turns left (drop (2 * from) (unitBytes (nameUnits (base wide part) suffix))) t ≡ turns left₀ (unitBytes (nameUnits (base wide part) suffix)) t₀)
+    × (2 * from + 64 * left < 2 * n)
 
 abbrev μ-loop : tie.MeasureT-loop
 μ-loop part wide suffix n first t₀ from₀ left₀ t from left = left
@@ -70,7 +72,7 @@ loop-again c =
     let l = c .before .before .before .before .loop in
     let a = c .before .before .before .before .before .before .before .before .before .before .before .args in (
       rw (c .one-turn .ensures, c .before .before .chunk-at2 .ensures)
-          (turns-next (l .left) (l .from) (nameUnits (a .wide) (a .part .now) (a .suffix .now)) (l .t) (search needs) ∙ l .inv .0),
+          (turns-next (l .left) (l .from) (nameUnits (base (a .wide) (a .part .now)) (a .suffix .now)) (l .t) (search needs) ∙ l .inv .0),
       omega arith,
     )
 
@@ -81,7 +83,7 @@ returns : tie.Need-returns Inv-loop μ-loop
 returns c =
     let l = c .before .before .loop in
     let a = c .before .before .before .before .before .before .before .before .before .args in
-    let us : List ℕ = nameUnits (a .wide) (a .part .now) (a .suffix .now) in
+    let us : List ℕ = nameUnits (base (a .wide) (a .part .now)) (a .suffix .now) in
     rw (
       long-units us (a .n) (search needs) (search needs),
       ← c .before .before .before .before .before .before .chunk-at .ensures,

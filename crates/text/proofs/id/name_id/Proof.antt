@@ -1,7 +1,7 @@
 -- `id::name_id`: the units of the name, and so its id. Assumes nothing.
 use native.Mathlib.Omega.{arith}
 use borrow.Author.Needs.{needs}
-use Rattle.text.specs.NumberLaws.{Bytes}
+use Rattle.text.specs.Name.{base}
 use Rattle.text.specs.NameLaws.{suffix-short}
 use Rattle.text.specs.Id.{idOf}
 use Rattle.text.specs.IdLaws.{name-units}
@@ -22,14 +22,13 @@ slice-aggregate-units-hash : tie.Need-slice-aggregate-units-hash
 slice-aggregate-units-hash c = taken-length (c .before .before .put-suffix .ensures)
 
 units-hash-requires : tie.Need-units-hash-requires
-units-hash-requires c κs = (search needs, omega (arith, taken-length (c .before .before .put-suffix .ensures)))
+units-hash-requires c κs = (search needs, search needs, omega (arith, taken-length (c .before .before .put-suffix .ensures)))
 
 returns : tie.Need-returns
 unfolding idOf
 returns c =
     let a = c .before .before .before .before .before .before .args in
-    let b : Bytes (a .part .now) = λ i. c .before .before .before .before .before .shared-slice-known .given i .fits in
-    rw (name-units (a .wide) (a .part .now) (a .number) b (search needs), ← wrote-taken (c .before .before .before .put-suffix .ensures)) (c .units-hash .ensures)
+    rw (name-units (base (a .wide) (a .part .now)) (a .number), ← wrote-taken (c .before .before .before .put-suffix .ensures)) (c .units-hash .ensures)
 
 pub name-id-spec : {M : Type 1} → statement M
 name-id-spec =

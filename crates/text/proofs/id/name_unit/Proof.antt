@@ -1,11 +1,14 @@
 -- `id::name_unit`: a unit of the part, lowered, or a byte of the suffix. Assumes nothing.
-use mathlib.Core.Path.{_∙_, ap, sym}
-use Prim.Native.Nat.{ℕ, _-_}
+use mathlib.Core.Path.{_≡_, _∙_, ap, sym}
+use Prim.Native.Nat.{ℕ, _+_, _-_}
 use native.Mathlib.Omega.{arith}
 use borrow.Author.Needs.{needs}
-use lib.ListN.{getD}
-use Rattle.text.specs.Lower.{lower}
-use Rattle.text.specs.LowerLaws.{lower-unit}
+use lib.ListN.{length, getD}
+use Rattle.text.specs.NumberLaws.{Bytes}
+use Rattle.text.specs.LowerAscii.{lowerAscii}
+use Rattle.text.specs.LowerAsciiLaws.{ascii-unit}
+use Rattle.text.specs.Name.{base}
+use Rattle.text.specs.Units.{unitsOf, nameUnits}
 use Rattle.text.proofs.NameUnits.{name-length, part-unit, suffix-unit}
 use Rattle.text.proofs.id.name_unit.Statement.{statement}
 use Rattle.text.proofs.id.name_unit.Tie as tie
@@ -16,28 +19,36 @@ unit-count-requires c κs = search needs
 unit-at-requires : tie.Need-unit-at-requires
 unit-at-requires c κs = search needs
 
-lower-scalar-requires : tie.Need-lower-scalar-requires
-lower-scalar-requires c κs = search needs
+lower-ascii-requires : tie.Need-lower-ascii-requires
+lower-ascii-requires c κs = search needs
 
 returns : tie.Need-returns
 returns c =
-    let a = c .before .before .before .before .before .before .args in (
-      c .lower-scalar .ensures ∙ ap lower (c .before .unit-at .ensures .0) ∙ sym (part-unit (a .wide) (a .part .now) (a .suffix .now) (a .i) (search needs)),
-      rw (c .lower-scalar .ensures) (lower-unit (c .before .unit-at .result) (c .before .unit-at .ensures .1)),
+    let k = c .before .before .before .before .before in
+    let a = k .before .args in
+    let b : Bytes (a .part .now) = λ j. k .shared-slice-known .given j .fits in (
+      c .lower-ascii .ensures ∙ ap lowerAscii (c .before .unit-at .ensures .0)
+          ∙ sym (part-unit (a .wide) (a .part .now) (a .suffix .now) b (k .before .pre .0) (a .i) (search needs)),
+      rw (c .lower-ascii .ensures) (ascii-unit (c .before .unit-at .result) (c .before .unit-at .ensures .1)),
     )
 
 shared-slice-read-wide : tie.Need-shared-slice-read-wide
 shared-slice-read-wide c =
-    let a = c .before .before .before .before .before .args in
-    omega (arith, name-length (a .wide) (a .part .now) (a .suffix .now))
+    let k = c .before .before .before .before in
+    let a = k .before .args in
+    let b : Bytes (a .part .now) = λ j. k .shared-slice-known .given j .fits in
+    omega (arith, name-length (a .wide) (a .part .now) (a .suffix .now) b (k .before .pre .0))
 
 wide-requires : tie.Need-wide-requires
 wide-requires c κs = search needs
 
 returns-2 : tie.Need-returns-2
 returns-2 c =
-    let a = c .before .before .before .before .before .before .args in (
-      c .wide .ensures .0 ∙ ap (λ (n : ℕ). getD (a .suffix .now) (a .i - n) 0) (c .before .before .before .unit-count .ensures) ∙ sym (suffix-unit (a .wide) (a .part .now) (a .suffix .now) (a .i) (search needs)),
+    let k = c .before .before .before .before .before in
+    let a = k .before .args in
+    let b : Bytes (a .part .now) = λ j. k .shared-slice-known .given j .fits in (
+      c .wide .ensures .0 ∙ ap (λ (n : ℕ). getD (a .suffix .now) (a .i - n) 0) (c .before .before .before .unit-count .ensures)
+          ∙ sym (suffix-unit (a .wide) (a .part .now) (a .suffix .now) b (k .before .pre .0) (a .i) (search needs)),
       search needs,
     )
 
@@ -47,7 +58,7 @@ name-unit-spec =
     (tie.spec
     unit-count-requires
     unit-at-requires
-    lower-scalar-requires
+    lower-ascii-requires
     returns
     shared-slice-read-wide
     wide-requires

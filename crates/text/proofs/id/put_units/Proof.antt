@@ -6,9 +6,11 @@ use native.Mathlib.Omega.{arith}
 use borrow.Author.Needs.{needs}
 use lib.ListN.{length, take, drop, getD, length-set, length-drop}
 use lib.Seq.{getD-drop}
+use Rattle.text.specs.NumberLaws.{Bytes}
 use Rattle.text.specs.Output.{Wrote}
 use Rattle.text.specs.OutputLaws.{wrote-none}
 use Rattle.text.specs.Utf16.{unitBytes}
+use Rattle.text.specs.Name.{base}
 use Rattle.text.specs.Units.{nameUnits}
 use Rattle.text.specs.UnitsLaws.{unitsOf-bound}
 use Rattle.text.proofs.NameUnits.{name-length, wrote-unit}
@@ -16,7 +18,8 @@ use Rattle.text.proofs.id.put_units.Statement.{statement}
 use Rattle.text.proofs.id.put_units.Tie as tie
 
 abbrev Inv-loop : tie.InvT-loop
-Inv-loop out₀ part wide suffix from n at₀ i₀ out at i = (i ≤ n) × (at ≡ 2 * i) × Wrote out₀ (unitBytes (take i (drop from (nameUnits wide part suffix)))) out at × (length out ≡ length out₀)
+Inv-loop out₀ part wide suffix from n at₀ i₀ out at i =
+    (i ≤ n) × (at ≡ 2 * i) × Wrote out₀ (unitBytes (take i (drop from (nameUnits (base wide part) suffix)))) out at × (length out ≡ length out₀)
 
 abbrev μ-loop : tie.MeasureT-loop
 μ-loop out₀ part wide suffix from n at₀ i₀ out at i = n - i
@@ -26,11 +29,13 @@ loop-holds c = (search needs, search needs, wrote-none _, search needs)
 
 add-name-unit : tie.Need-add-name-unit Inv-loop μ-loop
 add-name-unit c =
-    let a = c .before .before .before .before .before .args in
-    omega (arith, name-length (a .wide) (a .part .now) (a .suffix .now), unitsOf-bound (a .wide) (a .part .now))
+    let k = c .before .before .before in
+    let a = k .before .before .args in
+    let b : Bytes (a .part .now) = λ j. k .shared-slice-known .given j .fits in
+    omega (arith, name-length (a .wide) (a .part .now) (a .suffix .now) b (k .before .before .pre .0), unitsOf-bound (a .wide) (a .part .now))
 
 name-unit-requires : tie.Need-name-unit-requires Inv-loop μ-loop
-name-unit-requires c κs = omega arith
+name-unit-requires c κs = (search needs, omega arith)
 
 cast-out : tie.Need-cast-out Inv-loop μ-loop
 cast-out c = omega arith
@@ -59,7 +64,7 @@ loop-less c = omega arith
 loop-again : tie.Need-loop-again Inv-loop μ-loop
 loop-again c =
     let a = c .before .before .before .before .before .before .args in
-    let us : List ℕ = nameUnits (a .wide) (a .part .now) (a .suffix .now) in
+    let us : List ℕ = nameUnits (base (a .wide) (a .part .now)) (a .suffix .now) in
     let i : ℕ = c .before .before .loop .i in
     let e : c .name-unit .result ≡ getD (drop (a .from) us) i 0 = c .name-unit .ensures .0 ∙ sym (getD-drop (a .from) us i 0) in (
       omega arith,

@@ -1,37 +1,51 @@
 -- `id::units_hash`: few units are hashed in one piece, more by `long_hash`. Assumes nothing.
 use mathlib.Core.Path.{_≡_, _∙_, ap}
-use Prim.Native.Nat.{_+_}
+use mathlib.Core.List.{List}
+use Prim.Native.Nat.{ℕ, _+_}
 use native.Mathlib.Omega.{arith}
 use borrow.Author.Needs.{needs}
 use lib.ListN.{length, take}
 use Rattle.text.specs.OutputLaws.{taken-length}
 use Rattle.text.specs.Utf16.{unitBytes}
 use Rattle.text.specs.City.{cityHash64}
-use Rattle.text.specs.Units.{nameUnits}
+use Rattle.text.specs.Name.{base}
+use Rattle.text.specs.Units.{unitsOf, nameUnits}
 use Rattle.text.specs.UnitsLaws.{unitsOf-bound}
 use Rattle.text.proofs.NameUnits.{name-length, wrote-all}
 use Rattle.text.proofs.id.units_hash.Statement.{statement}
 use Rattle.text.proofs.id.units_hash.Tie as tie
 
--- the bytes of all units are in front of the chunk
-written : (c : tie.After-put-units) → take (c .put-units .result) (c .put-units .last .0) ≡ unitBytes (nameUnits (c .before .before .before .before .before .before .args .wide) (c .before .before .before .before .before .before .args .part .now) (c .before .before .before .before .before .before .args .suffix .now))
+-- the name's units, and how many they are
+module _ (k : tie.After-shared-slice-known) where
+  abbrev units : List ℕ
+  units = nameUnits (base (k .before .args .wide) (k .before .args .part .now)) (k .before .args .suffix .now)
+
+  count : length units ≡ length (unitsOf (k .before .args .wide) (k .before .args .part .now)) + length (k .before .args .suffix .now)
+  count =
+      name-length (k .before .args .wide) (k .before .args .part .now) (k .before .args .suffix .now)
+      (λ j. k .shared-slice-known .given j .fits) (k .before .pre .0)
+
+-- the bytes of all of them are in front of the chunk
+written : (c : tie.After-put-units) → take (c .put-units .result) (c .put-units .last .0) ≡ unitBytes (units (c .before .before .before .before .before))
 written c =
-    let a = c .before .before .before .before .before .before .args in
-    wrote-all (nameUnits (a .wide) (a .part .now) (a .suffix .now)) (c .before .before .before .unit-count .result + length (a .suffix .now)) (c .put-units .ensures)
-    (omega (arith, name-length (a .wide) (a .part .now) (a .suffix .now)))
+    let k = c .before .before .before .before .before in
+    wrote-all (units k) (c .before .before .before .unit-count .result + length (k .before .args .suffix .now)) (c .put-units .ensures)
+    (omega (arith, count k))
 
 unit-count-requires : tie.Need-unit-count-requires
 unit-count-requires c κs = search needs
 
 add-n : tie.Need-add-n
 add-n c =
-    let a = c .before .before .before .args in
-    omega (arith, name-length (a .wide) (a .part .now) (a .suffix .now), unitsOf-bound (a .wide) (a .part .now))
+    let k = c .before .before in
+    omega (arith, count k, unitsOf-bound (k .before .args .wide) (k .before .args .part .now))
 
 long-hash-requires : tie.Need-long-hash-requires
 long-hash-requires c κs =
-    let a = c .before .before .before .before .args in
-    omega (arith, name-length (a .wide) (a .part .now) (a .suffix .now), unitsOf-bound (a .wide) (a .part .now))
+    let k = c .before .before .before in
+    let n = count k in
+    let l = unitsOf-bound (k .before .args .wide) (k .before .args .part .now) in
+    (search needs, omega arith, omega arith, omega arith)
 
 returns : tie.Need-returns
 returns c = search needs
@@ -41,8 +55,9 @@ slice-aggregate-put-units c = search needs
 
 put-units-requires : tie.Need-put-units-requires
 put-units-requires c κs =
-    let a = c .before .before .before .before .before .args in
-    omega (arith, name-length (a .wide) (a .part .now) (a .suffix .now), unitsOf-bound (a .wide) (a .part .now))
+    let k = c .before .before .before .before in
+    let n = count k in
+    (search needs, omega arith, omega arith)
 
 array-share-prefix-chunk : tie.Need-array-share-prefix-chunk
 array-share-prefix-chunk c = search needs

@@ -75,14 +75,23 @@ part-put-utf8-end c = omega arith
 
 put-utf8-requires : tie.Need-put-utf8-requires Inv-loop μ-loop
 put-utf8-requires c κs =
-    let t = one (c .before .before) in
-    (t .small, turn-fits (c .before .before .before .before .before .before .loop .inv .3) t (c .before .before .before .before .before .before .before .before .before .before .pre .1))
+    let t = one (c .before .before) in (
+      t .small,
+      turn-fits (c .before .before .before .before .before .before .loop .inv .3) t
+          (c .before .before .before .before .before .before .before .before .before .before .pre .1),
+    )
 
 add-at : tie.Need-add-at Inv-loop μ-loop
-add-at c = omega (arith, written-turn (c .before .before .before .before .before .before .before .before .before .loop .inv .3) (one (c .before .before .before .before .before)) (c .before .before .put-utf8 .ensures) .wrote .fits)
+add-at c =
+    omega (
+      arith,
+      written-turn (c .before .before .before .before .before .before .before .before .before .loop .inv .3)
+          (one (c .before .before .before .before .before)) (c .before .before .put-utf8 .ensures) .wrote .fits,
+    )
 
 add-i : tie.Need-add-i Inv-loop μ-loop
-add-i c = let t = one (c .before .before .before .before .before) in omega (arith, few (c .before .before .before .before .before .before .before .before .before))
+add-i c =
+    let t = one (c .before .before .before .before .before) in omega (arith, few (c .before .before .before .before .before .before .before .before .before))
 
 loop-less : tie.Need-loop-less Inv-loop μ-loop
 loop-less c = let t = one (c .before .before .before .before .before) in omega arith
@@ -107,14 +116,23 @@ part-put-utf8-end-2 c = omega arith
 
 put-utf8-requires-2 : tie.Need-put-utf8-requires-2 Inv-loop μ-loop
 put-utf8-requires-2 c κs =
-    let t = two (c .before .before) in
-    (t .small, turn-fits (c .before .before .before .before .before .before .loop .inv .3) t (c .before .before .before .before .before .before .before .before .before .before .pre .1))
+    let t = two (c .before .before) in (
+      t .small,
+      turn-fits (c .before .before .before .before .before .before .loop .inv .3) t
+          (c .before .before .before .before .before .before .before .before .before .before .pre .1),
+    )
 
 add-at-2 : tie.Need-add-at-2 Inv-loop μ-loop
-add-at-2 c = omega (arith, written-turn (c .before .before .before .before .before .before .before .before .before .loop .inv .3) (two (c .before .before .before .before .before)) (c .before .before .put-utf82 .ensures) .wrote .fits)
+add-at-2 c =
+    omega (
+      arith,
+      written-turn (c .before .before .before .before .before .before .before .before .before .loop .inv .3)
+          (two (c .before .before .before .before .before)) (c .before .before .put-utf82 .ensures) .wrote .fits,
+    )
 
 add-i-2 : tie.Need-add-i-2 Inv-loop μ-loop
-add-i-2 c = let t = two (c .before .before .before .before .before) in omega (arith, few (c .before .before .before .before .before .before .before .before .before))
+add-i-2 c =
+    let t = two (c .before .before .before .before .before) in omega (arith, few (c .before .before .before .before .before .before .before .before .before))
 
 loop-less-2 : tie.Need-loop-less-2 Inv-loop μ-loop
 loop-less-2 c = let t = two (c .before .before .before .before .before) in omega arith

@@ -24,7 +24,8 @@ part-put-suffix-end c = search needs
 put-suffix-requires : tie.Need-put-suffix-requires
 put-suffix-requires c κs =
     let s = c .before .before .before .before .before .before .before in
-    wrote-room (c .before .before .before .put-base .ensures) _ (omega (arith, s .pre .1, rendered-length (s .args .wide) (s .args .part .now) (s .args .number)))
+    wrote-room (c .before .before .before .put-base .ensures) _
+    (omega (arith, s .pre .1, rendered-length (s .args .wide) (s .args .part .now) (s .args .number)))
 
 add-result : tie.Need-add-result
 add-result c = search needs

@@ -32,7 +32,9 @@ cast-put-be32 : tie.Need-cast-put-be32
 cast-put-be32 c = search needs
 
 put-be32-requires : tie.Need-put-be32-requires
-put-be32-requires c κs = simp (length-append, length-take, length-drop) (omega (arith, room (c .before .before .before .before .before .before .before), c .before .before .before .put-name .kept .0))
+put-be32-requires c κs =
+    simp (length-append, length-take, length-drop)
+    (omega (arith, room (c .before .before .before .before .before .before .before), c .before .before .before .put-name .kept .0))
 
 add-result : tie.Need-add-result
 add-result c = search needs

@@ -36,7 +36,8 @@ cast-put-decimal : tie.Need-cast-put-decimal
 cast-put-decimal c = search needs
 
 put-decimal-requires : tie.Need-put-decimal-requires
-put-decimal-requires c κs = wrote-room (mark (c .before)) _ (omega (arith, ap length (suffix-more (c .before .before .before .args .number) (c .before .if1 .left))))
+put-decimal-requires c κs =
+    wrote-room (mark (c .before)) _ (omega (arith, ap length (suffix-more (c .before .before .before .args .number) (c .before .if1 .left))))
 
 add-result : tie.Need-add-result
 add-result c = omega (arith, wrote-rest (mark (c .before .before .before .before)) (c .before .before .put-decimal .ensures) .fits)
@@ -45,7 +46,9 @@ same-length : tie.Need-same-length
 same-length c = wrote-length (wrote-rest (mark (c .before .before .before .before)) (c .before .before .put-decimal .ensures))
 
 returns-2 : tie.Need-returns-2
-returns-2 c = wrote-as (wrote-rest (mark (c .before .before .before .before)) (c .before .before .put-decimal .ensures)) (sym (suffix-more _ (c .before .before .before .before .if1 .left)))
+returns-2 c =
+    wrote-as (wrote-rest (mark (c .before .before .before .before)) (c .before .before .put-decimal .ensures))
+    (sym (suffix-more _ (c .before .before .before .before .if1 .left)))
 
 pub put-suffix-spec : {M : Type 1} → statement M
 put-suffix-spec =

@@ -26,7 +26,8 @@ abbrev μ-loop : tie.MeasureT-loop
 μ-loop part wide n i₀ i = n - i
 
 -- the scalar value r that unit i starts, where the part has n units: whether the part is a text shows from the units behind it
-module _ (part : List ℕ) (wide : Bool) (n : ℕ) (k : n ≡ length (unitsOf wide part)) (i : ℕ) (t : isWell (decoded wide part) ≡ isWell (utf16 (drop i (unitsOf wide part)))) where
+module _ (part : List ℕ) (wide : Bool) (n : ℕ) (k : n ≡ length (unitsOf wide part)) (i : ℕ)
+    (t : isWell (decoded wide part) ≡ isWell (utf16 (drop i (unitsOf wide part)))) where
   all : n ≤ i → true ≡ isWell (decoded wide part)
   all l = rw (t, drop-of-length-le (unitsOf wide part) (rw k at l), utf16-none)
 
@@ -61,7 +62,9 @@ enum-told : tie.Need-enum-told Inv-loop μ-loop
 enum-told c = search needs
 
 add-i : tie.Need-add-i Inv-loop μ-loop
-add-i c = let s = c .before .before .before .before .before .before .before .before in omega (arith, unitsOf-bound (s .args .wide) (s .args .part .now), c .before .before .before .before .before .unit-count .ensures)
+add-i c =
+    let s = c .before .before .before .before .before .before .before .before in
+    omega (arith, unitsOf-bound (s .args .wide) (s .args .part .now), c .before .before .before .before .before .unit-count .ensures)
 
 loop-less : tie.Need-loop-less Inv-loop μ-loop
 loop-less c = omega arith
@@ -73,11 +76,14 @@ enum-told-2 : tie.Need-enum-told-2 Inv-loop μ-loop
 enum-told-2 c = search needs
 
 -- the second unit of a pair is there
-room : (c : tie.After-enum-told2 Inv-loop μ-loop) → c .before .before .before .before .loop .i + 2 ≤ c .before .before .before .before .before .unit-count .result
+room : (c : tie.After-enum-told2 Inv-loop μ-loop)
+    → c .before .before .before .before .loop .i + 2 ≤ c .before .before .before .before .before .unit-count .result
 room c = search second
 
 add-i-2 : tie.Need-add-i-2 Inv-loop μ-loop
-add-i-2 c = let s = c .before .before .before .before .before .before .before .before in omega (arith, room c, unitsOf-bound (s .args .wide) (s .args .part .now), c .before .before .before .before .before .unit-count .ensures)
+add-i-2 c =
+    let s = c .before .before .before .before .before .before .before .before in
+    omega (arith, room c, unitsOf-bound (s .args .wide) (s .args .part .now), c .before .before .before .before .before .unit-count .ensures)
 
 loop-less-2 : tie.Need-loop-less-2 Inv-loop μ-loop
 loop-less-2 c = omega (arith, room c)

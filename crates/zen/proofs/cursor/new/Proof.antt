@@ -40,7 +40,8 @@ use Rattle.zen.proofs.cursor.new as new
 use Rattle.zen.proofs.cursor.new.Statement.{statement}
 use Rattle.zen.proofs.cursor.new.Code as code
 
-module _ {M : Type 1} (𝓤 : URA M) (H : Heap 𝓤) (A : Atoms 𝓤) (W : Given 𝓤 H A) (mem : Memory → SProp 𝓤) (run : Routine → Fun 𝓤) (κ : Lft) (q : Share) (s : RefT (List ℕ)) where
+module _ {M : Type 1} (𝓤 : URA M) (H : Heap 𝓤) (A : Atoms 𝓤) (W : Given 𝓤 H A) (mem : Memory → SProp 𝓤) (run : Routine → Fun 𝓤) (κ : Lft) (q : Share)
+    (s : RefT (List ℕ)) where
   abbrev at : List Val × Unit {0}
   at = (sliced s ∷ [], tt)
 
@@ -59,16 +60,21 @@ module _ {M : Type 1} (𝓤 : URA M) (H : Heap 𝓤) (A : Atoms 𝓤) (W : Given
   exits : ent 𝓤 Entry (Post (T′.lowered made))
   exits =
       qed W ((‵ (flft κ q) ⊛ ‵ ftrue) ∷ ‵ (owns (ShrSlice (named 0) κ u8 ∷ []) (s, tt) at) ∷ []) ∵
-      suffices ! _ (ends-at 𝓤 H A new.ended (block-stayed (new.signature .result)) (new.clauses 𝓤 H A mem run) W (((κ, tt), (q, tt), tt, (s, tt), at), tt) (T′.lowered made) made (tt, tt) (tt, tt)) $ says ! (refl, refl) $
-      frame ! $ fsplit ! $ use1 W (‵ Own ⊛ ‵ Own) (shr-slice-copy 𝓤 H A W (named 0) κ u8 .twice s (sliced s ∷ [])) $ split ! $ move ! (0 ∷ 2 ∷ []) $ fjoin ! $ frame ! $
+      suffices ! _ (ends-at 𝓤 H A new.ended (block-stayed (new.signature .result)) (new.clauses 𝓤 H A mem run) W
+      (((κ, tt), (q, tt), tt, (s, tt), at), tt) (T′.lowered made) made (tt, tt) (tt, tt)) $ says ! (refl, refl) $
+      frame ! $ fsplit ! $ use1 W (‵ Own ⊛ ‵ Own) (shr-slice-copy 𝓤 H A W (named 0) κ u8 .twice s (sliced s ∷ [])) $ split ! $ move ! (0 ∷ 2 ∷ []) $
+      fjoin ! $ frame ! $
       -- [what buf owns]: what the fields own together, of it and of pos's facts, is what the struct owns
-      nothing ! $ owned ! usize (Is usize) (uint-makes 𝓤 H A W w64) 0 _ (refl, lit< tt) $ fjoin ! $ move ! (1 ∷ 0 ∷ []) $ fjoin ! $ by ! (own-shut 𝓤 H A W (T.the-type (namedLft 1 0 tt (κ, tt))) (T′.the-laws (namedLft 1 0 tt (κ, tt))) (s, (0, tt)))
+      nothing ! $ owned ! usize (Is usize) (uint-makes 𝓤 H A W w64) 0 _ (refl, lit< tt) $ fjoin ! $ move ! (1 ∷ 0 ∷ []) $ fjoin ! $
+      by ! (own-shut 𝓤 H A W (T.the-type (namedLft 1 0 tt (κ, tt))) (T′.the-laws (namedLft 1 0 tt (κ, tt))) (s, (0, tt)))
 
   walk : (C : Calls 𝓤 H) (Λ : Loops 𝓤 H) → Is (ShrSlice (named 0) κ u8) s (sliced s ∷ []) → ent 𝓤 Entry (WpFn 𝓤 H C Λ code.function (sliced s ∷ []) Post)
   walk C Λ p =
       qed W (raw Entry ∷ []) ∵ enter ! C Λ code.function (sliced s ∷ []) _ $
-      alloc1 ! (λ l₀. alloc1 ! (λ l₁. alloc0 ! $ params1 ! $ pass1 ! (init ! 0 refl (shr-slice-lawful 𝓤 H A W (named 0) κ u8 .typed s (sliced s ∷ []) p .0)) $ pass0 ! $
-      assigns ! (agg ! (and-then ! (load ! (from ! (stop !)) (look ! 0 refl)) (and-then ! (lit ! tt) (no-more !)))) (from ! (stop !)) (init ! 2 refl (tt, (shr-slice-lawful 𝓤 H A W (named 0) κ u8 .typed s (sliced s ∷ []) p .0 .1, (record { fits = lit< tt }, tt)))) $
+      alloc1 ! (λ l₀. alloc1 !
+      (λ l₁. alloc0 ! $ params1 ! $ pass1 ! (init ! 0 refl (shr-slice-lawful 𝓤 H A W (named 0) κ u8 .typed s (sliced s ∷ []) p .0)) $ pass0 ! $
+      assigns ! (agg ! (and-then ! (load ! (from ! (stop !)) (look ! 0 refl)) (and-then ! (lit ! tt) (no-more !)))) (from ! (stop !))
+      (init ! 2 refl (tt, (shr-slice-lawful 𝓤 H A W (named 0) κ u8 .typed s (sliced s ∷ []) p .0 .1, (record { fits = lit< tt }, tt)))) $
       returns ! (look ! 2 refl) $ forget ! 0 refl $ forget ! 2 refl $ move ! (2 ∷ 3 ∷ []) $ free1 ! $ free1 ! $ free0 ! $ by ! exits))
 
 pub new-spec : {M : Type 1} → statement M
@@ -76,5 +82,7 @@ unfolding code.routine tablesOf
 new-spec 𝓤 H 𝓜 𝓖 𝓡 =
     entered 𝓤 H (tripleOf 𝓤 H (𝓖 .A) new.signature (new.spec 𝓤 H (𝓖 .A) (𝓜 .mem) (𝓡 .run)))
     (tables 𝓤 H 𝓜 𝓡 code.env .C) (tables 𝓤 H 𝓜 𝓡 code.env .Λ) #new code.function (code.unfolded 𝓤 H 𝓜 𝓡)
-    (block-meets (new.signature .result) 𝓤 H (𝓖 .A) (givenOf 𝓤 H 𝓜 𝓖) (new.clauses 𝓤 H (𝓖 .A) (𝓜 .mem) (𝓡 .run)) code.function (tablesOf 𝓤 H 𝓜 (tables 𝓤 H 𝓜 𝓡 code.env))
-    (λ κ q s g p. via 𝓤 _ (fst∗ 𝓤 _ (emp 𝓤)) (walk 𝓤 H (𝓖 .A) (givenOf 𝓤 H 𝓜 𝓖) (𝓜 .mem) (𝓡 .run) κ q s (tables 𝓤 H 𝓜 𝓡 code.env .C) (tables 𝓤 H 𝓜 𝓡 code.env .Λ) p)))
+    (block-meets (new.signature .result) 𝓤 H (𝓖 .A) (givenOf 𝓤 H 𝓜 𝓖) (new.clauses 𝓤 H (𝓖 .A) (𝓜 .mem) (𝓡 .run)) code.function
+    (tablesOf 𝓤 H 𝓜 (tables 𝓤 H 𝓜 𝓡 code.env))
+    (λ κ q s g p. via 𝓤 _ (fst∗ 𝓤 _ (emp 𝓤))
+    (walk 𝓤 H (𝓖 .A) (givenOf 𝓤 H 𝓜 𝓖) (𝓜 .mem) (𝓡 .run) κ q s (tables 𝓤 H 𝓜 𝓡 code.env .C) (tables 𝓤 H 𝓜 𝓡 code.env .Λ) p)))

@@ -19,5 +19,6 @@ unfolding code.routine tablesOf
 read-u32-spec 𝓤 H 𝓜 𝓖 𝓡 =
     entered 𝓤 H (tripleOf 𝓤 H (𝓖 .A) read.signature (read.spec 𝓤 H (𝓖 .A) (𝓜 .mem) (𝓡 .run)))
     (tables 𝓤 H 𝓜 𝓡 code.env .C) (tables 𝓤 H 𝓜 𝓡 code.env .Λ) #read-u32 code.function (code.unfolded 𝓤 H 𝓜 𝓡)
-    (cursor-meets S.the-row S′.mir #u32-from wordAt 𝓤 H (𝓖 .A) (givenOf 𝓤 H 𝓜 𝓖) (λ r u is. EL.lawful S.the-type S′.the-laws 𝓤 H (𝓖 .A) (givenOf 𝓤 H 𝓜 𝓖) tt .typed r _ is .0) (tablesOf 𝓤 H 𝓜 (tables 𝓤 H 𝓜 𝓡 code.env))
+    (cursor-meets S.the-row S′.mir #u32-from wordAt 𝓤 H (𝓖 .A) (givenOf 𝓤 H 𝓜 𝓖)
+    (λ r u is. EL.lawful S.the-type S′.the-laws 𝓤 H (𝓖 .A) (givenOf 𝓤 H 𝓜 𝓖) tt .typed r _ is .0) (tablesOf 𝓤 H 𝓜 (tables 𝓤 H 𝓜 𝓡 code.env))
     (cited 𝓤 H (Callee S.the-row S′.mir #u32-from wordAt 𝓤 H (𝓖 .A)) 𝓜 𝓡 code.env #u32-from routine code.calls-zen·cursor·u32-from (met 𝓤 H 𝓜 𝓖 𝓡)))

@@ -1,20 +1,18 @@
 -- `zen::cursor::u32_from` meets its contract: each branch's test says whether the four bytes are there.
-use Prim.Native.Nat.{_+_}
+use mathlib.Core.Path.{sym, _∙_, ap}
+use Prim.Native.Nat.{ℕ, _+_}
 use native.Mathlib.Omega.{arith}
-use lib.ListN.{length}
 use borrow.Author.Needs.{needs}
-use borrow.Author.Tests.{le-leb, lt-leb}
-use Rattle.zen.specs.Cursor.{wordAt}
+use Rattle.zen.specs.CursorLaws.{word-there, word-missing}
+use Rattle.zen.specs.declared.cursor.Word.the-variants.{Got}
 use Rattle.zen.proofs.cursor.u32_from.Statement.{statement}
 use Rattle.zen.proofs.cursor.u32_from.Tie as tie
 
 returns : tie.Need-returns
-unfolding wordAt
-returns c = rw (lt-leb (c .before .before .args .at + 4) (length (c .before .before .args .s .now)) (omega arith))
+returns c = let a = c .before .before .args in sym (word-missing (a .s .now) (a .at) (omega arith))
 
 returns-2 : tie.Need-returns-2
-unfolding wordAt
-returns-2 c = rw (lt-leb (c .before .before .before .args .at + 4) (length (c .before .before .before .args .s .now)) (omega arith))
+returns-2 c = let a = c .before .before .before .args in sym (word-missing (a .s .now) (a .at) (omega arith))
 
 le32-requires : tie.Need-le32-requires
 le32-requires c κs = search needs
@@ -23,8 +21,9 @@ add-t5 : tie.Need-add-t5
 add-t5 c = search needs
 
 returns-3 : tie.Need-returns-3
-unfolding wordAt
-returns-3 c = rw (le-leb (c .before .before .before .before .args .at + 4) (length (c .before .before .before .before .args .s .now)) (omega arith), c .le32 .ensures)
+returns-3 c =
+    let a = c .before .before .before .before .args in
+    ap (λ (n : ℕ). Got n (a .at + 4)) (c .le32 .ensures) ∙ sym (word-there (a .s .now) (a .at) (omega arith))
 
 pub u32-from-spec : {M : Type 1} → statement M
 u32-from-spec = tie.close (tie.spec returns returns-2 le32-requires add-t5 returns-3)

@@ -52,8 +52,15 @@ abbrev μ-loop : tie.MeasureT-loop
 
 loop-holds : tie.Need-loop-holds Inv-loop μ-loop
 loop-holds c =
-    let a = c .before .args in
-    (record { few = omega arith; head = omega arith; start = sym (start-none (a .s .now) (a .n .headers) (a .n .strings) (a .n .count - a .n .count) (omega arith)) }, refl)
+    let a = c .before .args in (
+      record {
+        few = omega arith;
+        head = omega arith;
+        start = sym
+            (start-none (a .s .now) (a .n .headers) (a .n .strings) (a .n .count - a .n .count) (omega arith));
+      },
+      refl,
+    )
 
 read-head-requires : tie.Need-read-head-requires Inv-loop μ-loop
 read-head-requires c κs = omega (arith, c .before .loop .inv .0 .head, c .before .loop .inv .0 .few, c .before .before .before .pre .heads)
@@ -61,7 +68,8 @@ read-head-requires c κs = omega (arith, c .before .loop .inv .0 .head, c .befor
 add-next : tie.Need-add-next Inv-loop μ-loop
 add-next c =
     let l = c .before .before .before .loop in
-    let z = inside (c .before .before .before .before .before .args .s .now) (c .before .before .before .before .before .args .n) (c .before .before .before .before .before .pre) (l .h) (l .p) (l .left) (l .inv .0) (omega arith) in
+    let z = inside (c .before .before .before .before .before .args .s .now) (c .before .before .before .before .before .args .n)
+    (c .before .before .before .before .before .pre) (l .h) (l .p) (l .left) (l .inv .0) (omega arith) in
     rw (c .before .read-head .ensures .0) (omega arith)
 
 sub-is-ascii : tie.Need-sub-is-ascii Inv-loop μ-loop
@@ -73,7 +81,8 @@ part-is-ascii-start c = omega arith
 part-is-ascii-end : tie.Need-part-is-ascii-end Inv-loop μ-loop
 part-is-ascii-end c =
     let l = c .before .before .before .loop in
-    let z = inside (c .before .before .before .before .before .args .s .now) (c .before .before .before .before .before .args .n) (c .before .before .before .before .before .pre) (l .h) (l .p) (l .left) (l .inv .0) (omega arith) in
+    let z = inside (c .before .before .before .before .before .args .s .now) (c .before .before .before .before .before .args .n)
+    (c .before .before .before .before .before .pre) (l .h) (l .p) (l .left) (l .inv .0) (omega arith) in
     rw (c .before .read-head .ensures .0) (omega arith)
 
 is-ascii-requires : tie.Need-is-ascii-requires Inv-loop μ-loop

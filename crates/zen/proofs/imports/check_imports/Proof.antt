@@ -35,18 +35,33 @@ module _ (s : List ℕ) (at index count : ℕ) (n : Names) (f : FoundAt s at n) 
     module _ (i : index < count) where
       found : asciis (textsAt s (n .headers) (n .strings) (n .count)) ≡ true → Found n ≡ imported (walk (imports index count) s at)
       unfolding imported
-      found q = rw (imports-is s at index count n f (omega (arith, f .inside)), eq-eqb (length s - (n .«end» + 4 * n .count)) 0 (omega arith), lt-ltb index count i, f .same, q)
+      found q =
+          rw (
+            imports-is s at index count n f (omega (arith, f .inside)),
+            eq-eqb (length s - (n .«end» + 4 * n .count)) 0 (omega arith),
+            lt-ltb index count i,
+            f .same,
+            q,
+          )
 
       foreign : asciis (textsAt s (n .headers) (n .strings) (n .count)) ≡ false → Refused 23 ≡ imported (walk (imports index count) s at)
       unfolding imported
-      foreign q = rw (imports-is s at index count n f (omega (arith, f .inside)), eq-eqb (length s - (n .«end» + 4 * n .count)) 0 (omega arith), lt-ltb index count i, f .same, q)
+      foreign q =
+          rw (
+            imports-is s at index count n f (omega (arith, f .inside)),
+            eq-eqb (length s - (n .«end» + 4 * n .count)) 0 (omega arith),
+            lt-ltb index count i,
+            f .same,
+            q,
+          )
 
 -- the batch that was found, where the code goes on with it
 abbrev entry : tie.After-n → tie.Start
 entry c = c .before .before .before .before
 
 batch-at : (c : tie.After-n) → FoundAt (entry c .args .s .now) (entry c .args .at) (c .n .given .0 .0)
-batch-at c = found-at (entry c .args .s .now) (entry c .args .at) (c .n .given .0 .0) (entry c .pre) (sym (c .before .before .read-batch .ensures) ∙ c .n .given .1)
+batch-at c =
+    found-at (entry c .args .s .now) (entry c .args .at) (c .n .given .0 .0) (entry c .pre) (sym (c .before .before .read-batch .ensures) ∙ c .n .given .1)
 
 read-batch-requires : tie.Need-read-batch-requires
 read-batch-requires c κs = search needs
@@ -79,7 +94,8 @@ returns-2 c =
 returns-3 : tie.Need-returns-3
 returns-3 c =
     let d = c .before .before .before .before .before .before .before in
-    out (entry d .args .s .now) (entry d .args .at) (entry d .args .index) (entry d .args .count) _ (batch-at d) (c .before .before .before .if1 .left) (c .before .if2 .left) (c .if3 .taken)
+    out (entry d .args .s .now) (entry d .args .at) (entry d .args .index) (entry d .args .count) _ (batch-at d)
+    (c .before .before .before .if1 .left) (c .before .if2 .left) (c .if3 .taken)
 
 all-ascii-requires : tie.Need-all-ascii-requires
 all-ascii-requires c κs =
@@ -89,7 +105,9 @@ all-ascii-requires c κs =
 returns-4 : tie.Need-returns-4
 returns-4 c =
     let d = c .before .before .before .before .before .before .before .before .before in
-    found (entry d .args .s .now) (entry d .args .at) (entry d .args .index) (entry d .args .count) _ (batch-at d) (c .before .before .before .before .before .if1 .left) (c .before .before .before .if2 .left) (c .before .before .if3 .left) (sym (c .before .all-ascii .ensures) ∙ c .if4 .taken)
+    found (entry d .args .s .now) (entry d .args .at) (entry d .args .index) (entry d .args .count) _ (batch-at d)
+    (c .before .before .before .before .before .if1 .left) (c .before .before .before .if2 .left) (c .before .before .if3 .left)
+    (sym (c .before .all-ascii .ensures) ∙ c .if4 .taken)
 
 returns-5 : tie.Need-returns-5
 unfolding imported
@@ -100,7 +118,9 @@ returns-5 c =
 returns-6 : tie.Need-returns-6
 returns-6 c =
     let d = c .before .before .before .before .before .before .before .before .before in
-    foreign (entry d .args .s .now) (entry d .args .at) (entry d .args .index) (entry d .args .count) _ (batch-at d) (c .before .before .before .before .before .if1 .left) (c .before .before .before .if2 .left) (c .before .before .if3 .left) (sym (c .before .all-ascii .ensures) ∙ c .if4 .left)
+    foreign (entry d .args .s .now) (entry d .args .at) (entry d .args .index) (entry d .args .count) _ (batch-at d)
+    (c .before .before .before .before .before .if1 .left) (c .before .before .before .if2 .left) (c .before .before .if3 .left)
+    (sym (c .before .all-ascii .ensures) ∙ c .if4 .left)
 
 pub check-imports-spec : {M : Type 1} → statement M
 check-imports-spec =

@@ -69,8 +69,10 @@ returns-2 c =
     let l = b .before .before .loop in
     let a = b .before .before .before .before .args in
     let e = b .read-head .ensures .0 in
-    let w = name-is (a .s .now) (l .h) (l .p) (b .read-head .result) e (sym (c .before .is-text .ensures) ∙ not-true (c .before .is-text .result) (c .if2 .taken)) in
-    sym (l .inv .2 ∙ names-ill (a .s .now) (a .end) (l .left) (l .h) (l .p) (omega arith) (omega arith) (omega arith) (rw e at (c .before .before .before .before .if1 .left)) w)
+    let w = name-is (a .s .now) (l .h) (l .p) (b .read-head .result) e
+    (sym (c .before .is-text .ensures) ∙ not-true (c .before .is-text .result) (c .if2 .taken)) in
+    sym (l .inv .2 ∙ names-ill (a .s .now) (a .end) (l .left) (l .h) (l .p) (omega arith) (omega arith) (omega arith)
+    (rw e at (c .before .before .before .before .if1 .left)) w)
 
 add-h : tie.Need-add-h Inv-loop μ-loop
 add-h c = omega arith
@@ -87,8 +89,14 @@ loop-again c =
     let l = b .before .before .loop in
     let a = b .before .before .before .before .args in
     let e = b .read-head .ensures .0 in
-    let w = name-is (a .s .now) (l .h) (l .p) (b .read-head .result) e (sym (c .before .is-text .ensures) ∙ not-false (c .before .is-text .result) (c .if2 .left)) in
-    (omega arith, omega arith, l .inv .2 ∙ rw e (names-pass (a .s .now) (a .end) (l .left) (l .h) (l .p) (omega arith) (omega arith) (omega arith) (rw e at (c .before .before .before .before .if1 .left)) w))
+    let w = name-is (a .s .now) (l .h) (l .p) (b .read-head .result) e
+    (sym (c .before .is-text .ensures) ∙ not-false (c .before .is-text .result) (c .if2 .left)) in (
+      omega arith,
+      omega arith,
+      l .inv .2
+          ∙ rw e (names-pass (a .s .now) (a .end) (l .left) (l .h) (l .p) (omega arith) (omega arith) (omega arith)
+          (rw e at (c .before .before .before .before .if1 .left)) w),
+    )
 
 returns-3 : tie.Need-returns-3 Inv-loop μ-loop
 returns-3 c =

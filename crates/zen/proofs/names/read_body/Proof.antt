@@ -10,7 +10,7 @@ use Rattle.text.specs.ReadingRows.{cells}
 use Rattle.zen.specs.Batch.{headAt, strings, body}
 use Rattle.zen.specs.Answers.{checked, batched}
 use Rattle.zen.specs.AnswersLaws.{checked-passed, checked-failed}
-use Rattle.zen.specs.BatchLaws.{body-hashes, body-heads, body-room, body-is, place-of}
+use Rattle.zen.specs.BatchLaws.{strings-got, body-hashes, body-heads, body-room, body-is, place-of}
 use Rattle.zen.specs.declared.names.Checked.{Checked}
 use Rattle.zen.specs.declared.names.Checked.the-variants.{Passed, Failed}
 use Rattle.zen.specs.declared.names.NameBatch.the-variants.{Found, Refused}
@@ -35,7 +35,9 @@ module _ (s : List ℕ) (at n room : ℕ) where
 
       module _ (h : at + 8 * n + 2 * n + room ≤ length s) (c : Checked)
           (e : c ≡ checked (walk (strings (cells (headAt s) 2 (at + 8 * n) n) (at + 8 * n + 2 * n + room - (at + 8 * n + 2 * n))) s (at + 8 * n + 2 * n))) where
-        by-names : walk (body n room) s at ≡ chain (walk (strings (cells (headAt s) 2 (at + 8 * n) n) (at + 8 * n + 2 * n + room - (at + 8 * n + 2 * n))) s (at + 8 * n + 2 * n)) (λ ts k. got (record { place = place-of s at n room k; texts = ts }) k)
+        by-names : walk (body n room) s at
+            ≡ chain (walk (strings (cells (headAt s) 2 (at + 8 * n) n) (at + 8 * n + 2 * n + room - (at + 8 * n + 2 * n))) s (at + 8 * n + 2 * n))
+            (λ ts k. got (record { place = place-of s at n room k; texts = ts }) k)
         by-names =
             let z : at + 8 * n + 2 * n + room - (at + 8 * n + 2 * n) ≡ room = omega arith in
             rw z (body-is s at n room l m h)
@@ -44,9 +46,13 @@ module _ (s : List ℕ) (at n room : ℕ) where
         unfolding batched
         failed r q = rw (by-names, checked-failed _ (sym e ∙ q))
 
-        passed : (k : ℕ) → c ≡ Passed k → Found (place-of s at n room k) ≡ batched (walk (body n room) s at)
+        passed : c ≡ Passed → Found (place-of s at n room (at + 8 * n + 2 * n + room)) ≡ batched (walk (body n room) s at)
         unfolding batched
-        passed k q = rw (by-names, checked-passed _ (sym e ∙ q) .1)
+        passed q =
+            let (ts, k, w) = checked-passed _ (sym e ∙ q) in
+            let i = strings-got s n (at + 8 * n) _ (at + 8 * n + 2 * n) ts k w .ends in
+            let z : k ≡ at + 8 * n + 2 * n + room = omega arith in
+            rw (by-names, w, z)
 
 mul-headers : tie.Need-mul-headers
 mul-headers c = search needs
@@ -78,17 +84,18 @@ check-names-requires c κs = search needs
 enum-known-r : tie.Need-enum-known-r
 enum-known-r c = search needs
 
-enum-known-after : tie.Need-enum-known-after
-enum-known-after c = search needs
+enum-told : tie.Need-enum-told
+enum-told c = search needs
 
 returns-4 : tie.Need-returns-4
 returns-4 c = search failed
 
 returns-5 : tie.Need-returns-5
 returns-5 c =
-    let d = c .before .before .before in
+    let d = c .before .before in
     let a = d .before .before .before .before .before .args in
-    passed (a .s .now) (a .at) (a .count) (a .room) (d .before .before .before .if1 .left) (d .before .before .if2 .left) (d .before .if3 .left) _ (d .check-names .ensures) _ (c .before .after .given .1)
+    passed (a .s .now) (a .at) (a .count) (a .room) (d .before .before .before .if1 .left) (d .before .before .if2 .left) (d .before .if3 .left)
+    _ (d .check-names .ensures) (c .enum-told .given .1)
 
 pub read-body-spec : {M : Type 1} → statement M
 read-body-spec =
@@ -104,6 +111,6 @@ read-body-spec =
     returns-3
     check-names-requires
     enum-known-r
-    enum-known-after
+    enum-told
     returns-4
     returns-5)

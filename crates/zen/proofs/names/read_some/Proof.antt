@@ -31,7 +31,8 @@ module _ (s : List ℕ) (at n : ℕ) where
     unfolding batched
     version w = rw (some-is s at n, le-leb (at + 4) (length s) (omega arith), le-leb (at + 4 + 8) (length s) h, ← e, ne-eqb v 0xC1640000 w)
 
-    whole : v ≡ 0xC1640000 → (room : ℕ) → room ≡ leAt 4 s at → (x : NameBatch) → x ≡ batched (walk (body n room) s (at + 4 + 8)) → x ≡ batched (walk (someNames n) s at)
+    whole : v ≡ 0xC1640000 → (room : ℕ) → room ≡ leAt 4 s at → (x : NameBatch) → x ≡ batched (walk (body n room) s (at + 4 + 8))
+        → x ≡ batched (walk (someNames n) s at)
     whole w room r x q = rw (some-is s at n, le-leb (at + 4) (length s) (omega arith), le-leb (at + 4 + 8) (length s) h, ← e, eq-eqb v 0xC1640000 w, ← r) q
 
 add-version : tie.Need-add-version

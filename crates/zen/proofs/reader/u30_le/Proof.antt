@@ -18,8 +18,11 @@ cast-result c = search needs
 
 returns : tie.Need-returns
 returns c =
-    let a = c .before .before .before .args in
-    (c .name-index .ensures ∙ ap nameIndex (c .before .le32 .ensures) ∙ sym (low30-is (a .s .now) (a .at) (λ i. c .before .before .shared-slice-known .given i .fits) (c .before .before .before .pre)), omega arith)
+    let a = c .before .before .before .args in (
+      c .name-index .ensures ∙ ap nameIndex (c .before .le32 .ensures)
+          ∙ sym (low30-is (a .s .now) (a .at) (λ i. c .before .before .shared-slice-known .given i .fits) (c .before .before .before .pre)),
+      omega arith,
+    )
 
 pub u30-le-spec : {M : Type 1} → statement M
 u30-le-spec = tie.close (tie.spec le32-requires name-index-requires cast-result returns)

@@ -44,7 +44,9 @@ returns-2 : tie.Need-returns-2 Inv-loop μ-loop
 returns-2 c =
     let l = c .before .before .before .before .before .before .before .loop in
     let a = c .before .before .before .before .before .before .before .before .before .args in
-    sym (l .inv .1 ∙ fault-seen (a .b .now) (a .l) (l .i) (omega arith) (c .before .before .before .before .entry-in .ensures) (sym (c .before .before .before .entry-fault .ensures) ∙ c .before .before .if2 .left) (sym (c .before .is-fresh .ensures) ∙ not-true (c .before .is-fresh .result) (c .if3 .taken)))
+    sym (l .inv .1 ∙ fault-seen (a .b .now) (a .l) (l .i) (omega arith) (c .before .before .before .before .entry-in .ensures)
+    (sym (c .before .before .before .entry-fault .ensures) ∙ c .before .before .if2 .left)
+    (sym (c .before .is-fresh .ensures) ∙ not-true (c .before .is-fresh .result) (c .if3 .taken)))
 
 add-i : tie.Need-add-i Inv-loop μ-loop
 add-i c = omega arith
@@ -55,8 +57,12 @@ loop-less c = omega arith
 loop-again : tie.Need-loop-again Inv-loop μ-loop
 loop-again c =
     let l = c .before .before .before .before .before .before .before .loop in
-    let a = c .before .before .before .before .before .before .before .before .before .args in
-    (omega arith, l .inv .1 ∙ fault-next (a .b .now) (a .l) (l .i) (omega arith) (c .before .before .before .before .entry-in .ensures) (sym (c .before .before .before .entry-fault .ensures) ∙ c .before .before .if2 .left) (sym (c .before .is-fresh .ensures) ∙ not-false (c .before .is-fresh .result) (c .if3 .left)))
+    let a = c .before .before .before .before .before .before .before .before .before .args in (
+      omega arith,
+      l .inv .1 ∙ fault-next (a .b .now) (a .l) (l .i) (omega arith) (c .before .before .before .before .entry-in .ensures)
+          (sym (c .before .before .before .entry-fault .ensures) ∙ c .before .before .if2 .left)
+          (sym (c .before .is-fresh .ensures) ∙ not-false (c .before .is-fresh .result) (c .if3 .left)),
+    )
 
 returns-3 : tie.Need-returns-3 Inv-loop μ-loop
 returns-3 c =

@@ -68,7 +68,8 @@ returns-4 : tie.Need-returns-4
 returns-4 c =
     let a = c .before .before .before .before .before .before .before in
     let f = found (a .before .before .args .b .now) _ (a .read-batch .ensures) (c .before .before .before .before .before .n .given .1) in
-    sym (opened-negative (a .before .before .args .b .now) f (omega arith) (size-none 32 _ (sym (c .before .before .le-size32 .ensures) ∙ c .enum-told .given .1)))
+    sym (opened-negative (a .before .before .args .b .now) f (omega arith)
+    (size-none 32 _ (sym (c .before .before .le-size32 .ensures) ∙ c .enum-told .given .1)))
 
 returns-5 : tie.Need-returns-5
 returns-5 c =

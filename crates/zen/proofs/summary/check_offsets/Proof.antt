@@ -27,7 +27,7 @@ abbrev μ-loop : tie.MeasureT-loop
 
 -- a turn, by the size r at its place
 module _ (s : List ℕ) (from at left : ℕ) (same : checked (walk (rows 7 offset) s from) ≡ checked (walk (rows left offset) s at)) where
-  none : left ≤ 0 → Passed at ≡ checked (walk (rows 7 offset) s from)
+  none : left ≤ 0 → Passed ≡ checked (walk (rows 7 offset) s from)
   none h = sym (same ∙ rows-none offset s left at h)
 
   module _ (more : 0 < left) where

@@ -27,12 +27,12 @@ module _ (s : List ℕ) where
     unfolding summed
     failed r q = rw (summary-failed s l (checked-failed _ (sym e ∙ q)))
 
-    there : (at : ℕ) → o ≡ Passed at → 52 ≤ length s
-    there at q = summary-passed s l (checked-passed _ (sym e ∙ q) .1) .1
+    there : o ≡ Passed → 52 ≤ length s
+    there q = summary-passed s l (checked-passed _ (sym e ∙ q) .2) .1
 
-    told : (at : ℕ) → o ≡ Passed at → (m : Summary) → m ≡ summaryAt s → Told m ≡ summed (walk summary s 8)
+    told : o ≡ Passed → (m : Summary) → m ≡ summaryAt s → Told m ≡ summed (walk summary s 8)
     unfolding summed
-    told at q m h = rw (summary-passed s l (checked-passed _ (sym e ∙ q) .1) .0, h)
+    told q m h = rw (summary-passed s l (checked-passed _ (sym e ∙ q) .2) .0, h)
 
 returns : tie.Need-returns
 returns c = search short
@@ -43,8 +43,8 @@ check-offsets-requires c κs = search needs
 enum-known-r : tie.Need-enum-known-r
 enum-known-r c = search needs
 
-enum-known-at : tie.Need-enum-known-at
-enum-known-at c = search needs
+enum-told : tie.Need-enum-told
+enum-told c = search needs
 
 summary-in-requires : tie.Need-summary-in-requires
 summary-in-requires c κs = search there
@@ -62,7 +62,7 @@ read-summary-spec =
     returns
     check-offsets-requires
     enum-known-r
-    enum-known-at
+    enum-told
     summary-in-requires
     returns-2
     returns-3)

@@ -38,17 +38,31 @@ module _ (s : List ℕ) (at stop : ℕ) (within : at ≤ length s) where
           rw (bulk-is s at stop, le-leb (at + 8) (length s) (omega arith), p .0, ← p .1, lt-leb (at + 8 + z) (length s) (omega arith))
 
       module _ (h : z ≤ length s - (at + 8)) where
-        met : at + 8 + z ≡ stop → Passed (at + 8 + z) ≡ checked (walk (bulk stop) s at)
+        met : at + 8 + z ≡ stop → Passed ≡ checked (walk (bulk stop) s at)
         unfolding checked
         met m =
             let p = size-is 64 _ z (sym e ∙ q) in
-            rw (bulk-is s at stop, le-leb (at + 8) (length s) (omega arith), p .0, ← p .1, le-leb (at + 8 + z) (length s) (omega arith), eq-eqb (at + 8 + z) stop m)
+            rw (
+              bulk-is s at stop,
+              le-leb (at + 8) (length s) (omega arith),
+              p .0,
+              ← p .1,
+              le-leb (at + 8 + z) (length s) (omega arith),
+              eq-eqb (at + 8 + z) stop m,
+            )
 
         missed : (at + 8 + z ≡ stop → ⊥) → Failed 19 ≡ checked (walk (bulk stop) s at)
         unfolding checked
         missed m =
             let p = size-is 64 _ z (sym e ∙ q) in
-            rw (bulk-is s at stop, le-leb (at + 8) (length s) (omega arith), p .0, ← p .1, le-leb (at + 8 + z) (length s) (omega arith), ne-eqb (at + 8 + z) stop m)
+            rw (
+              bulk-is s at stop,
+              le-leb (at + 8) (length s) (omega arith),
+              p .0,
+              ← p .1,
+              le-leb (at + 8 + z) (length s) (omega arith),
+              ne-eqb (at + 8 + z) stop m,
+            )
 
 sub-if1 : tie.Need-sub-if1
 sub-if1 c = search needs
@@ -74,8 +88,8 @@ sub-if2 c = search needs
 returns-2 : tie.Need-returns-2
 returns-2 c = search past
 
-add-next : tie.Need-add-next
-add-next c = search needs
+add-if3 : tie.Need-add-if3
+add-if3 c = search needs
 
 returns-3 : tie.Need-returns-3
 returns-3 c = search met
@@ -98,7 +112,7 @@ check-bulk-spec =
     add-from
     sub-if2
     returns-2
-    add-next
+    add-if3
     returns-3
     returns-4
     returns-5)

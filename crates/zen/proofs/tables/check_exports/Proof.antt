@@ -10,7 +10,8 @@ use Rattle.zen.proofs.tables.check_exports.Statement.{statement}
 use Rattle.zen.proofs.tables.check_exports.Tie as tie
 
 abbrev Inv-loop : tie.InvT-loop
-Inv-loop s from n count at₀ left₀ at left = (at + 72 * left ≤ length s) × (named count (cells (exportAt s) 72 from n) ≡ named count (cells (exportAt s) 72 at left))
+Inv-loop s from n count at₀ left₀ at left =
+    (at + 72 * left ≤ length s) × (named count (cells (exportAt s) 72 from n) ≡ named count (cells (exportAt s) 72 at left))
 
 abbrev μ-loop : tie.MeasureT-loop
 μ-loop s from n count at₀ left₀ at left = left

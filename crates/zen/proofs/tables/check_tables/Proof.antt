@@ -29,16 +29,36 @@ module _ (s : List ℕ) (m : Summary) (n : ℕ) (o : Order m (length s)) where
     module _ (b : (m .exports - m .imports) % 8 ≡ 0) where
       exports : ((m .bundles - m .exports) % 72 ≡ 0 → ⊥) → Failed 21 ≡ checked (walk (tables m n) s (m .hashes))
       unfolding checked
-      exports d = rw (tables-is s m n o, eq-eqb ((m .imports - m .hashes) % 8) 0 a, eq-eqb ((m .exports - m .imports) % 8) 0 b, ne-eqb ((m .bundles - m .exports) % 72) 0 d)
+      exports d =
+          rw (
+            tables-is s m n o,
+            eq-eqb ((m .imports - m .hashes) % 8) 0 a,
+            eq-eqb ((m .exports - m .imports) % 8) 0 b,
+            ne-eqb ((m .bundles - m .exports) % 72) 0 d,
+          )
 
       module _ (d : (m .bundles - m .exports) % 72 ≡ 0) (t : Bool) (e : t ≡ named n (exportsIn s m)) where
-        names : t ≡ true → Passed (m .imported) ≡ checked (walk (tables m n) s (m .hashes))
+        names : t ≡ true → Passed ≡ checked (walk (tables m n) s (m .hashes))
         unfolding checked
-        names q = rw (tables-is s m n o, eq-eqb ((m .imports - m .hashes) % 8) 0 a, eq-eqb ((m .exports - m .imports) % 8) 0 b, eq-eqb ((m .bundles - m .exports) % 72) 0 d, sym e ∙ q)
+        names q =
+            rw (
+              tables-is s m n o,
+              eq-eqb ((m .imports - m .hashes) % 8) 0 a,
+              eq-eqb ((m .exports - m .imports) % 8) 0 b,
+              eq-eqb ((m .bundles - m .exports) % 72) 0 d,
+              sym e ∙ q,
+            )
 
         unnamed : t ≡ false → Failed 10 ≡ checked (walk (tables m n) s (m .hashes))
         unfolding checked
-        unnamed q = rw (tables-is s m n o, eq-eqb ((m .imports - m .hashes) % 8) 0 a, eq-eqb ((m .exports - m .imports) % 8) 0 b, eq-eqb ((m .bundles - m .exports) % 72) 0 d, sym e ∙ q)
+        unnamed q =
+            rw (
+              tables-is s m n o,
+              eq-eqb ((m .imports - m .hashes) % 8) 0 a,
+              eq-eqb ((m .exports - m .imports) % 8) 0 b,
+              eq-eqb ((m .bundles - m .exports) % 72) 0 d,
+              sym e ∙ q,
+            )
 
 sub-if1 : tie.Need-sub-if1
 sub-if1 c = search needs

@@ -6,12 +6,12 @@ use native.Mathlib.Omega.{arith}
 use lib.ListN.{length}
 use borrow.Author.Needs.{needs}
 use Rattle.text.specs.Reading.{walk, got}
-use Rattle.text.specs.ReadingLaws.{out, walk-within, then-walk, then-bad}
+use Rattle.text.specs.ReadingLaws.{out, then-walk, then-bad}
 use Rattle.zen.specs.Batch.{batch}
 use Rattle.zen.specs.Zen.{bulk, tables, Tables, imports, content}
 use Rattle.zen.specs.Answers.{checked, batched, imported, answer, Order}
 use Rattle.zen.specs.AnswersLaws.{checked-passed, checked-failed, batched-refused, imported-refused, imported-found}
-use Rattle.zen.specs.TableLaws.{bulk-got}
+use Rattle.zen.specs.TableLaws.{bulk-got, tables-end}
 use Rattle.zen.specs.FoundBatch.{FoundAt, found-at}
 use Rattle.zen.specs.declared.names.Checked.{Checked}
 use Rattle.zen.specs.declared.names.Checked.the-variants.{Passed, Failed}
@@ -39,33 +39,43 @@ module _ (s : List ℕ) (m : Summary) (o : Order m (length s)) (x : NameBatch) (
     module _ (y : Checked) (d : y ≡ checked (walk (bulk (m .hashes)) s (n .«end»))) where
       no-bulk : (r : ℕ) → y ≡ Failed r → Rejected r ≡ answer (out (walk (content (length s) m) s 52))
       unfolding content answer
-      no-bulk r p = ap (λ g. answer (out g)) (sym (then-walk batch _ s 52 (found .is) ∙ then-bad (bulk (m .hashes)) _ s (n .«end») (checked-failed _ (sym d ∙ p))))
+      no-bulk r p =
+          ap (λ g. answer (out g)) (sym (then-walk batch _ s 52 (found .is) ∙ then-bad (bulk (m .hashes)) _ s (n .«end») (checked-failed _ (sym d ∙ p))))
 
-      module _ (from : ℕ) (p : y ≡ Passed from) (z : Checked) (f : z ≡ checked (walk (tables m (n .count)) s (m .hashes))) where
+      module _ (p : y ≡ Passed) (z : Checked) (f : z ≡ checked (walk (tables m (n .count)) s (m .hashes))) where
         passed : walk (bulk (m .hashes)) s (n .«end») ≡ got tt (m .hashes)
-        passed = let b = checked-passed _ (sym d ∙ p) .1 in b ∙ ap (got tt) (bulk-got s (n .«end») (m .hashes) b)
+        passed = let (u, k, b) = checked-passed _ (sym d ∙ p) in b ∙ ap (got tt) (bulk-got s (n .«end») (m .hashes) b)
 
         no-tables : (r : ℕ) → z ≡ Failed r → Rejected r ≡ answer (out (walk (content (length s) m) s 52))
         unfolding content answer
-        no-tables r h = ap (λ g. answer (out g)) (sym (then-walk batch _ s 52 (found .is) ∙ (then-walk (bulk (m .hashes)) _ s (n .«end») passed ∙ then-bad (tables m (n .count)) _ s (m .hashes) (checked-failed _ (sym f ∙ h)))))
+        no-tables r h =
+            ap (λ g. answer (out g))
+            (sym (then-walk batch _ s 52 (found .is)
+            ∙ (then-walk (bulk (m .hashes)) _ s (n .«end») passed ∙ then-bad (tables m (n .count)) _ s (m .hashes) (checked-failed _ (sym f ∙ h)))))
 
-        module _ (at : ℕ) (h : z ≡ Passed at) where
-          read : (t : Tables) × (walk (tables m (n .count)) s (m .hashes) ≡ got t at)
-          read = checked-passed _ (sym f ∙ h)
+        module _ (h : z ≡ Passed) where
+          read : (t : Tables) × (walk (tables m (n .count)) s (m .hashes) ≡ got t (m .imported))
+          read = let (t, k, b) = checked-passed _ (sym f ∙ h) in (t, b ∙ ap (got t) (tables-end s m (n .count) o b))
 
-          behind : at ≤ length s
-          behind = walk-within (tables m (n .count)) s (m .hashes) (omega (arith, o .imports, o .exports, o .bundles, o .imported, o .high)) (read .1)
-
-          module _ (w : NameBatch) (i : w ≡ imported (walk (imports (m .index) (n .count)) s at)) where
+          module _ (w : NameBatch) (i : w ≡ imported (walk (imports (m .index) (n .count)) s (m .imported))) where
             no-imports : (r : ℕ) → w ≡ Refused r → Rejected r ≡ answer (out (walk (content (length s) m) s 52))
             unfolding content answer
-            no-imports r j = ap (λ g. answer (out g)) (sym (then-walk batch _ s 52 (found .is) ∙ (then-walk (bulk (m .hashes)) _ s (n .«end») passed ∙ (then-walk (tables m (n .count)) _ s (m .hashes) (read .1) ∙ then-bad (imports (m .index) (n .count)) _ s at (imported-refused _ (sym i ∙ j))))))
+            no-imports r j =
+                ap (λ g. answer (out g))
+                (sym (then-walk batch _ s 52 (found .is)
+                ∙ (then-walk (bulk (m .hashes)) _ s (n .«end») passed
+                ∙ (then-walk (tables m (n .count)) _ s (m .hashes) (read .1)
+                ∙ then-bad (imports (m .index) (n .count)) _ s (m .imported) (imported-refused _ (sym i ∙ j))))))
 
-            whole : (k : Names) → w ≡ Found k → Accepted (record { size = length s; summary = m; names = n; imported = k }) ≡ answer (out (walk (content (length s) m) s 52))
+            whole : (k : Names) → w ≡ Found k
+                → Accepted (record { size = length s; summary = m; names = n; imported = k }) ≡ answer (out (walk (content (length s) m) s 52))
             unfolding content answer
             whole k j =
                 let (v, u, g, a) = imported-found _ (sym i ∙ j) in
-                rw (← a) (ap (λ g. answer (out g)) (sym (then-walk batch _ s 52 (found .is) ∙ (then-walk (bulk (m .hashes)) _ s (n .«end») passed ∙ (then-walk (tables m (n .count)) _ s (m .hashes) (read .1) ∙ then-walk (imports (m .index) (n .count)) _ s at g)))))
+                rw (← a) (ap (λ g. answer (out g))
+                (sym (then-walk batch _ s 52 (found .is)
+                ∙ (then-walk (bulk (m .hashes)) _ s (n .«end») passed
+                ∙ (then-walk (tables m (n .count)) _ s (m .hashes) (read .1) ∙ then-walk (imports (m .index) (n .count)) _ s (m .imported) g)))))
 
 read-batch-requires : tie.Need-read-batch-requires
 read-batch-requires c κs = search needs
@@ -82,8 +92,8 @@ check-bulk-requires c κs = search inside
 enum-known-r-2 : tie.Need-enum-known-r-2
 enum-known-r-2 c = search needs
 
-enum-known-from : tie.Need-enum-known-from
-enum-known-from c = search needs
+enum-told : tie.Need-enum-told
+enum-told c = search needs
 
 check-tables-requires : tie.Need-check-tables-requires
 check-tables-requires c κs = search needs
@@ -91,11 +101,11 @@ check-tables-requires c κs = search needs
 enum-known-r-3 : tie.Need-enum-known-r-3
 enum-known-r-3 c = search needs
 
-enum-known-at : tie.Need-enum-known-at
-enum-known-at c = search needs
+enum-told-2 : tie.Need-enum-told-2
+enum-told-2 c = search needs
 
 check-imports-requires : tie.Need-check-imports-requires
-check-imports-requires c κs = search behind
+check-imports-requires c κs = search needs
 
 enum-known-r-4 : tie.Need-enum-known-r-4
 enum-known-r-4 c = search needs
@@ -116,7 +126,15 @@ returns-4 : tie.Need-returns-4
 returns-4 c = search no-imports
 
 returns-5 : tie.Need-returns-5
-returns-5 c = search whole
+returns-5 c =
+    let d = c .before .before .before in
+    let t = d .before .before .before in
+    let k = t .before .before .before in
+    let n = k .before .before in
+    let e = n .before .before in
+    let p = e .before .before in
+    whole (p .args .s .now) (p .args .m) (p .pre) _ (e .read-batch .ensures) _ (n .n .given .1) _ (k .check-bulk .ensures) (t .before .enum-told .given .1)
+    _ (t .check-tables .ensures) (d .before .enum-told2 .given .1) _ (d .check-imports .ensures) _ (c .before .i .given .1)
 
 pub check-content-spec : {M : Type 1} → statement M
 check-content-spec =
@@ -127,10 +145,10 @@ check-content-spec =
     enum-known-n
     check-bulk-requires
     enum-known-r-2
-    enum-known-from
+    enum-told
     check-tables-requires
     enum-known-r-3
-    enum-known-at
+    enum-told-2
     check-imports-requires
     enum-known-r-4
     enum-known-i

@@ -8,21 +8,24 @@ use Rattle.zenapi.proofs.names.names_ends.Statement.{statement}
 use Rattle.zenapi.proofs.names.names_ends.Tie as tie
 
 abbrev Inv-loop : tie.InvT-loop
-Inv-loop b l marks n total₀ i₀ total i = Adding b l n total i
+Inv-loop b l notes n total₀ i₀ total i = Adding b l n total i
 
 abbrev μ-loop : tie.MeasureT-loop
-μ-loop b l marks n total₀ i₀ total i = n - i
+μ-loop b l notes n total₀ i₀ total i = n - i
 
 -- the next sum
 more : (c : tie.After-name-place Inv-loop μ-loop) → let l = c .before .before .before .before in
-    (l .loop .total + (c .name-place .result .start + c .name-place .result .size) < 2 ^ 64) × Adding (l .before .before .before .before .before .args .b .now) (l .before .before .before .before .before .args .l) (l .before .export-count .result) (l .loop .total + (c .name-place .result .start + c .name-place .result .size)) (l .loop .i + 1)
+    (l .loop .total + (c .name-place .result .start + c .name-place .result .size) < 2 ^ 64) × Adding
+    (l .before .before .before .before .before .args .b .now) (l .before .before .before .before .before .args .l) (l .before .export-count .result)
+    (l .loop .total + (c .name-place .result .start + c .name-place .result .size)) (l .loop .i + 1)
 more c =
     let l = c .before .before .before .before in
     let s = l .before .before .before .before in
-    adding-more _ _ (s .before .pre) (l .loop .inv) (c .before .before .before .loop-test .taken) _ (c .before .before .export-at .ensures) (λ j. s .shared-slice-known .given j .fits) _ (c .name-place .ensures)
+    adding-more _ _ (s .before .pre) (l .loop .inv) (c .before .before .before .loop-test .taken) _ (c .before .before .export-at .ensures)
+    (λ j. s .shared-slice-known .given j .fits) _ (c .name-place .ensures)
 
-mark-package-names-requires : tie.Need-mark-package-names-requires Inv-loop μ-loop
-mark-package-names-requires c κs = (c .before .before .pre, refl)
+note-package-names-requires : tie.Need-note-package-names-requires Inv-loop μ-loop
+note-package-names-requires c κs = (c .before .before .pre, refl)
 
 export-count-requires : tie.Need-export-count-requires Inv-loop μ-loop
 export-count-requires c κs = search needs
@@ -34,7 +37,7 @@ export-at-requires : tie.Need-export-at-requires Inv-loop μ-loop
 export-at-requires c κs = (search needs, search adding-in)
 
 name-place-requires : tie.Need-name-place-requires Inv-loop μ-loop
-name-place-requires c κs = (search needs, search adding-named, c .before .before .before .before .before .mark-package-names .ensures .0)
+name-place-requires c κs = (search needs, search adding-named, c .before .before .before .before .before .note-package-names .ensures .0)
 
 add-end : tie.Need-add-end Inv-loop μ-loop
 add-end c = omega (arith, more (c .before) .0)
@@ -60,7 +63,7 @@ names-ends-spec =
     (tie.spec
     Inv-loop
     μ-loop
-    mark-package-names-requires
+    note-package-names-requires
     export-count-requires
     loop-holds
     export-at-requires

@@ -17,11 +17,11 @@ enum-known-l c = search needs
 returns : tie.Need-returns
 returns c = search id-past
 
-mark-imported-names-requires : tie.Need-mark-imported-names-requires
-mark-imported-names-requires c κs = (search accepted, refl)
+note-imported-names-requires : tie.Need-note-imported-names-requires
+note-imported-names-requires c κs = (search accepted, refl)
 
 imported-id-requires : tie.Need-imported-id-requires
-imported-id-requires c κs = (search accepted, search needs, c .before .mark-imported-names .ensures .0)
+imported-id-requires c κs = (search accepted, search needs, c .before .note-imported-names .ensures .0)
 
 returns-2 : tie.Need-returns-2
 returns-2 c = search no-id
@@ -37,7 +37,7 @@ zen-imported-id-spec =
     enum-told
     enum-known-l
     returns
-    mark-imported-names-requires
+    note-imported-names-requires
     imported-id-requires
     returns-2
     returns-3)

@@ -29,10 +29,18 @@ returns-2 : tie.Need-returns-2
 returns-2 c = rw (counts-are _ _ (c .before .before .before .before .check-package .ensures) _ (c .before .before .l .given .1), c .match2 .keys1)
 
 returns-3 : tie.Need-returns-3
-returns-3 c = rw (counts-are _ _ (c .before .before .before .before .before .check-package .ensures) _ (c .before .before .before .l .given .1), c .before .match2 .keys2) (c .export-count .ensures)
+returns-3 c =
+    rw (
+      counts-are _ _ (c .before .before .before .before .before .check-package .ensures) _ (c .before .before .before .l .given .1),
+      c .before .match2 .keys2,
+    ) (c .export-count .ensures)
 
 returns-4 : tie.Need-returns-4
-returns-4 c = rw (counts-are _ _ (c .before .before .before .before .before .check-package .ensures) _ (c .before .before .before .l .given .1), c .before .match2 .keys3) (c .hash-count .ensures)
+returns-4 c =
+    rw (
+      counts-are _ _ (c .before .before .before .before .before .check-package .ensures) _ (c .before .before .before .l .given .1),
+      c .before .match2 .keys3,
+    ) (c .hash-count .ensures)
 
 returns-5 : tie.Need-returns-5
 returns-5 c = rw (counts-are _ _ (c .before .before .before .before .check-package .ensures) _ (c .before .before .l .given .1), c .match2 .keys4)

@@ -31,7 +31,9 @@ returns-3 : tie.Need-returns-3
 returns-3 c = rw (c .before .match2 .keys2) (c .find-imported .ensures)
 
 returns-4 : tie.Need-returns-4
-returns-4 c = no-kind (c .before .before .before .before .before .before .args .b .now) (c .before .before .before .before .before .before .args .i) (c .before .before .before .before .before .before .args .which) (omega arith)
+returns-4 c =
+    no-kind (c .before .before .before .before .before .before .args .b .now) (c .before .before .before .before .before .before .args .i)
+    (c .before .before .before .before .before .before .args .which) (omega arith)
 
 pub find-text-spec : {M : Type 1} → statement M
 find-text-spec =

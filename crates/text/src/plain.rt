@@ -1,0 +1,98 @@
+// Names whose one-byte text is all ASCII: its bytes are its UTF-8, and are copied as they stand; other names go the way of `name`. The two
+// loops run to the end whatever they meet, so that the compiler can take many bytes a turn.
+ghost use mathlib.Core.Path.{_≡_};
+ghost use mathlib.Core.Bool.{true};
+ghost use Prim.Native.Nat.{_*_, _^_, _+_, _≤_, _<_};
+ghost use lib.ListN.{length};
+ghost use Rattle.text.specs.Affix.{allAscii};
+ghost use Rattle.text.specs.Output.{Wrote};
+ghost use Rattle.text.specs.Utf16.{isWell};
+ghost use Rattle.text.specs.Utf8.{utf8};
+ghost use Rattle.text.specs.Name.{decoded, base, rendered, textBytes};
+use super::name;
+use super::name::put_suffix;
+use super::name::suffix_len;
+use super::output::put_be32;
+
+// Whether bytes are all ASCII.
+fn is_plain(part: &[u8]) -> bool
+    ensures { λ r. ⌜ r ≡ allAscii (now (part .entry)) ⌝ }
+{
+    let mut all: u8 = 0;
+    let mut i = 0;
+    while i < part.len() {
+        all = all | part[i];
+        i += 1;
+    }
+    all < 128
+}
+
+// Bytes, and whether they are all ASCII.
+fn put_plain(out: &mut [u8], part: &[u8]) -> bool
+    requires { ⌜ length (now part) ≤ length (now out) ⌝ }
+    ensures { λ r. ⌜ (r ≡ allAscii (now (part .entry))) × Wrote (now (out .entry)) (now (part .entry)) (now (out .exit)) (length (now (part .entry))) ⌝ }
+{
+    let mut all: u8 = 0;
+    let mut i = 0;
+    while i < part.len() {
+        let v = part[i];
+        out[i] = v;
+        all = all | v;
+        i += 1;
+    }
+    all < 128
+}
+
+// How many bytes of UTF-8 the base takes.
+pub fn base_len(part: &[u8], wide: bool) -> usize
+    requires { ⌜ (isWell (decoded wide (now part)) ≡ true) × (length (now part) < 2 ^ 32) ⌝ }
+    ensures { λ r. ⌜ (r ≡ length (utf8 (base wide (now (part .entry))))) × (r ≤ 4 * length (now (part .entry))) ⌝ }
+{
+    if wide {
+        return name::base_len(part, wide);
+    }
+    if is_plain(part) {
+        return part.len();
+    }
+    name::base_len(part, wide)
+}
+
+// The base.
+pub fn put_base(out: &mut [u8], part: &[u8], wide: bool) -> usize
+    requires { ⌜ (isWell (decoded wide (now part)) ≡ true) × (length (utf8 (base wide (now part))) ≤ length (now out)) ⌝ }
+    ensures { λ r. ⌜ Wrote (now (out .entry)) (utf8 (base wide (now (part .entry)))) (now (out .exit)) r ⌝ }
+{
+    if wide {
+        return name::put_base(out, part, wide);
+    }
+    if put_plain(out, part) {
+        return part.len();
+    }
+    name::put_base(out, part, wide)
+}
+
+// How many bytes of UTF-8 the rendered name takes.
+pub fn name_len(part: &[u8], wide: bool, number: u32) -> usize
+    requires { ⌜ (isWell (decoded wide (now part)) ≡ true) × (length (now part) < 2 ^ 32) ⌝ }
+    ensures { λ r. ⌜ (r ≡ length (utf8 (rendered wide (now (part .entry)) number))) × (r ≤ 4 * length (now (part .entry)) + 21) ⌝ }
+{
+    base_len(part, wide) + suffix_len(number)
+}
+
+// The rendered name.
+pub fn put_name(out: &mut [u8], part: &[u8], wide: bool, number: u32) -> usize
+    requires { ⌜ (isWell (decoded wide (now part)) ≡ true) × (length (utf8 (rendered wide (now part) number)) ≤ length (now out)) ⌝ }
+    ensures { λ r. ⌜ Wrote (now (out .entry)) (utf8 (rendered wide (now (part .entry)) number)) (now (out .exit)) r ⌝ }
+{
+    let at = put_base(out, part, wide);
+    at + put_suffix(&mut out[at..], number)
+}
+
+// The rendered name as a text: its length in 4 bytes, then its bytes.
+pub fn put_name_text(out: &mut [u8], part: &[u8], wide: bool, number: u32) -> usize
+    requires { ⌜ (isWell (decoded wide (now part)) ≡ true) × (length (textBytes (rendered wide (now part) number)) ≤ length (now out)) × (length (utf8 (rendered wide (now part) number)) < 2 ^ 32) ⌝ }
+    ensures { λ r. ⌜ Wrote (now (out .entry)) (textBytes (rendered wide (now (part .entry)) number)) (now (out .exit)) r ⌝ }
+{
+    let n = put_name(&mut out[4..], part, wide, number);
+    put_be32(out, n as u32) + n
+}
