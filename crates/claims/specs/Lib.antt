@@ -1,0 +1,4 @@
+-- What is claimed: the demands and the clauses, in their order.
+pub mod Claims
+-- Document 01's table of examples, and its mistaken readings.
+pub mod Examples

@@ -1,0 +1,38 @@
+-- The call's answer as something that computes: to unfold `asked` is to unfold every definition that an answer needs. Assumes nothing.
+use mathlib.Core.List.{List}
+use Prim.Native.Nat.{ℕ}
+use Rattle.text.specs.Affix.{endsWith}
+use Rattle.text.specs.City.{shiftMix, hashLen16Mul, hashLen16, mulOf, len1to3, len4to7, len8to16, len0to16, mix4, len17to32}
+use Rattle.text.specs.City.{swapMul, mixU, mixV, mixY, mixLast, mix8, len33to64}
+use Rattle.text.specs.City.{weak32, weakAt, nextX, nextY, nextZ, nextV, nextW, turn, turns, start, finish, longer, cityHash64}
+use Rattle.text.specs.Digits.{digits, decimal, hex}
+use Rattle.text.specs.Id.{idOf}
+use Rattle.text.specs.Lower.{lower}
+use Rattle.text.specs.Name.{decoded, textBytes}
+use Rattle.text.specs.Number.{leAt, beBytes}
+use Rattle.text.specs.Reading.{rows, runBlock}
+use Rattle.text.specs.Signed.{twos}
+use Rattle.text.specs.Utf16.{encodeOne, encode16, utf16, units}
+use Rattle.text.specs.Utf8.{utf8One}
+use Rattle.text.specs.Word.{addw, mulw, rotr, swap}
+use Rattle.zen.specs.Batch.{headOf, head, strings, noNames, someNames, body, batch}
+use Rattle.zen.specs.Script.{entry, entries, opening, script}
+use Rattle.zen.specs.Zen.{offset, summary, ordered, bulk, export, tables, imports, content, header, lead}
+use Rattle.meaning.specs.Frame.{part, packages, frame, framed}
+use Rattle.meaning.specs.Key.{sameKey}
+use Rattle.meaning.specs.Path.{pathOf}
+use Rattle.meaning.specs.Scan.{outerOf, lastPart, isClass, classPath, classAt, classesOf, candidateKind, instanceName, numbered, candidates}
+use Rattle.meaning.specs.Reference.{badImport, badExport, refIn, refText}
+use Rattle.meaning.specs.Resolve.{ownChain, nativeOf, resolve}
+use Rattle.meaning.specs.Report.{rowRest, rowBytes, rowOf, section, reportOf}
+use Rattle.meaning.specs.Call.{Answer, limits, holding, openedIn, opened, workBytes, weighed, answer, numberOf}
+
+-- with buffers that are long enough
+unfoldable pub asked : List ℕ → Answer (List ℕ)
+unfolding endsWith shiftMix hashLen16Mul hashLen16 mulOf len1to3 len4to7 len8to16 len0to16 mix4 len17to32 swapMul mixU mixV mixY mixLast mix8
+    len33to64 weak32 weakAt nextX nextY nextZ nextV nextW turn turns start finish longer cityHash64 digits decimal hex idOf lower decoded textBytes
+    leAt beBytes rows runBlock twos encodeOne encode16 utf16 units utf8One addw mulw rotr swap headOf head strings noNames someNames body batch entry
+    entries opening script offset summary ordered bulk export tables imports content header lead part packages frame framed sameKey pathOf outerOf lastPart
+    isClass classPath classAt classesOf candidateKind instanceName numbered candidates badImport badExport refIn refText ownChain nativeOf resolve rowRest
+    rowBytes rowOf section reportOf holding openedIn opened workBytes weighed answer numberOf
+asked corpus = answer limits corpus 65536 65536

@@ -1,0 +1,55 @@
+-- Layer 3: what the report is, and what is proved of it.
+
+-- ==== What must be believed: definitions, in document 01's order
+pub mod Frame
+pub mod Path
+pub mod Key
+pub mod Reference
+pub mod Scan
+pub mod Resolve
+pub mod Report
+pub mod Call
+-- a corpus from the writing side, and demand 3's relation of two corpora
+pub mod Bytes
+pub mod Rearranged
+-- chains and outer chains, in document 01's words
+pub mod Chain
+-- ==== What is proved: statements
+-- document 01's examples, computed
+pub mod Computed
+pub mod Written
+pub mod Examples
+pub mod Edges
+pub mod CallExamples
+pub mod RowExamples
+pub mod LimitExamples
+-- the own chain, the native class, rows in the report's bytes
+pub mod OwnChain
+pub mod Native
+pub mod Rows
+pub mod Whole
+pub mod Fields
+pub mod Texts
+-- demand 1: the first question that fails
+pub mod Order
+pub mod Decoded
+pub mod Outcome
+-- demand 3
+pub mod Demand
+pub mod Rearrange
+-- theorems that shut out wrong readings
+pub mod ClassTest
+pub mod Lengths
+pub mod Bounds
+pub mod Sanity
+pub mod Shut
+-- ==== Laws and lemmas
+pub mod KeyLaws
+pub mod Table
+pub mod BytesLaws
+pub mod Accepted
+pub mod Fits
+pub mod Sections
+pub mod Rewriting
+pub mod Reordering
+pub mod RearrangedLaws

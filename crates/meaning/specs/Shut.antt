@@ -1,0 +1,146 @@
+-- Programs that the definition shuts out (document 01, clause c): no program that does what the definition says writes one fixed report,
+-- refuses each corpus, or returns a length and writes no byte; and 25 and 26 are said exactly where the sums are too large.
+use mathlib.Core.Path.{_≡_, refl, sym, _∙_, ap}
+use mathlib.Core.Logic.{_↔_}
+use mathlib.Core.Bool.{Bool, true, false, _&&_}
+use mathlib.Core.List.{List, [], _∷_}
+use Prim.Native.Nat.{ℕ, zero, suc, _≤_, _<_}
+use native.Mathlib.Omega.{arith}
+use borrow.Author.Tests.{ltb-true}
+use lib.Dec.{T, ltb}
+use lib.ListN.{length, take, getD, replicate, length-replicate}
+use lib.Seq.{length-take-le}
+use Rattle.text.specs.Answer.{isRefusal}
+use Rattle.text.specs.House.{longestOutput}
+use Rattle.text.specs.Never.{never}
+use Rattle.text.specs.NumberLaws.{Bytes}
+use Rattle.zen.specs.Refusals.{script-refusal, package-refusal}
+use Rattle.meaning.specs.Resolve.{Limits}
+use Rattle.meaning.specs.Report.{reportOf}
+use Rattle.meaning.specs.Call.{refusedIn, accepted, Opened, opened, workBytes, answer, Outcome, outcome, limits}
+use Rattle.meaning.specs.Bytes.{partBytes, packagesBytes, corpusRest, corpusBytes}
+use Rattle.meaning.specs.Computed.{asked}
+use Rattle.meaning.specs.Written.{corpusOf}
+use Rattle.meaning.specs.Examples.{least, noObjects, booth, examples}
+use Rattle.meaning.specs.Order.{FirstFailed, framing, script-block, package-block, key-twice, work-short, report-long, first-failed}
+use Rattle.meaning.specs.Decoded.{framed-refusal}
+use Rattle.meaning.specs.Outcome.{accepted-number, accepted-front, buffer-length}
+
+-- a program takes corpus, work buffer and report buffer; it does what the definition says, whatever bytes the corpus is
+abbrev pub Program : Type 0
+Program = List ℕ → List ℕ → List ℕ → Outcome
+
+abbrev pub Meets : Program → Type 0
+Meets P = (corpus work buffer : List ℕ) → Bytes corpus → P corpus work buffer ≡ outcome limits corpus work buffer
+
+-- ---- two corpora, with reports of 9 and of 98 bytes
+
+abbrev allBytes : List ℕ → Bool
+allBytes [] = true
+allBytes (x ∷ s) = ltb x 256 && allBytes s
+
+all-bytes : (s : List ℕ) → T (allBytes s) → Bytes s
+all-bytes [] t i = omega arith
+all-bytes (x ∷ s) t i = go (ltb x 256) refl t (all-bytes s) i
+  where
+    go : (b : Bool) → ltb x 256 ≡ b → T (b && allBytes s) → (T (allBytes s) → Bytes s) → Bytes (x ∷ s)
+    go true l t ih zero = ltb-true x 256 l
+    go true l t ih (suc i) = ih t i
+    go false l t ih i = absurd t
+
+first-bytes : Bytes (least 1)
+first-bytes = all-bytes (least 1) tt
+
+second-bytes : Bytes (corpusOf noObjects booth)
+unfolding asked corpusBytes corpusRest packagesBytes partBytes
+second-bytes = all-bytes (corpusOf noObjects booth) tt
+
+abbrev nine : List ℕ
+nine = replicate 9 0
+
+abbrev much : List ℕ
+much = replicate 65536 0
+
+much-length : length much ≡ 65536
+much-length = length-replicate {A = ℕ} 65536 0
+
+first-number : outcome limits (least 1) [] nine .number ≡ 9
+first-number = accepted-number limits (least 1) [] nine _ (examples .least-report)
+
+number-at : (s w b : List ℕ) (work room : ℕ) (report : List ℕ) → length w ≡ work → length b ≡ room → answer limits s work room ≡ accepted report
+    → outcome limits s w b .number ≡ length report
+number-at s w b work room report p q h = accepted-number limits s w b report (rw (p, q) h)
+
+second-number : outcome limits (corpusOf noObjects booth) much much .number ≡ 98
+unfolding asked
+second-number =
+    number-at (corpusOf noObjects booth) much much 65536 65536 _ much-length much-length (examples .row-tone)
+
+-- ---- the programs
+
+module _ (P : Program) (meets : Meets P) where
+  pub refuses-each : ((corpus work buffer : List ℕ) → isRefusal (P corpus work buffer .number) ≡ true) → ⊥
+  refuses-each h =
+      let r = rw (meets (least 1) [] nine first-bytes, first-number) at (h (least 1) [] nine) in
+      never (cc)
+
+  -- the front of the buffer is always the same bytes
+  pub fixed-report : (report : List ℕ)
+      → ((corpus work buffer : List ℕ) → isRefusal (P corpus work buffer .number) ≡ false
+      → take (P corpus work buffer .number) (P corpus work buffer .report) ≡ report)
+      → ⊥
+  fixed-report report h =
+      let one = at-first (h (least 1) [] nine) in
+      let two = at-second (h (corpusOf noObjects booth) much much) in
+      omega arith
+    where
+      at-first : (isRefusal (P (least 1) [] nine .number) ≡ false → take (P (least 1) [] nine .number) (P (least 1) [] nine .report) ≡ report)
+          → length report ≡ 9
+      at-first h =
+          let k = rw (meets (least 1) [] nine first-bytes, first-number) at h in
+          ap length (sym (k refl)) ∙ length-take-le 9 (outcome limits (least 1) [] nine .report) (omega (arith, buffer-length limits (least 1) [] nine))
+
+      at-second : (isRefusal (P (corpusOf noObjects booth) much much .number) ≡ false
+          → take (P (corpusOf noObjects booth) much much .number) (P (corpusOf noObjects booth) much much .report) ≡ report) → length report ≡ 98
+      at-second h =
+          let k = rw (meets (corpusOf noObjects booth) much much second-bytes, second-number) at h in
+          ap length (sym (k refl))
+          ∙ length-take-le 98 (outcome limits (corpusOf noObjects booth) much much .report)
+          (omega (arith, buffer-length limits (corpusOf noObjects booth) much much, much-length))
+
+  pub no-byte : ((corpus work buffer : List ℕ) → P corpus work buffer .report ≡ buffer) → ⊥
+  no-byte h =
+      let r = rw (meets (least 1) [] nine first-bytes) at (h (least 1) [] nine) in
+      let front = accepted-front limits (least 1) [] nine _ (examples .least-report) in
+      let same = ap (λ (l : List ℕ). getD l 3 0) (rw r at front) in
+      omega arith
+
+-- ---- 25 and 26, exactly where the sums say
+
+module _ (m : Limits) (s : List ℕ) (work room : ℕ) where
+  pub work-refused : (answer m s work room ≡ refusedIn 25 0) ↔ ((d : Opened) × (opened m s ≡ accepted d) × (work < workBytes d))
+  work-refused = (λ e. go (first-failed m s work room 25 0 .0 e) refl, λ (d, h, short). first-failed m s work room 25 0 .1 (work-short h short))
+    where
+      go : {q j : ℕ} → FirstFailed m s work room q j → q ≡ 25 → (d : Opened) × (opened m s ≡ accepted d) × (work < workBytes d)
+      go (framing {q} f) e = absurd (omega (arith, framed-refusal s q f))
+      go (script-block {q} {c} f r) e = absurd (omega (arith, script-refusal (c .script) q r))
+      go (package-block {q} before p after f o is good r) e = absurd (omega (arith, package-refusal (p .block) q r))
+      go (key-twice before x after f g good is once has) e = absurd (omega arith)
+      go (work-short {d} h short) e = (d, h, short)
+      go (report-long h enough long) e = absurd (omega arith)
+
+  -- the report is beyond the longest, or beyond its buffer
+  abbrev pub TooLong : Opened → Type 0
+  TooLong d = length (reportOf m (d .objects) (d .packages)) ≤ longestOutput → length (reportOf m (d .objects) (d .packages)) ≤ room → ⊥
+
+  pub report-refused : (answer m s work room ≡ refusedIn 26 0) ↔ ((d : Opened) × (opened m s ≡ accepted d) × (workBytes d ≤ work) × TooLong d)
+  report-refused =
+      (λ e. go (first-failed m s work room 26 0 .0 e) refl, λ (d, h, enough, long). first-failed m s work room 26 0 .1 (report-long h enough long))
+    where
+      go : {q j : ℕ} → FirstFailed m s work room q j → q ≡ 26 → (d : Opened) × (opened m s ≡ accepted d) × (workBytes d ≤ work) × TooLong d
+      go (framing {q} f) e = absurd (omega (arith, framed-refusal s q f))
+      go (script-block {q} {c} f r) e = absurd (omega (arith, script-refusal (c .script) q r))
+      go (package-block {q} before p after f o is good r) e = absurd (omega (arith, package-refusal (p .block) q r))
+      go (key-twice before x after f g good is once has) e = absurd (omega arith)
+      go (work-short h short) e = absurd (omega arith)
+      go (report-long {d} h enough long) e = (d, h, enough, long)
