@@ -1,0 +1,4 @@
+pub mod Stores
+pub mod Grown
+pub mod Searching
+pub mod Attached
