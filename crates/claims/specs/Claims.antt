@@ -63,6 +63,20 @@ use Rattle.meaning.specs.Shut.{Program, Meets}
 use Rattle.meaning.specs.Shut as Shut
 use Rattle.meaning.specs.Accepted.{packagesIn, from-answer}
 
+-- ==== THE CALL
+-- THE CONTRACT of the exported call, `class_report` (crates/capi), which ensures just this of the lists that it was lent: corpus, work buffer and
+-- report buffer at entry, the number that it returned, and the report buffer at exit. It asks nothing of its caller, and says nothing of the work
+-- buffer at exit.
+pub record Called (corpus work buffer : List ℕ) (number : ℕ) (report : List ℕ) : Type 0 where
+  pub number-is : number ≡ numberOf (answer limits corpus (length work) (length buffer))
+  pub report-is : report ≡ bufferAfter (answer limits corpus (length work) (length buffer)) buffer
+
+-- so whatever is said here of `outcome limits` is said of every call
+pub clause-a-call : {corpus work buffer report : List ℕ} {number : ℕ} → Called corpus work buffer number report
+    → record { number = number; report = report } ≡ outcome limits corpus work buffer
+unfolding outcome
+clause-a-call c = cc
+
 -- ==== DEMAND 1
 -- "The caller may hand in any corpus, work buffer and report buffer and gets a report, or the number of the first of document 01's questions it
 -- fails; after that the report buffer is unchanged."
@@ -251,6 +265,15 @@ demand-3 old new w work₁ buffer₁ work₂ buffer₂ ok p q =
       same-sections = u .same-sections;
     }
 
+-- the same of two calls, by the exported function's contract (`Called`, clause a)
+pub demand-3-call : (old new : List ℕ) (w : Rearranged old new) (work₁ buffer₁ work₂ buffer₂ report₁ report₂ : List ℕ) (number₁ number₂ : ℕ)
+    → Called old work₁ buffer₁ number₁ report₁ → Called new work₂ buffer₂ number₂ report₂
+    → isRefusal number₁ ≡ false → length work₂ ≡ length work₁ → length buffer₂ ≡ length buffer₁
+    → Unchanged old new w (record { number = number₁; report = report₁ }) (record { number = number₂; report = report₂ })
+demand-3-call old new w work₁ buffer₁ work₂ buffer₂ report₁ report₂ number₁ number₂ c₁ c₂ ok p q =
+    let same : isRefusal (outcome limits old work₁ buffer₁ .number) ≡ false = rw (← clause-a-call c₁) ok in
+    rw (clause-a-call c₁, clause-a-call c₂) (demand-3 old new w work₁ buffer₁ work₂ buffer₂ same p q)
+
 -- "some chain, as document 01 defines it, of at most 64 class lookups leads from the row's class reference to a script object whose outer chain, of
 -- at most 65 known objects, ends in a null index" (t: the classes that there are; meaning/Chain.antt has `Chain` and `Outers`)
 pub record Leads (t : List Class) (o : Objects) (r : Ref) : Type 0 where
@@ -291,9 +314,7 @@ demand-3-native corpus report h p e =
 
 -- ==== CLAUSE A
 -- "The returned number and the report buffer equal a definition of the corpus and both lengths, bytes past the report and the whole buffer on refusal
--- being unchanged, and only the work buffer's final bytes are free."
--- HERE, once the call is written: its contract, `outcome limits` of the lent lists, cited by name.
-
+-- being unchanged, and only the work buffer's final bytes are free." The call's contract is `Called`, above.
 pub clause-a : (corpus work buffer : List ℕ)
     → (outcome limits corpus work buffer .number ≡ numberOf (answer limits corpus (length work) (length buffer)))
     × (outcome limits corpus work buffer .report ≡ bufferAfter (answer limits corpus (length work) (length buffer)) buffer)

@@ -1,0 +1,2 @@
+-- Lemmas that more than one proof of this crate cites.
+pub mod Found
