@@ -1,0 +1,81 @@
+// Where a reference leads: its class, and the script object at the end of its chain.
+ghost use mathlib.Core.List.{List};
+ghost use mathlib.Core.Path.{_≡_};
+ghost use Prim.Native.Nat.{ℕ, _<_};
+ghost use Rattle.text.specs.Seek.{seek};
+ghost use Rattle.zen.specs.Script.{Objects};
+ghost use Rattle.meaning.specs.Key.{public, sameKey};
+ghost use Rattle.meaning.specs.Reference.{Ref};
+ghost use Rattle.meaning.specs.Scan.{Class};
+ghost use Rattle.resolve.specs.Rows.{objectNumber, Means, Tables, SomeTables, Leads};
+use objects::link::find;
+use table::entries::look_up;
+use table::entries::record_at;
+use table::words::get64;
+
+// The class that has the key (lo, hi), where hi isn't 0: one more than its number, or 0.
+fn class_at(w: &[u8], n: usize, lo: u64, hi: u64) -> usize
+    requires { ⌜ SomeTables n (now w) × (0 < hi) ⌝ }
+    ensures { λ k. ⌜ ((s b : List ℕ) (o : Objects) (xs : List Class) → Tables s b o n xs (now (w .entry)) → k ≡ seek (λ (c : Class). sameKey (c .key) (public lo hi)) xs) ⌝ }
+{
+    let size = 48 * n;
+    look_up(&w[size..], 4 * n, 64, lo, hi)
+}
+
+// The script object to which the chain of so many lookups leads from what (lo, hi) means: one more than its number, or 0.
+fn end_of(w: &[u8], n: usize, lo: u64, hi: u64, lookups: usize) -> usize
+    requires { ⌜ SomeTables n (now w) ⌝ }
+    ensures { λ k. ⌜ ((s b : List ℕ) (o : Objects) (xs : List Class) (r : Ref) → Tables s b o n xs (now (w .entry)) → Means lo hi r → k ≡ objectNumber lookups xs o r) ⌝ }
+{
+    let size = 48 * n;
+    let mut x = lo;
+    let mut y = hi;
+    let mut left = lookups;
+    while y != 0 {
+        if left == 0 {
+            return 0;
+        }
+        let k = class_at(w, n, x, y);
+        if k == 0 {
+            return 0;
+        }
+        let at = size + record_at(4 * n, 64, k - 1);
+        x = get64(w, at + 44);
+        y = get64(w, at + 52);
+        left -= 1;
+    }
+    if x == 0 {
+        return 0;
+    }
+    find(&w[..size], x)
+}
+
+// Where a row leads: one more than the number of its class, and of the script object at the end of its chain; 0 for none.
+pub struct Target {
+    pub class: usize,
+    pub object: usize,
+}
+
+pub fn target_of(w: &[u8], n: usize, lo: u64, hi: u64, lookups: usize) -> Target
+    requires { ⌜ SomeTables n (now w) ⌝ }
+    ensures { λ t. ⌜ ((s b : List ℕ) (o : Objects) (xs : List Class) (r : Ref) → Tables s b o n xs (now (w .entry)) → Means lo hi r → Leads xs o lookups r (t .class) (t .object)) ⌝ }
+{
+    if hi == 0 {
+        return Target {
+            class: 0,
+            object: end_of(w, n, lo, hi, lookups),
+        };
+    }
+    let class = class_at(w, n, lo, hi);
+    if class == 0 {
+        return Target { class, object: 0 };
+    }
+    if lookups == 0 {
+        return Target { class, object: 0 };
+    }
+    let at = 48 * n + record_at(4 * n, 64, class - 1);
+    Target {
+        class,
+        object: end_of(w, n, get64(w, at + 44), get64(w, at + 52), lookups - 1),
+    }
+}

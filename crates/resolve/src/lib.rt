@@ -1,0 +1,6 @@
+// Layer 3 in code: classes and rows in the work buffer, and where a row leads.
+
+pub mod classes; // classes entered
+pub mod paths; // their paths
+pub mod chain; // where a reference leads
+pub mod rows; // rows kept, then resolved
