@@ -1,0 +1,112 @@
+-- 26 and the report, from all that was gathered and resolved. Assumes nothing.
+use mathlib.Core.Path.{_≡_, sym, ap}
+use mathlib.Core.List.{List, []}
+use Prim.Native.Nat.{ℕ, _+_, _≤_, _<_}
+use native.Mathlib.Omega.{arith}
+use lib.ListN.{length}
+use Rattle.text.specs.Answer.{refusal}
+use Rattle.text.specs.Output.{Wrote}
+use Rattle.zen.specs.Script.{Objects}
+use Rattle.meaning.specs.Call.{accepted, firstRepeat, noneTwice}
+use Rattle.meaning.specs.Reference.{Ref}
+use Rattle.meaning.specs.Scan.{Class}
+use Rattle.packages.specs.declared.frame.Frame.{Frame}
+use Rattle.report.specs.Called.{Begun, Packages, foundBy, workNeeded, Gathered, Answered}
+use Rattle.report.specs.CallLaws.{answer-beyond, answer-outside, answer-fits, refused-by, answered-refused, answered-report}
+use Rattle.report.specs.Found.{classesIn}
+use Rattle.report.specs.FoundLaws.{found-size, found-once}
+use Rattle.resolve.specs.Rows.{Kept, SomeKept, Resolution, limitsOf}
+use Rattle.report.specs.Written.{reportAt, Ready, ReportRoom}
+use Rattle.report.specs.declared.walk.Census.{Census}
+
+-- ---- what was gathered
+
+module _ {limit : ℕ} {c : List ℕ} {f : Frame} {s : List ℕ} {n : ℕ} {t : Census} {w : List ℕ} (g : Gathered limit c f s n t w) where
+  abbrev classes : List Class
+  classes = classesIn (foundBy limit (g .objects) c f)
+
+  abbrev refs : List Ref
+  refs = foundBy limit (g .objects) c f .refs
+
+  kept : Kept c s (g .objects) n classes refs w
+  kept = g .state .holds (g .all)
+
+  rows-are : length refs ≡ t .rows
+  rows-are = sym (g .state .entered (g .all) .1)
+
+  -- it can be resolved
+  pub gathered-kept : SomeKept n (t .rows) w
+  gathered-kept = record { corpus = c; block = s; objects = g .objects; classes = classes; refs = refs; count = rows-are; holds = kept }
+
+  -- no key stands twice, and the work buffer is long enough
+  once : noneTwice (firstRepeat [] (foundBy limit (g .objects) c f .placed)) ≡ accepted tt
+  once = ap noneTwice (found-once (foundBy limit (g .objects) c f) (kept .tables .classes))
+
+  enough : workNeeded limit (g .objects) c f ≤ length w
+  enough = omega (arith, g .state .room (g .all), g .count)
+
+-- ---- once it is resolved
+
+-- what classes and native classes take: `total` bytes
+pub record Summed (lookups limit : ℕ) (c : List ℕ) (f : Frame) (s : List ℕ) (n : ℕ) (t : Census) (w w′ : List ℕ) (total : ℕ) : Type 0 where
+  pub begun : Begun c f s
+  pub packages : Packages c f
+  pub gathered : Gathered limit c f s n t w
+  pub resolves : (s b : List ℕ) (o : Objects) (xs : List Class) (refs : List Ref) → Kept s b o n xs refs w → length refs ≡ t .rows
+      → Resolution (limitsOf lookups limit) s b o n xs refs w w′ total
+
+module _ {lookups limit : ℕ} {c : List ℕ} {f : Frame} {s : List ℕ} {n : ℕ} {t : Census} {w w′ : List ℕ} {total : ℕ}
+    (z : Summed lookups limit c f s n t w w′ total) where
+  abbrev objects : Objects
+  objects = z .gathered .objects
+
+  abbrev whole : List ℕ
+  whole = reportAt (limitsOf lookups limit) objects c (f .«end» + 4) (f .count)
+
+  resolved : Resolution (limitsOf lookups limit) c s objects n (classes (z .gathered)) (refs (z .gathered)) w w′ total
+  resolved = z .resolves c s objects (classes (z .gathered)) (refs (z .gathered)) (kept (z .gathered)) (rows-are (z .gathered))
+
+  whole-size : t .size + total ≡ length whole
+  whole-size =
+      omega (
+        arith,
+        z .gathered .state .entered (z .gathered .all) .2,
+        resolved .size,
+        found-size (limitsOf lookups limit) objects c (f .«end» + 4) (f .count),
+      )
+
+  -- 26
+  module _ {old : List ℕ} {r : ℕ} where
+    pub finish-beyond : 4294967299 < t .size + total → r ≡ refusal 26 0 → Answered (limitsOf lookups limit) c (length w) old old r
+    finish-beyond h e =
+        answered-refused
+        (refused-by
+        (answer-beyond (limitsOf lookups limit) c (length w) (length old) (z .begun) (z .gathered .read) (z .packages) (once (z .gathered)) (enough (z .gathered))
+        (rw whole-size at h)) e)
+
+    pub finish-outside : length old < t .size + total → r ≡ refusal 26 0 → Answered (limitsOf lookups limit) c (length w) old old r
+    finish-outside h e =
+        answered-refused
+        (refused-by
+        (answer-outside (limitsOf lookups limit) c (length w) (length old) (z .begun) (z .gathered .read) (z .packages) (once (z .gathered)) (enough (z .gathered))
+        (rw whole-size at h)) e)
+
+  -- the report fits
+  ready : Ready c s objects n (f .«end» + 4) (f .count) lookups limit w′
+  ready = record { holds = resolved .holds }
+
+  pub finish-room : (old : List ℕ) → t .size + total ≤ 4294967299 → t .size + total ≤ length old → ReportRoom c s n (f .«end» + 4) (f .count) limit w′ old
+  finish-room old small fits =
+      record { read = objects; lookups = lookups; ready = ready; room = rw whole-size at fits; small = rw whole-size at small }
+
+  -- and was put
+  pub finish-report : {old new : List ℕ} {r : ℕ} → t .size + total ≤ 4294967299 → t .size + total ≤ length old
+      → ((o : Objects) (k : ℕ) → Ready c s o n (f .«end» + 4) (f .count) k limit w′
+      → length (reportAt (limitsOf k limit) o c (f .«end» + 4) (f .count)) ≤ length old
+      → Wrote old (reportAt (limitsOf k limit) o c (f .«end» + 4) (f .count)) new r)
+      → Answered (limitsOf lookups limit) c (length w) old new r
+  finish-report {old} small fits put =
+      answered-report
+      (answer-fits (limitsOf lookups limit) c (length w) (length old) (z .begun) (z .gathered .read) (z .packages) (once (z .gathered)) (enough (z .gathered))
+      (rw whole-size at small) (rw whole-size at fits))
+      (put objects lookups ready (rw whole-size at fits))

@@ -1,0 +1,3 @@
+pub mod Finished
+pub mod Scanned
+pub mod Tabled

@@ -1,0 +1,65 @@
+-- `report::call::finish` meets its contract.
+use mathlib.Core.Path.{refl}
+use native.Mathlib.Omega.{arith}
+use borrow.Author.Needs.{needs}
+use Rattle.report.specs.CallLaws.{begun-sites, begun-few}
+use Rattle.report.proofs.Finished.{gathered-kept, Summed, finish-beyond, finish-outside, finish-room, finish-report}
+use Rattle.report.proofs.call.finish.Statement.{statement}
+use Rattle.report.proofs.call.finish.Tie as tie
+
+-- what the rows come to
+summed : (c : tie.After-resolve-all) → let a = c .before .before .before .before .before .before .args in
+    Summed (a .lookups) (a .objects) (a .c .now) (a .f) (a .s .now) (a .n) (a .t) (a .w .now) (c .resolve-all .last .0) (c .resolve-all .result)
+summed c =
+    let (b, a, g, l) = c .before .before .before .before .before .before .pre in
+    record { begun = b; packages = a; gathered = g; resolves = c .resolve-all .ensures .0 }
+
+resolve-all-requires : tie.Need-resolve-all-requires
+resolve-all-requires c κs =
+    let (b, a, g, l) = c .before .before .before .before .before .pre in
+    (gathered-kept g, l, g .few .0)
+
+add-size : tie.Need-add-size
+add-size c =
+    let g = summed (c .before .before .before) .gathered in
+    omega (arith, g .few .0, g .few .1, c .before .before .before .resolve-all .ensures .1)
+
+returns : tie.Need-returns
+returns c = finish-beyond (summed (c .before .before .before .before .before)) (c .before .if1 .taken) (c .refuse .ensures)
+
+returns-2 : tie.Need-returns-2
+returns-2 c = finish-outside (summed (c .before .before .before .before .before .before)) (c .before .if2 .taken) (c .refuse2 .ensures)
+
+add-put-report : tie.Need-add-put-report
+add-put-report c = omega (arith, begun-few (summed (c .before .before .before .before .before .before .before) .begun) .1)
+
+put-report-requires : tie.Need-put-report-requires
+put-report-requires c κs =
+    let e = c .before .before .before .before .before in
+    let z = summed (e .before .before .before .before .before) in (
+      (begun-sites (z .begun), z .packages, omega (arith, begun-few (z .begun) .0), refl, refl),
+      finish-room z _ (e .before .if1 .left) (e .if2 .left),
+    )
+
+returns-3 : tie.Need-returns-3
+returns-3 c =
+    let e = c .before .before .before .before .before .before .before .before in
+    finish-report (summed (e .before .before .before .before .before)) (e .before .if1 .left) (e .if2 .left) (c .before .before .put-report .ensures)
+
+pub finish-spec : {M : Type 1} → statement M
+finish-spec =
+    tie.close
+    (tie.spec
+    resolve-all-requires
+    add-size
+    (search needs)
+    (search needs)
+    returns
+    (search needs)
+    (search needs)
+    returns-2
+    add-put-report
+    put-report-requires
+    (search needs)
+    (search needs)
+    returns-3)
