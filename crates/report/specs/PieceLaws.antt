@@ -17,10 +17,10 @@ use Rattle.zen.specs.Script.{Objects}
 use Rattle.zen.specs.declared.tables.Export.{Export}
 use Rattle.meaning.specs.Key.{Key}
 use Rattle.meaning.specs.Path.{Path, pathOf}
-use Rattle.meaning.specs.Reference.{Ref, script, import, export, null, bad, refIn, refText as textOf}
+use Rattle.meaning.specs.Reference.{Ref, script, import, export, null, bad, refIn, refText}
 use Rattle.meaning.specs.Scan.{Class, outerOf, candidateKind, numbered}
 use Rattle.meaning.specs.Resolve.{Limits, look, resolve, foundOr, pathText, classText}
-use Rattle.meaning.specs.Report.{Row as Said, flag, orUnknown, rowVersion, rowRest, rowBytes, rowOf, section}
+use Rattle.meaning.specs.Report.{Row as Said, flag, orUnknown, rowVersion, rowRest, rowBytes, rowOf}
 use Rattle.objects.specs.Work.{oneIf}
 use Rattle.packages.specs.Meaning.{kindBy, refKind}
 use Rattle.packages.specs.MeaningLaws.{kind-by}
@@ -34,7 +34,7 @@ use Rattle.packages.specs.declared.rows.Row.{Row}
 use Rattle.resolve.specs.Rows.{limitsOf}
 use Rattle.report.specs.Written.{isSome, classOf, nativeText}
 use Rattle.report.specs.WrittenLaws.{behind, again}
-use Rattle.report.specs.Pieces.{rowTexts, refText, kindFor, rowFront, rowNo, RowDue, TextsPut}
+use Rattle.report.specs.Pieces.{rowTexts, referenceText, kindFor, rowFront, rowNo, RowDue, TextsPut}
 use Rattle.resolve.specs.declared.rows.Led.{Led}
 use Rattle.report.specs.declared.row.Texts.{Texts}
 
@@ -84,7 +84,7 @@ numbered-is : (b : Bool) → cond b 1 0 ≡ oneIf b
 numbered-is true = refl
 numbered-is false = refl
 
-pub front-size : (v : Row) (kind : ℕ) (t : Texts) → length (rowFront v kind t) ≡ 10
+front-size : (v : Row) (kind : ℕ) (t : Texts) → length (rowFront v kind t) ≡ 10
 unfolding rowFront
 front-size v kind t = simp length-append (omega (arith, length-beBytes 4 (6 + t .size)))
 
@@ -133,12 +133,12 @@ module _ {s b : List ℕ} {n : ℕ} {w d : List ℕ} {p : Parts} {v : Row} {l : 
   pub due-kind : {kind : ℕ} → kind ≡ kindBy p (v .class) → kind ≡ refKind ref
   due-kind e = e ∙ rw class-is (kind-by a id (exportNo d i .class))
 
-  reference-is : refText d (v .class) ≡ textBytes (textOf ref)
+  reference-is : referenceText d (v .class) ≡ textBytes (refText ref)
   unfolding textBytes refBytes
   reference-is = rw (class-is, text-any (readIn d) id (exportNo d i .class))
 
   pub texts-are : Bytes d → rowTexts said
-      ≡ namesAt d v ++ textBytes (orUnknown (classOf (limitsOf lookups objects) xs o ref)) ++ textBytes (orUnknown (nativeText (limitsOf lookups objects) xs o ref)) ++ refText d (v .class)
+      ≡ namesAt d v ++ textBytes (orUnknown (classOf (limitsOf lookups objects) xs o ref)) ++ textBytes (orUnknown (nativeText (limitsOf lookups objects) xs o ref)) ++ referenceText d (v .class)
   unfolding rowTexts rowOf
   texts-are y =
       let e = row-names a y i (due .inside) in
@@ -146,7 +146,7 @@ module _ {s b : List ℕ} {n : ℕ} {w d : List ℕ} {p : Parts} {v : Row} {l : 
 
   -- ---- the front
 
-  pub due-row : {old new : List ℕ} {t : Texts} {kind : ℕ} → kind ≡ kindBy p (v .class) → TextsPut said old new t → rowBytes said ≡ rowFront v kind t ++ rowTexts said
+  due-row : {old new : List ℕ} {t : Texts} {kind : ℕ} → kind ≡ kindBy p (v .class) → TextsPut said old new t → rowBytes said ≡ rowFront v kind t ++ rowTexts said
   unfolding rowFront rowOf numbered
   due-row {t = t} {kind = kind} e put =
       let k : v .kind ≡ candidateKind (readIn d) (exportNo d i) = ap (λ (x : Row). x .kind) (due .row-is) ∙ row-kind d p _ i in

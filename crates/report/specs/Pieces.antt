@@ -25,15 +25,15 @@ use Rattle.report.specs.Written.{isSome, Target}
 use Rattle.resolve.specs.declared.rows.Led.{Led}
 use Rattle.report.specs.declared.row.Texts.{Texts}
 
--- its six texts, one behind another
+-- a row's six texts, one behind another
 unfoldable pub rowTexts : Said → List ℕ
 rowTexts r =
     (textBytes (r .instance) ++ textBytes (r .export) ++ textBytes (r .outer)) ++ textBytes (orUnknown (r .class)) ++ textBytes (orUnknown (pathText (r .native)))
     ++ textBytes (r .reference)
 
 -- the text of a reference: its bytes behind their length
-abbrev pub refText : List ℕ → ℕ → List ℕ
-refText b x = lengthFirst (refBytes b x)
+abbrev pub referenceText : List ℕ → ℕ → List ℕ
+referenceText b x = lengthFirst (refBytes b x)
 
 -- "script found, script unresolved, ..": the kind of a reference that was found, or one more, but for null and bad
 abbrev pub kindFor : ℕ → Bool → ℕ

@@ -1,7 +1,7 @@
 -- Laws of the texts that class and native class of a row are written as. Assumes nothing.
 use mathlib.Core.Path.{_≡_, refl, sym, _∙_, ap}
 use mathlib.Core.Bool.{true, false}
-use mathlib.Core.List.{List, [], _∷_, _++_, append-nil}
+use mathlib.Core.List.{List, _++_, append-nil}
 use mathlib.Core.Option.{Option, none, some}
 use Prim.Native.Nat.{ℕ, zero, suc, _+_, _-_, _*_, _%_, _≤_, _<_}
 use native.Mathlib.Decide.{ℕ-discrete}
@@ -88,7 +88,7 @@ first-wrote {k = k} h v w =
     wrote-as (wrote-count (wrote-front v h (wrote-count w four)) (omega arith)) (rw (v .size))
 
 -- they are those of the text t
-pub known-put : {s p o t : List ℕ} {k m : ℕ} → 4 ≤ length s → Wrote (behind 4 s) (utf8 t) p k → Wrote (again 4 s p) (beBytes 4 k) o m
+known-put : {s p o t : List ℕ} {k m : ℕ} → 4 ≤ length s → Wrote (behind 4 s) (utf8 t) p k → Wrote (again 4 s p) (beBytes 4 k) o m
     → Put (some t) s o (record { size = 4 + k; known = true })
 unfolding textBytes
 known-put {k = k} h v w = record { wrote = wrote-count (first-wrote h v w) (ap (λ (n : ℕ). n + k) (wrote-four k w)); known = refl }

@@ -14,7 +14,7 @@ ghost use Rattle.packages.specs.Package.{readIn, packageIn, PackageIn};
 ghost use Rattle.packages.specs.Row.{exportNo, rowIn};
 ghost use Rattle.resolve.specs.Rows.{limitsOf};
 ghost use Rattle.report.specs.Written.{Target, rowFor, RowRoom};
-ghost use Rattle.report.specs.Pieces.{kindFor, numberedAs, rowTexts, rowFront, rowNo, refText, RowDue, TextsRoom, TextsPut};
+ghost use Rattle.report.specs.Pieces.{kindFor, numberedAs, rowTexts, rowFront, rowNo, referenceText, RowDue, TextsRoom, TextsPut};
 use super::texts::put_class;
 use super::texts::put_length;
 use super::texts::put_native;
@@ -95,8 +95,8 @@ fn put_ref(
     kind: u8,
 ) -> usize
     requires { ⌜ PackageIn (now b) p × Noted (now b) (p .names) (now names) × Noted (now b) (p .imported) (now imported) × (kind ≡ kindBy p index)
-        × (length (refText (now b) index) ≤ length (now out)) ⌝ }
-    ensures { λ r. ⌜ Wrote (now (out .entry)) (refText (now (b .entry)) index) (now (out .exit)) r ⌝ }
+        × (length (referenceText (now b) index) ≤ length (now out)) ⌝ }
+    ensures { λ r. ⌜ Wrote (now (out .entry)) (referenceText (now (b .entry)) index) (now (out .exit)) r ⌝ }
 {
     let n = put_reference(&mut out[4..], b, p, names, imported, index, kind);
     put_length(out, n) + n

@@ -1,6 +1,8 @@
 //! Corpora from a seed. `generate` makes large ones like a game's build, `dense` small ones in which everything meets,
-//! `ladder` those that go step by step to a limit; `sized` one whose report has a wanted length.
+//! `ladder` those that go step by step to a limit, `hostile` those that are meant to be slow; `sized` one whose report has
+//! a wanted length.
 mod dense;
+pub mod hostile;
 pub mod ladder;
 mod names;
 mod objects;

@@ -15,7 +15,7 @@ pub(crate) fn both(corpus: &[u8], work: u64, buffer: u64) -> Answer {
 }
 
 /// An answer as a failing test prints it.
-fn told(answer: &Answer) -> String {
+pub(crate) fn told(answer: &Answer) -> String {
     match answer {
         Ok(report) => format!("a report of {} bytes", report.len()),
         Err((refusal, block)) => format!("refusal {refusal}, block {block}"),

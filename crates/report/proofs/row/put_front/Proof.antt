@@ -1,10 +1,9 @@
 -- `row::put_front` meets its contract: the length, and six bytes behind it. Assumes nothing.
 use mathlib.Core.List.{List, [], _∷_, _++_, append-assoc}
-use Prim.Native.Nat.{ℕ, _+_, _≤_}
+use Prim.Native.Nat.{ℕ, _≤_}
 use native.Mathlib.Omega.{arith}
 use borrow.Author.Needs.{needs}
 use lib.ListN.{length, set, length-set}
-use Rattle.text.specs.Number.{beBytes}
 use Rattle.text.specs.Output.{Wrote}
 use Rattle.text.specs.OutputLaws.{wrote-as, wrote-count, wrote-byte}
 use Rattle.report.specs.Pieces.{rowFront}

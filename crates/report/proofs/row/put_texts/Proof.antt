@@ -8,7 +8,7 @@ use lib.ListN.{length}
 use Rattle.text.specs.Name.{textBytes}
 use Rattle.text.specs.NumberLaws.{Bytes}
 use Rattle.text.specs.Output.{Wrote}
-use Rattle.text.specs.OutputLaws.{wrote-as, wrote-length, wrote-rest, next-room, front-fits}
+use Rattle.text.specs.OutputLaws.{wrote-length, wrote-rest, next-room, front-fits}
 use Rattle.zen.specs.Script.{Objects}
 use Rattle.meaning.specs.Reference.{Ref, refIn}
 use Rattle.meaning.specs.Report.{orUnknown, rowOf}
@@ -21,7 +21,7 @@ use Rattle.packages.specs.declared.rows.Row.{Row}
 use Rattle.resolve.specs.Rows.{limitsOf}
 use Rattle.report.specs.Written.{Put, Target, classOf, nativeText}
 use Rattle.report.specs.WrittenLaws.{behind, again}
-use Rattle.report.specs.Pieces.{rowTexts, refText, rowNo, RowDue, TextsPut}
+use Rattle.report.specs.Pieces.{rowTexts, referenceText, rowNo, RowDue, TextsPut}
 use Rattle.report.specs.PieceLaws.{due-holds, due-kind, texts-are}
 use Rattle.resolve.specs.declared.rows.Led.{Led}
 use Rattle.report.specs.declared.texts.Told.{Told}
@@ -43,11 +43,11 @@ module _ {s b : List ℕ} {n : ℕ} {w d : List ℕ} {p : Parts} {v : Row} {l : 
   abbrev text₃ : List ℕ
   text₃ = textBytes (orUnknown (nativeText (limitsOf lookups objects) xs o ref))
 
-  all : length (text₁ ++ text₂ ++ text₃ ++ refText d (v .class)) ≤ length out
+  all : length (text₁ ++ text₂ ++ text₃ ++ referenceText d (v .class)) ≤ length out
   all = rw (texts-are a due objects y) at room
 
   three : length (text₁ ++ text₂ ++ text₃) ≤ length out
-  three = front-fits (text₁ ++ text₂ ++ text₃) (refText d (v .class)) (length out) all
+  three = front-fits (text₁ ++ text₂ ++ text₃) (referenceText d (v .class)) (length out) all
 
   two : length (text₁ ++ text₂) ≤ length out
   two = front-fits (text₁ ++ text₂) text₃ (length out) three
@@ -87,10 +87,10 @@ module _ {s b : List ℕ} {n : ℕ} {w d : List ℕ} {p : Parts} {v : Row} {l : 
         native-in : (k₁ + t₂ .size + t₃ .size ≤ length out) × (k₁ + t₂ .size + t₃ .size ≤ length (again (k₁ + t₂ .size) (again k₁ o₁ o₂) o₃))
         native-in = let l = wrote-length native-wrote in (native-wrote .fits, omega (arith, native-wrote .fits))
 
-        ref-fits : length (refText d (v .class)) ≤ length (behind (k₁ + t₂ .size + t₃ .size) (again (k₁ + t₂ .size) (again k₁ o₁ o₂) o₃))
-        ref-fits = next-room out (text₁ ++ text₂ ++ text₃) (refText d (v .class)) (again (k₁ + t₂ .size) (again k₁ o₁ o₂) o₃) (k₁ + t₂ .size + t₃ .size) native-wrote all
+        ref-fits : length (referenceText d (v .class)) ≤ length (behind (k₁ + t₂ .size + t₃ .size) (again (k₁ + t₂ .size) (again k₁ o₁ o₂) o₃))
+        ref-fits = next-room out (text₁ ++ text₂ ++ text₃) (referenceText d (v .class)) (again (k₁ + t₂ .size) (again k₁ o₁ o₂) o₃) (k₁ + t₂ .size + t₃ .size) native-wrote all
 
-        module _ {o₄ : List ℕ} {k₄ : ℕ} (w₄ : Wrote (behind (k₁ + t₂ .size + t₃ .size) (again (k₁ + t₂ .size) (again k₁ o₁ o₂) o₃)) (refText d (v .class)) o₄ k₄) where
+        module _ {o₄ : List ℕ} {k₄ : ℕ} (w₄ : Wrote (behind (k₁ + t₂ .size + t₃ .size) (again (k₁ + t₂ .size) (again k₁ o₁ o₂) o₃)) (referenceText d (v .class)) o₄ k₄) where
           done : TextsPut (rowNo (limitsOf lookups objects) xs o id d i) out
               (again (k₁ + t₂ .size + t₃ .size) (again (k₁ + t₂ .size) (again k₁ o₁ o₂) o₃) o₄)
               (record { size = k₁ + t₂ .size + t₃ .size + k₄; class = t₂ .known; native = t₃ .known })
@@ -100,16 +100,18 @@ module _ {s b : List ℕ} {n : ℕ} {w d : List ℕ} {p : Parts} {v : Row} {l : 
 put-names-requires : tie.Need-put-names-requires
 put-names-requires c κs =
     let s = c .before .before .before .before .before .before in
+    let a = s .pre .0 .0 in
     let r = s .pre .1 in
     let y : Bytes (s .args .b .now) = λ j. c .before .shared-slice-known4 .given j .fits in
-    (due-holds (s .pre .0 .0) (r .due) (s .args .objects) y, names-fit (s .pre .0 .0) y (r .due) (s .args .objects) (s .args .out .now) (r .room))
+    (due-holds a (r .due) (s .args .objects) y, names-fit a y (r .due) (s .args .objects) (s .args .out .now) (r .room))
 
 put-class-requires : tie.Need-put-class-requires
 put-class-requires c κs =
-    let s = c .before .before .before .before .before .before .before .before .before .before in
+    let n = c .before .before .before in
+    let s = n .before .before .before .before .before .before .before in
     let a = s .pre .0 .0 in
     let r = s .pre .1 in
-    let y : Bytes (s .args .b .now) = λ j. c .before .before .before .before .before .shared-slice-known4 .given j .fits in
+    let y : Bytes (s .args .b .now) = λ j. n .before .before .shared-slice-known4 .given j .fits in
     record {
       read = r .read;
       classes = r .classes;
@@ -117,16 +119,19 @@ put-class-requires c κs =
       ref = _;
       target = r .due .target;
       kind-is = due-kind a (r .due) (s .args .objects) (s .pre .0 .3);
-      room = class-fits a y (r .due) (s .args .objects) (s .args .out .now) (r .room) (c .before .before .before .put-names .ensures);
+      room = class-fits a y (r .due) (s .args .objects) (s .args .out .now) (r .room) (n .put-names .ensures);
     }
 
--- names and class are written; native class too
-second : (c : tie.After-struct-known) → let s = c .before .before .before .before .before .before .before .before .before .before .before .before .before .before in let k = c .before .before .before .before .before .before .before .put-names .result + c .before .before .before .put-class .result .size in (k ≤ length (s .args .out .now)) × (k ≤ length (again (c .before .before .before .before .before .before .before .put-names .result) (c .before .before .before .before .before .before .before .put-names .last .0) (c .before .before .before .put-class .last .0)))
+-- names and class are written
+second : (c : tie.After-struct-known) → let p = c .before .before .before in let n = p .before .before .before .before in let k = n .put-names .result + p .put-class .result .size in
+    (k ≤ length (n .before .before .before .before .before .before .before .args .out .now)) × (k ≤ length (again (n .put-names .result) (n .put-names .last .0) (p .put-class .last .0)))
 second c =
-    let s = c .before .before .before .before .before .before .before .before .before .before .before .before .before .before in
+    let p = c .before .before .before in
+    let n = p .before .before .before .before in
+    let s = n .before .before .before .before .before .before .before in
     let r = s .pre .1 in
-    let y : Bytes (s .args .b .now) = λ j. c .before .before .before .before .before .before .before .before .before .shared-slice-known4 .given j .fits in
-    class-in (s .pre .0 .0) y (r .due) (s .args .objects) (s .args .out .now) (r .room) (c .before .before .before .before .before .before .before .put-names .ensures) (s .pre .0 .3) (c .before .before .before .put-class .ensures)
+    let y : Bytes (s .args .b .now) = λ j. n .before .before .shared-slice-known4 .given j .fits in
+    class-in (s .pre .0 .0) y (r .due) (s .args .objects) (s .args .out .now) (r .room) (n .put-names .ensures) (s .pre .0 .3) (p .put-class .ensures)
 
 add-second : tie.Need-add-second
 add-second c = omega (arith, second c .0)
@@ -139,9 +144,11 @@ part-put-native-start c = second c .1
 
 put-native-requires : tie.Need-put-native-requires
 put-native-requires c κs =
-    let s = c .before .before .before .before .before .before .before .before .before .before .before .before .before .before .before in
+    let p = c .before .before .before .before in
+    let n = p .before .before .before .before in
+    let s = n .before .before .before .before .before .before .before in
     let r = s .pre .1 in
-    let y : Bytes (s .args .b .now) = λ j. c .before .before .before .before .before .before .before .before .before .before .shared-slice-known4 .given j .fits in
+    let y : Bytes (s .args .b .now) = λ j. n .before .before .shared-slice-known4 .given j .fits in
     record {
       corpus = s .args .c .now;
       read = r .read;
@@ -149,15 +156,22 @@ put-native-requires c κs =
       lookups = r .lookups;
       ref = _;
       target = r .due .target;
-      room = native-fits (s .pre .0 .0) y (r .due) (s .args .objects) (s .args .out .now) (r .room) (c .before .before .before .before .before .before .before .before .put-names .ensures) (s .pre .0 .3) (c .before .before .before .before .put-class .ensures);
+      room = native-fits (s .pre .0 .0) y (r .due) (s .args .objects) (s .args .out .now) (r .room) (n .put-names .ensures) (s .pre .0 .3) (p .put-class .ensures);
     }
 
-third : (c : tie.After-struct-known2) → let s = c .before .before .before .before .before .before .before .before .before .before .before .before .before .before .before .before .before .before .before in let k = c .before .before .before .before .before .before .before .before .before .before .before .before .put-names .result + c .before .before .before .before .before .before .before .before .put-class .result .size in (k + c .before .before .before .put-native .result .size ≤ length (s .args .out .now)) × (k + c .before .before .before .put-native .result .size ≤ length (again k (again (c .before .before .before .before .before .before .before .before .before .before .before .before .put-names .result) (c .before .before .before .before .before .before .before .before .before .before .before .before .put-names .last .0) (c .before .before .before .before .before .before .before .before .put-class .last .0)) (c .before .before .before .put-native .last .0)))
+-- and native class
+third : (c : tie.After-struct-known2) → let q = c .before .before .before in let p = q .before .before .before .before .before in let n = p .before .before .before .before in
+    let k = n .put-names .result + p .put-class .result .size in
+    let l = k + q .put-native .result .size in
+    (l ≤ length (n .before .before .before .before .before .before .before .args .out .now)) × (l ≤ length (again k (again (n .put-names .result) (n .put-names .last .0) (p .put-class .last .0)) (q .put-native .last .0)))
 third c =
-    let s = c .before .before .before .before .before .before .before .before .before .before .before .before .before .before .before .before .before .before .before in
+    let q = c .before .before .before in
+    let p = q .before .before .before .before .before in
+    let n = p .before .before .before .before in
+    let s = n .before .before .before .before .before .before .before in
     let r = s .pre .1 in
-    let y : Bytes (s .args .b .now) = λ j. c .before .before .before .before .before .before .before .before .before .before .before .before .before .before .shared-slice-known4 .given j .fits in
-    native-in (s .pre .0 .0) y (r .due) (s .args .objects) (s .args .out .now) (r .room) (c .before .before .before .before .before .before .before .before .before .before .before .before .put-names .ensures) (s .pre .0 .3) (c .before .before .before .before .before .before .before .before .put-class .ensures) (c .before .before .before .put-native .ensures)
+    let y : Bytes (s .args .b .now) = λ j. n .before .before .shared-slice-known4 .given j .fits in
+    native-in (s .pre .0 .0) y (r .due) (s .args .objects) (s .args .out .now) (r .room) (n .put-names .ensures) (s .pre .0 .3) (p .put-class .ensures) (q .put-native .ensures)
 
 add-third : tie.Need-add-third
 add-third c = omega (arith, third c .0)
@@ -170,18 +184,24 @@ part-put-ref-start c = third c .1
 
 put-ref-requires : tie.Need-put-ref-requires
 put-ref-requires c κs =
-    let s = c .before .before .before .before .before .before .before .before .before .before .before .before .before .before .before .before .before .before .before .before in
+    let q = c .before .before .before .before in
+    let p = q .before .before .before .before .before in
+    let n = p .before .before .before .before in
+    let s = n .before .before .before .before .before .before .before in
     let k = s .pre .0 in
     let r = s .pre .1 in
-    let y : Bytes (s .args .b .now) = λ j. c .before .before .before .before .before .before .before .before .before .before .before .before .before .before .before .shared-slice-known4 .given j .fits in
-    (k .0, k .1, k .2, k .3, ref-fits (k .0) y (r .due) (s .args .objects) (s .args .out .now) (r .room) (c .before .before .before .before .before .before .before .before .before .before .before .before .before .put-names .ensures) (k .3) (c .before .before .before .before .before .before .before .before .before .put-class .ensures) (c .before .before .before .before .put-native .ensures))
+    let y : Bytes (s .args .b .now) = λ j. n .before .before .shared-slice-known4 .given j .fits in
+    (k .0, k .1, k .2, k .3, ref-fits (k .0) y (r .due) (s .args .objects) (s .args .out .now) (r .room) (n .put-names .ensures) (k .3) (p .put-class .ensures) (q .put-native .ensures))
 
 add-size : tie.Need-add-size
 add-size c =
-    let s = c .before .before .before .before .before .before .before .before .before .before .before .before .before .before .before .before .before .before .before .before .before .before .before in
+    let q = c .before .before .before .before .before .before .before in
+    let p = q .before .before .before .before .before in
+    let n = p .before .before .before .before in
+    let s = n .before .before .before .before .before .before .before in
     let r = s .pre .1 in
-    let y : Bytes (s .args .b .now) = λ j. c .before .before .before .before .before .before .before .before .before .before .before .before .before .before .before .before .before .before .shared-slice-known4 .given j .fits in
-    let t = done (s .pre .0 .0) y (r .due) (s .args .objects) (s .args .out .now) (r .room) (c .before .before .before .before .before .before .before .before .before .before .before .before .before .before .before .before .put-names .ensures) (s .pre .0 .3) (c .before .before .before .before .before .before .before .before .before .before .before .before .put-class .ensures) (c .before .before .before .before .before .before .before .put-native .ensures) (c .before .before .put-ref .ensures) in
+    let y : Bytes (s .args .b .now) = λ j. n .before .before .shared-slice-known4 .given j .fits in
+    let t = done (s .pre .0 .0) y (r .due) (s .args .objects) (s .args .out .now) (r .room) (n .put-names .ensures) (s .pre .0 .3) (p .put-class .ensures) (q .put-native .ensures) (c .before .before .put-ref .ensures) in
     omega (arith, t .wrote .fits)
 
 same-length : tie.Need-same-length
@@ -189,9 +209,12 @@ same-length c = search needs
 
 returns : tie.Need-returns
 returns c = λ o xs lookups id i due room.
-    let s = c .before .before .before .before .before .before .before .before .before .before .before .before .before .before .before .before .before .before .before .before .before .before .before in
-    let y : Bytes (s .args .b .now) = λ j. c .before .before .before .before .before .before .before .before .before .before .before .before .before .before .before .before .before .before .shared-slice-known4 .given j .fits in
-    done (s .pre .0 .0) y due (s .args .objects) (s .args .out .now) room (c .before .before .before .before .before .before .before .before .before .before .before .before .before .before .before .before .put-names .ensures) (s .pre .0 .3) (c .before .before .before .before .before .before .before .before .before .before .before .before .put-class .ensures) (c .before .before .before .before .before .before .before .put-native .ensures) (c .before .before .put-ref .ensures)
+    let q = c .before .before .before .before .before .before .before in
+    let p = q .before .before .before .before .before in
+    let n = p .before .before .before .before in
+    let s = n .before .before .before .before .before .before .before in
+    let y : Bytes (s .args .b .now) = λ j. n .before .before .shared-slice-known4 .given j .fits in
+    done (s .pre .0 .0) y due (s .args .objects) (s .args .out .now) room (n .put-names .ensures) (s .pre .0 .3) (p .put-class .ensures) (q .put-native .ensures) (c .before .before .put-ref .ensures)
 
 pub put-texts-spec : {M : Type 1} → statement M
 put-texts-spec =

@@ -1,6 +1,6 @@
 -- `texts::put_class` meets its contract: the class's path behind the first four bytes, then its length in these; a script object's class is its
 -- native class. Assumes nothing.
-use mathlib.Core.Path.{_≡_, sym, _∙_}
+use mathlib.Core.Path.{sym, _∙_}
 use Prim.Native.Nat.{_≤_}
 use native.Mathlib.Omega.{arith}
 use borrow.Author.Needs.{needs}

@@ -1,0 +1,82 @@
+//! Name batches, and names with an instance number.
+use super::reader::Reader;
+
+/// The texts of a name batch.
+pub(super) fn batch(r: &mut Reader) -> Option<Vec<String>> {
+    let count = r.u32()? as usize;
+    if count == 0 {
+        return Some(Vec::new());
+    }
+    let length = r.u32()? as usize;
+    let _version = r.u64()?;
+    let _hashes = r.take(count.checked_mul(8)?)?;
+    let headers = r.take(count.checked_mul(2)?)?;
+    let mut strings = Reader::new(r.take(length)?);
+    let (headers, _) = headers.as_chunks();
+    headers
+        .iter()
+        .map(|header| name(*header, &mut strings))
+        .collect()
+}
+
+/// The next name: its header has a bit for wide text and the length in units.
+fn name([first, second]: [u8; 2], strings: &mut Reader) -> Option<String> {
+    let units = usize::from(first & 0x7f) << 8 | usize::from(second);
+    if first & 0x80 == 0 {
+        return Some(
+            strings
+                .take(units)?
+                .iter()
+                .copied()
+                .map(char::from)
+                .collect(),
+        );
+    }
+    let (units, _) = strings.take(2 * units)?.as_chunks();
+    let units: Vec<u16> = units.iter().copied().map(u16::from_le_bytes).collect();
+    String::from_utf16(&units).ok()
+}
+
+/// A mapped name: its number in the batch, and the instance number.
+#[derive(Debug, Clone, Copy)]
+pub(super) struct Name {
+    index: usize,
+    number: u32,
+}
+
+impl Name {
+    pub(super) fn read(r: &mut Reader) -> Option<Name> {
+        let index = (r.u32()? & 0x3fff_ffff) as usize;
+        let number = r.u32()?;
+        Some(Name { index, number })
+    }
+
+    /// The text without the instance number.
+    pub(super) fn base(self, batch: &[String]) -> &str {
+        &batch[self.index]
+    }
+
+    pub(super) fn is_in(self, batch: &[String]) -> bool {
+        self.index < batch.len()
+    }
+
+    /// The text with the instance number.
+    pub(super) fn rendered(self, batch: &[String]) -> String {
+        rendered(self.base(batch), self.number)
+    }
+}
+
+/// A base with what its instance number adds: nothing for 0, `_` and N - 1 for N.
+pub(super) fn rendered(base: &str, number: u32) -> String {
+    match number.checked_sub(1) {
+        None => base.to_owned(),
+        Some(shown) => format!("{base}_{shown}"),
+    }
+}
+
+/// The id of a package's name: CityHash64 of its UTF-16LE text with A to Z lowered.
+pub(super) fn id(name: &str) -> u64 {
+    let lowered = name.to_ascii_lowercase();
+    let units: Vec<[u8; 2]> = lowered.encode_utf16().map(u16::to_le_bytes).collect();
+    cityhasher::hash(units.as_flattened())
+}

@@ -1,0 +1,38 @@
+//! Class reports of Unreal Engine packages, for Rust programs: the proved call with safe buffers, corpora and reports.
+//!
+//! A *corpus* holds the script block and the package headers that a loader took out of a build. Its *report* has a row
+//! for each component of each package, with its class and its native class. A corpus that can't be read is refused, with
+//! the number of the question that it failed and the block.
+//!
+//! ```
+//! use classreport::{CorpusBuilder, report};
+//!
+//! // A build with an empty script block (no names, no objects) and no packages.
+//! let corpus = CorpusBuilder::new(&[0; 8])?.finish();
+//! for (section, row) in report(&corpus)?.rows() {
+//!     println!("{}: {} is a {}", section.name, row.instance, row.native.unwrap_or("(unknown)"));
+//! }
+//! # Ok::<(), Box<dyn std::error::Error>>(())
+//! ```
+//!
+//! Everything that a report says was worked out by the proved call. [`chain`] follows the same classes a second time, to
+//! show the way; it decides nothing.
+#![warn(missing_docs)]
+
+mod call;
+pub mod chain;
+
+mod fields;
+mod frame;
+mod parsed;
+mod question;
+mod refusal;
+mod row;
+
+pub use call::{LONGEST, report, report_into};
+pub use fields::Malformed;
+pub use frame::{Corpus, CorpusBuilder, Package, TooLong};
+pub use parsed::{Report, Rows, Section, Sections};
+pub use question::{QUESTIONS, Question};
+pub use refusal::Refusal;
+pub use row::{ClassKind, Kind, Row};

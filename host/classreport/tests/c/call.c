@@ -1,0 +1,99 @@
+/* Calls the report call by the header, as a host in C would. `call CORPUS` writes the report to stdout. */
+#include "classreport.h"
+
+#include <stdio.h>
+#include <stdlib.h>
+#include <string.h>
+
+/* The corpus without objects and packages, and its report. */
+static const uint8_t EMPTY[21] = {0, 0, 0, 17, 1, 0, 0, 0, 8};
+static const uint8_t EMPTY_REPORT[9] = {0, 0, 0, 5, 1, 0, 0, 0, 0};
+
+static int failures;
+
+static void expect(int holds, const char *what) {
+    if (!holds) {
+        fprintf(stderr, "not so: %s\n", what);
+        failures++;
+    }
+}
+
+static void accepted(void) {
+    uint8_t work[1], report[10];
+    memset(report, 0xaa, sizeof report);
+    uint64_t answer = class_report(EMPTY, sizeof EMPTY, work, 0, report, sizeof report);
+    expect(!classreport_refused(answer), "the empty corpus is accepted");
+    expect(classreport_length(answer) == sizeof EMPTY_REPORT, "its report has 9 bytes");
+    expect(classreport_question(answer) == CLASSREPORT_NONE, "no question failed");
+    expect(memcmp(report, EMPTY_REPORT, sizeof EMPTY_REPORT) == 0, "the report");
+    expect(report[9] == 0xaa, "the byte behind the report");
+}
+
+static void refused(void) {
+    uint8_t corpus[sizeof EMPTY], work[1], report[9], before[9];
+    memcpy(corpus, EMPTY, sizeof corpus);
+    corpus[4] = 2;
+    memset(before, 0x55, sizeof before);
+    memcpy(report, before, sizeof report);
+    uint64_t answer = class_report(corpus, sizeof corpus, work, 0, report, sizeof report);
+    expect(classreport_question(answer) == CLASSREPORT_VERSION, "version 2 is refused");
+    expect(classreport_block(answer) == 0 && classreport_package(answer) == 0, "in block 0");
+    expect(classreport_length(answer) == 0, "a refusal has no length");
+    expect(memcmp(report, before, sizeof report) == 0, "the report's buffer is as it was");
+    answer = class_report(EMPTY, sizeof EMPTY, work, 0, report, 8);
+    expect(classreport_question(answer) == CLASSREPORT_REPORT, "a report buffer too short");
+}
+
+static void unpacked(void) {
+    uint64_t answer = UINT64_C(0x8000001100000008);
+    expect(classreport_question(answer) == CLASSREPORT_OFFSET_ORDER, "17");
+    expect(classreport_block(answer) == 8 && classreport_package(answer) == 7, "block 8, package 7");
+    expect(classreport_package(UINT64_C(0x8000000800000001)) == 0, "the script block is no package");
+    expect(classreport_length(CLASSREPORT_LONGEST) == CLASSREPORT_LONGEST, "the longest report");
+    expect(classreport_work_enough(21) == 42 && classreport_work_enough(SIZE_MAX) == SIZE_MAX, "work");
+    for (unsigned question = 1; question <= 26; question++)
+        printf("%u %s\n", question, classreport_failed(question));
+}
+
+/* The whole of a file, in memory that the caller frees. */
+static uint8_t *read_file(const char *name, size_t *length) {
+    FILE *file = fopen(name, "rb");
+    if (file == NULL || fseek(file, 0, SEEK_END) != 0)
+        return NULL;
+    *length = (size_t)ftell(file);
+    rewind(file);
+    uint8_t *bytes = malloc(*length + 1);
+    if (bytes != NULL && fread(bytes, 1, *length, file) != *length)
+        return NULL;
+    fclose(file);
+    return bytes;
+}
+
+static int report_of(const char *name) {
+    size_t length = 0, work_length, room = 1 << 24;
+    uint8_t *corpus = read_file(name, &length);
+    work_length = classreport_work_enough(length);
+    uint8_t *work = malloc(work_length + 1), *report = malloc(room);
+    if (corpus == NULL || work == NULL || report == NULL)
+        return 3;
+    uint64_t answer = class_report(corpus, length, work, work_length, report, room);
+    if (classreport_refused(answer)) {
+        unsigned question = classreport_question(answer), block = classreport_block(answer);
+        fprintf(stderr, "refused %u in block %u: %s\n", question, block, classreport_failed(question));
+        return 1;
+    }
+    fwrite(report, 1, (size_t)classreport_length(answer), stdout);
+    free(corpus);
+    free(work);
+    free(report);
+    return 0;
+}
+
+int main(int argc, char **argv) {
+    if (argc == 2)
+        return report_of(argv[1]);
+    accepted();
+    refused();
+    unpacked();
+    return failures != 0;
+}

@@ -1,0 +1,12 @@
+//! The real program on real files.
+mod browser;
+mod commands;
+mod diffs;
+mod files;
+mod pages;
+mod python;
+mod refusals;
+mod rows;
+mod texts;
+mod tool;
+mod usage;

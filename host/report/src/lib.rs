@@ -1,0 +1,36 @@
+//! The proved report call, for safe Rust.
+#![expect(
+    unsafe_code,
+    reason = "calls a proved function through its C interface"
+)]
+
+mod c {
+    // SAFETY: as crates/capi declares it. A slice of Rattle's is a pointer and then a length.
+    unsafe extern "C" {
+        pub(super) fn class_report(
+            corpus: *const u8,
+            corpus_len: usize,
+            work: *mut u8,
+            work_len: usize,
+            report: *mut u8,
+            report_len: usize,
+        ) -> u64;
+    }
+}
+
+/// Document 01's call: writes the report of a corpus to the front of `report` and gives its length, or gives the number of
+/// a refusal and leaves `report` as it was. `work` may hold anything, and does afterwards.
+pub fn class_report(corpus: &[u8], work: &mut [u8], report: &mut [u8]) -> u64 {
+    // SAFETY: pointers and lengths are those of live slices. None of them overlap, since two are borrowed for writing; the
+    // call writes to those two alone, within their lengths, and keeps none.
+    unsafe {
+        c::class_report(
+            corpus.as_ptr(),
+            corpus.len(),
+            work.as_mut_ptr(),
+            work.len(),
+            report.as_mut_ptr(),
+            report.len(),
+        )
+    }
+}

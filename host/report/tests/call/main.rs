@@ -1,0 +1,11 @@
+//! The report call against oracle and model, with buffers of every kind.
+mod agree;
+mod asked;
+#[path = "../../../oracle/tests/both/mod.rs"]
+mod both;
+mod demand3;
+mod faults;
+mod hostile;
+mod lent;
+mod recorded;
+mod sized;

@@ -1,0 +1,163 @@
+/*
+ * The class report of a corpus of package headers: one call, its answer, and what a refusal means.
+ *
+ * Link with target/staticlib/libcapi.a, which `rt staticlib capi` writes (x86-64 Linux).
+ *
+ *     uint64_t answer = class_report(corpus, corpus_len, work, work_len, report, report_len);
+ *     if (classreport_refused(answer))
+ *         fprintf(stderr, "refused %u in block %u: %s\n", classreport_question(answer),
+ *                 classreport_block(answer), classreport_failed(classreport_question(answer)));
+ *     else
+ *         fwrite(report, 1, classreport_length(answer), out);
+ */
+#ifndef CLASSREPORT_H
+#define CLASSREPORT_H
+
+#include <stddef.h>
+#include <stdint.h>
+
+#ifdef __cplusplus
+extern "C" {
+#endif
+
+/*
+ * Writes the report of `corpus` to the front of `report` and returns its length, or returns a refusal (below) and
+ * leaves `report` as it was. Bytes of `report` behind the report are left as they were.
+ *
+ * - No pointer may be null, not even with a length of 0: lend any valid address then.
+ * - The three buffers must lie apart. The call reads `corpus`, writes to `work` and `report`, and keeps no pointer.
+ * - `work` may hold anything before and does after. It needs 64 bytes for each script object, class and candidate of
+ *   the corpus (question 25); classreport_work_enough() gives a length that is always enough.
+ * - `report` needs the report's length (question 26). No report is longer than CLASSREPORT_LONGEST.
+ * - No other condition: any bytes may be handed in. Several threads may call at a time with buffers of their own.
+ */
+uint64_t class_report(const uint8_t *corpus, size_t corpus_len, uint8_t *work, size_t work_len, uint8_t *report,
+                      size_t report_len);
+
+/* The longest report that there can be. */
+#define CLASSREPORT_LONGEST UINT64_C(4294967299)
+
+/* A length of the work buffer that is enough for every corpus of this length. */
+static inline size_t classreport_work_enough(size_t corpus_len) {
+    return corpus_len > SIZE_MAX / 2 ? SIZE_MAX : 2 * corpus_len;
+}
+
+/* Whether the answer is a refusal: bit 63. */
+static inline int classreport_refused(uint64_t answer) { return (int)(answer >> 63); }
+
+/* The report's length, where the answer is none. */
+static inline uint64_t classreport_length(uint64_t answer) { return classreport_refused(answer) ? 0 : answer; }
+
+/* The question that failed, 1 to 26, or 0 where none did: bits 32 to 39. */
+static inline unsigned classreport_question(uint64_t answer) {
+    return classreport_refused(answer) ? (unsigned)(answer >> 32 & 0xff) : 0;
+}
+
+/* The block that it failed in: 0 the corpus, 1 the script block, j + 1 package j (from 1): bits 0 to 31. */
+static inline uint32_t classreport_block(uint64_t answer) {
+    return classreport_refused(answer) ? (uint32_t)(answer & 0xffffffff) : 0;
+}
+
+/* The package that it failed in, from 1, or 0 where it failed in none. */
+static inline uint32_t classreport_package(uint64_t answer) {
+    uint32_t block = classreport_block(answer);
+    return block > 1 ? block - 1 : 0;
+}
+
+/* The questions. They are asked in this order, except that 3 to 7 and 10 are asked wherever their field is read. */
+enum classreport_refusal {
+    CLASSREPORT_NONE = 0,
+    /* Does the corpus's length equal 4 plus its first length, with at least the version byte? Does every further
+       part lie inside, and the last end with the corpus? */
+    CLASSREPORT_LENGTHS = 1,
+    /* Is the corpus's version 1? */
+    CLASSREPORT_VERSION = 2,
+    /* Are the bytes of each field there, as it is read? In a package, once its header size is known, that means
+       within the header size. */
+    CLASSREPORT_BYTES = 3,
+    /* Is the hash version of each name batch 0xC1640000? */
+    CLASSREPORT_HASH_VERSION = 4,
+    /* Does each name lie within the strings of its batch? */
+    CLASSREPORT_NAME_LENGTH = 5,
+    /* Is each wide name valid UTF-16? */
+    CLASSREPORT_UTF16 = 6,
+    /* Are the strings of each name batch used up by its names? */
+    CLASSREPORT_STRINGS_LEFT = 7,
+    /* Is the count of script objects not negative? */
+    CLASSREPORT_OBJECT_COUNT = 8,
+    /* Are 32 bytes left for each script object? */
+    CLASSREPORT_OBJECTS = 9,
+    /* Is each name index (of a script object, an export, the package itself) in the name batch? */
+    CLASSREPORT_NAME_INDEX = 10,
+    /* Has each script object's global index kind 1? */
+    CLASSREPORT_OBJECT_KIND = 11,
+    /* Is each script object's global index new? */
+    CLASSREPORT_OBJECT_TWICE = 12,
+    /* Is nothing left behind the last script object? */
+    CLASSREPORT_SCRIPT_LEFT = 13,
+    /* Is the package's versioning flag 0? */
+    CLASSREPORT_VERSIONING = 14,
+    /* Does the header size lie within the block? */
+    CLASSREPORT_HEADER_SIZE = 15,
+    /* Is each of the seven offsets in the summary not negative? */
+    CLASSREPORT_OFFSET_SIGN = 16,
+    /* Is each offset at least its predecessor (the first: 52) and at most the header size? */
+    CLASSREPORT_OFFSET_ORDER = 17,
+    /* Is the bulk size not negative? */
+    CLASSREPORT_BULK_SIGN = 18,
+    /* Do the bulk bytes end where the public hashes start? */
+    CLASSREPORT_BULK_END = 19,
+    /* Are the public hashes a multiple of 8 bytes long, and then the import map? */
+    CLASSREPORT_HASHES = 20,
+    /* Is the export map a multiple of 72 bytes long? */
+    CLASSREPORT_EXPORTS = 21,
+    /* Is nothing left behind the imported names? */
+    CLASSREPORT_PACKAGE_LEFT = 22,
+    /* Are all imported names ASCII? */
+    CLASSREPORT_IMPORTED_ASCII = 23,
+    /* Does no class key (package id and public hash) come twice? */
+    CLASSREPORT_KEY_TWICE = 24,
+    /* Has the work buffer at least 64 bytes for each script object, class and candidate? */
+    CLASSREPORT_WORK = 25,
+    /* Is the report at most 4,294,967,299 bytes long, and within its buffer? */
+    CLASSREPORT_REPORT = 26
+};
+
+/* What is wrong where a question failed, in a few words. */
+static inline const char *classreport_failed(unsigned question) {
+    switch (question) {
+    case CLASSREPORT_LENGTHS: return "the corpus's lengths do not fit its bytes";
+    case CLASSREPORT_VERSION: return "the corpus has a version other than 1";
+    case CLASSREPORT_BYTES: return "a field's bytes are not there";
+    case CLASSREPORT_HASH_VERSION: return "a name batch has another hash version than 0xC1640000";
+    case CLASSREPORT_NAME_LENGTH: return "a name reaches past its batch's strings";
+    case CLASSREPORT_UTF16: return "a name is not valid UTF-16";
+    case CLASSREPORT_STRINGS_LEFT: return "strings are left behind a batch's last name";
+    case CLASSREPORT_OBJECT_COUNT: return "the count of script objects is negative";
+    case CLASSREPORT_OBJECTS: return "the script block is shorter than its objects";
+    case CLASSREPORT_NAME_INDEX: return "a name index is outside its name batch";
+    case CLASSREPORT_OBJECT_KIND: return "a script object's global index is not of the kind of script objects";
+    case CLASSREPORT_OBJECT_TWICE: return "a script object's global index comes twice";
+    case CLASSREPORT_SCRIPT_LEFT: return "bytes are left behind the last script object";
+    case CLASSREPORT_VERSIONING: return "the versioning flag is not 0";
+    case CLASSREPORT_HEADER_SIZE: return "the header size is larger than the block";
+    case CLASSREPORT_OFFSET_SIGN: return "an offset is negative";
+    case CLASSREPORT_OFFSET_ORDER: return "an offset is below its predecessor or past the header size";
+    case CLASSREPORT_BULK_SIGN: return "the bulk size is negative";
+    case CLASSREPORT_BULK_END: return "the bulk bytes do not end where the public hashes start";
+    case CLASSREPORT_HASHES: return "the public hashes or the import map are no multiple of 8 bytes";
+    case CLASSREPORT_EXPORTS: return "the export map is no multiple of 72 bytes";
+    case CLASSREPORT_PACKAGE_LEFT: return "bytes are left behind the imported names";
+    case CLASSREPORT_IMPORTED_ASCII: return "an imported name is not ASCII";
+    case CLASSREPORT_KEY_TWICE: return "a class key comes twice";
+    case CLASSREPORT_WORK: return "the work buffer is too short";
+    case CLASSREPORT_REPORT: return "the report is too long";
+    default: return "nothing";
+    }
+}
+
+#ifdef __cplusplus
+}
+#endif
+
+#endif
