@@ -1,3 +1,4 @@
 pub mod Finished
 pub mod Scanned
+pub mod Scans
 pub mod Tabled

@@ -1,5 +1,5 @@
 -- Laws of the rows at the end of the work buffer, and of the whole of it: a row put, a class entered, the rest as it was. Assumes nothing.
-use mathlib.Core.Path.{_≡_, refl, sym, _∙_, ap}
+use mathlib.Core.Path.{_≡_, refl, _∙_, ap}
 use mathlib.Core.Logic.{inl, inr}
 use mathlib.Core.List.{List, [], _∷_, _++_}
 use Prim.Native.Nat.{ℕ, _+_, _*_, _-_, _^_, _≤_, _<_}
@@ -7,7 +7,6 @@ use native.Mathlib.Decide.{ℕ-discrete}
 use native.Mathlib.Omega.{arith}
 use lib.ListN.{length, take, drop, getD, length-append, length-drop, List·getD-append}
 use lib.Seq.{getD-at}
-use Rattle.text.specs.Number.{leAt}
 use Rattle.zen.specs.Script.{Objects}
 use Rattle.meaning.specs.Reference.{Ref, null}
 use Rattle.meaning.specs.Scan.{Class}
@@ -19,7 +18,7 @@ use Rattle.packages.specs.declared.package.Words.{Words}
 use Rattle.resolve.specs.Classes.{ClassesIn, Entered}
 use Rattle.resolve.specs.ClassesLaws.{classes-kept}
 use Rattle.resolve.specs.Lent.{lent-part, lent-front, lent-rest, lent-length}
-use Rattle.resolve.specs.Rows.{rowAt, Read, worded, WordsIn, RowsIn, Tables, Kept}
+use Rattle.resolve.specs.Rows.{rowAt, Read, worded, WordsIn, RowsIn, Kept}
 
 -- ---- a row's words
 

@@ -1,9 +1,9 @@
 -- Laws of the walk's state: how it goes on with an export's row and with its class, and that it stays what it is once nothing more is entered.
 -- Assumes nothing.
 use mathlib.Core.Path.{_≡_, refl, sym, _∙_, ap}
-use mathlib.Core.Bool.{Bool, true, false, not, cond, _&&_}
-use mathlib.Core.List.{List, [], _∷_, _++_, map, map-append, append-assoc, append-nil}
-use mathlib.Core.Option.{Option, none, some}
+use mathlib.Core.Bool.{Bool, true, false, not, _&&_}
+use mathlib.Core.List.{List, [], _∷_, _++_, map-append, append-assoc, append-nil}
+use mathlib.Core.Option.{none}
 use Prim.Native.Nat.{ℕ, zero, suc, _+_, _*_, _-_, _/_, _^_, _≤_, _<_}
 use native.Mathlib.Decide.{ℕ-discrete}
 use native.Mathlib.Numerals.{add-one}
@@ -11,24 +11,23 @@ use native.Mathlib.Omega.{arith}
 use borrow.Author.Tests.{eq-eqb, ne-eqb}
 use lib.Dec.{eqb}
 use lib.ListN.{length, take, drop, getD, length-append, length-drop, length-map}
-use Rattle.text.specs.Find.{kept, option}
+use Rattle.text.specs.Find.{kept}
 use Rattle.text.specs.Index.{kind}
 use Rattle.text.specs.Never.{never}
 use Rattle.text.specs.NumberLaws.{Bytes}
 use Rattle.zen.specs.Script.{Objects}
-use Rattle.zen.specs.ScriptAccepted.{ScriptParts}
 use Rattle.zen.specs.Zen.{Read, noExport}
 use Rattle.zen.specs.declared.script.Entry.{Entry}
 use Rattle.zen.specs.declared.tables.Export.{Export}
-use Rattle.meaning.specs.Call.{refusedIn, Placed, firstRepeat, noneTwice}
+use Rattle.meaning.specs.Call.{Placed}
 use Rattle.meaning.specs.ClassTest.{namesClass, class-test-none}
 use Rattle.meaning.specs.Path.{objectAt, pathOf}
-use Rattle.meaning.specs.Reference.{Package, Ref}
+use Rattle.meaning.specs.Reference.{Package}
 use Rattle.meaning.specs.Report.{classRef}
-use Rattle.meaning.specs.Scan.{Class, isClass, classAt, candidateKind, isCandidate}
-use Rattle.objects.specs.Work.{ObjectsIn, AllIn}
+use Rattle.meaning.specs.Scan.{isClass, classAt, candidateKind, isCandidate}
+use Rattle.objects.specs.Work.{ObjectsIn}
 use Rattle.objects.specs.WorkLaws.{parts-of, entries-length}
-use Rattle.table.specs.Table.{recordAt, cleared}
+use Rattle.table.specs.Table.{cleared}
 use Rattle.table.specs.TableLaws.{cleared-kept}
 use Rattle.table.specs.Words.{put}
 use Rattle.packages.specs.Meaning.{wordsOf}
@@ -36,13 +35,13 @@ use Rattle.packages.specs.Walk.{placeOf, packageAt}
 use Rattle.packages.specs.declared.package.Words.{Words}
 use Rattle.resolve.specs.Classes.{Classes, Entered, Stands}
 use Rattle.resolve.specs.ClassesLaws.{classes-none}
-use Rattle.report.specs.Found.{Found, classesIn, baseSize, headSize, withExport, withExports, withPackage, foundIn, countOf, Linked, State}
+use Rattle.report.specs.Found.{Found, classesIn, baseSize, headSize, withExport, withExports, withPackage, foundIn, countOf, State}
 use Rattle.report.specs.FoundLaws.{found-once}
 use Rattle.report.specs.KeptLaws.{worded-kept, kept-row, kept-class}
 use Rattle.resolve.specs.Lent.{lent-front, lent-rest, lent-length}
 use Rattle.report.specs.RepeatLaws.{twice-more, twice-last}
-use Rattle.resolve.specs.Rows.{worded, rowAt, Tables, Kept}
-use Rattle.report.specs.Steps.{withRow, withClass, closedAs, Behind}
+use Rattle.resolve.specs.Rows.{worded, rowAt, Kept}
+use Rattle.report.specs.Steps.{withRow, withClass, withOwn, openedAs, closedAs, Behind}
 use Rattle.report.specs.declared.walk.Census.{Census}
 
 -- ---- what an export adds
@@ -71,9 +70,8 @@ module _ (p : Package) (i : ℕ) (f : Found) where
   unfolding withClass
   class-none limit o j e = rw (e, append-nil (f .placed))
 
-  pub class-more : (limit : ℕ) (o : Objects) (j : ℕ) → isClass limit o export ≡ true
-      → withClass limit o j p i f ≡ record { placed = f .placed ++ (record { block = j; class = classAt p i export } ∷ []); refs = f .refs; size = f .size }
-  unfolding withClass
+  pub class-more : (limit : ℕ) (o : Objects) (j : ℕ) → isClass limit o export ≡ true → withClass limit o j p i f ≡ withOwn j p i f
+  unfolding withClass withOwn
   class-more limit o j e = rw e
 
   -- its row first, then its class
@@ -157,13 +155,6 @@ module _ {s b : List ℕ} {o : Objects} {n : ℕ} {f : Found} {t : Census} {w : 
   -- ---- as long as all is entered
 
   module _ (a : t .open ≡ true) where
-    pub state-repeat : t .repeat ≡ 0
-    state-repeat = go (t .repeat) refl
-      where
-        go : (r : ℕ) → t .repeat ≡ r → r ≡ 0
-        go zero e = refl
-        go (suc r) e = open-not (k .twice (omega arith) .0) a
-
     pub state-count : length (classesIn f) ≡ t .classes
     state-count = length-map (f .placed) (λ (x : Placed). x .class) ∙ sym (k .entered a .0)
 
@@ -182,7 +173,7 @@ module _ {s b : List ℕ} {o : Objects} {n : ℕ} {f : Found} {t : Census} {w : 
 
     -- a section without its rows
     pub state-head : (limit j : ℕ) (p : Package) {z : ℕ} → z ≡ t .size + headSize p
-        → State s b o n (withExports limit o j p 0 f) (record { «open» = true; repeat = 0; classes = t .classes; rows = t .rows; size = z }) w
+        → State s b o n (withExports limit o j p 0 f) (openedAs (t .classes) (t .rows) z) w
     unfolding withExports
     state-head limit j p e = record {
       entered = λ y. (k .entered a .0, k .entered a .1, omega (arith, k .entered a));
@@ -202,7 +193,7 @@ module _ {s b : List ℕ} {o : Objects} {n : ℕ} {f : Found} {t : Census} {w : 
       pub state-row : n + t .classes + t .rows < length w / 64 → (m : Words) → m ≡ wordsOf (classRef p (getD (p .read .exports) i noExport))
           → m .lo < 2 ^ 64 → m .hi < 2 ^ 64 → {ys : List ℕ} → ys ≡ worded (rowAt (drop (48 * n) w) (t .rows)) m (drop (48 * n) w)
           → {z : ℕ} → z ≡ t .size + baseSize p (getD (p .read .exports) i noExport)
-          → State s b o n (withRow p i f) (record { «open» = true; repeat = 0; classes = t .classes; rows = t .rows + 1; size = z }) (put (48 * n) (length w - 48 * n) w ys)
+          → State s b o n (withRow p i f) (openedAs (t .classes) (t .rows + 1) z) (put (48 * n) (length w - 48 * n) w ys)
       state-row h m is lo hi {ys} q {z} e =
           let x = getD (p .read .exports) i noExport in
           let (cs, rs, sz) = k .entered a in
@@ -223,46 +214,49 @@ module _ {s b : List ℕ} {o : Objects} {n : ℕ} {f : Found} {t : Census} {w : 
 
     -- ---- its class
 
-    module _ (limit : ℕ) (p : Package) (i : ℕ) (c : isClass limit o (getD (p .read .exports) i noExport) ≡ true) where
-      abbrev own : ℕ → Placed
-      own j = record { block = j; class = classAt p i (getD (p .read .exports) i noExport) }
+    module _ (p : Package) (i j : ℕ) where
+      abbrev own : Placed
+      own = record { block = j; class = classAt p i (getD (p .read .exports) i noExport) }
 
-      pub state-class-full : (j : ℕ) → length w / 64 ≤ n + t .classes + t .rows → State s b o n (withClass limit o j p i f) (closedAs t 0) w
-      state-class-full j h = rw (class-more p i f limit o j c) (state-full (omega (arith, k .entered a, length-append (f .placed) (own j ∷ []))) refl)
+      pub state-class-full : length w / 64 ≤ n + t .classes + t .rows → State s b o n (withOwn j p i f) (closedAs t 0) w
+      unfolding withOwn
+      state-class-full h = state-full (omega (arith, k .entered a, length-append (f .placed) (own ∷ []))) refl
 
-      pub state-class : (j : ℕ) → n + t .classes + t .rows < length w / 64 → {ys : List ℕ}
+      pub state-class : n + t .classes + t .rows < length w / 64 → {ys : List ℕ}
           → Entered s (4 * n) (classesIn f) (classAt p i (getD (p .read .exports) i noExport)) (drop (48 * n) w) ys
-          → State s b o n (withClass limit o j p i f) (record { «open» = true; repeat = 0; classes = t .classes + 1; rows = t .rows; size = t .size }) (put (48 * n) (length w - 48 * n) w ys)
-      state-class j h {ys} e =
+          → State s b o n (withOwn j p i f) (openedAs (t .classes + 1) (t .rows) (t .size)) (put (48 * n) (length w - 48 * n) w ys)
+      unfolding withOwn
+      state-class h {ys} e =
           let (cs, rs, sz) = k .entered a in
-          let l = length-append (f .placed) (own j ∷ []) in
+          let l = length-append (f .placed) (own ∷ []) in
           let room : 64 * (n + (length (classesIn f) + length (f .refs)) + 1) ≤ length w = omega (arith, state-count) in
           let came = kept-class (k .holds a) room (classAt p i (getD (p .read .exports) i noExport)) ys e in
           let whole = lent-length (48 * n) w ys (k .holds a .tables .room) (e .kept .size) in
-          rw (class-more p i f limit o j c) (record {
+          record {
             entered = λ y. (omega arith, rs, sz);
             room = λ y. omega arith;
-            holds = λ y. rw (map-append (λ (x : Placed). x .class) (f .placed) (own j ∷ [])) came;
+            holds = λ y. rw (map-append (λ (x : Placed). x .class) (f .placed) (own ∷ [])) came;
             full = λ y r. never (cc);
             twice = λ r. absurd (omega arith);
-          })
+          }
 
       -- a class before it has its key
-      pub state-twice : (j : ℕ) → 0 < j → Stands (classesIn f) (classAt p i (getD (p .read .exports) i noExport)) → {w′ : List ℕ}
-          → State s b o n (withClass limit o j p i f) (closedAs t j) w′
-      state-twice j h e {w′} = rw (class-more p i f limit o j c) (record {
+      pub state-twice : 0 < j → Stands (classesIn f) (classAt p i (getD (p .read .exports) i noExport)) → {w′ : List ℕ}
+          → State s b o n (withOwn j p i f) (closedAs t j) w′
+      unfolding withOwn
+      state-twice h e {w′} = record {
         entered = λ y. never (cc);
         room = λ y. never (cc);
         holds = λ y. never (cc);
         full = λ y r. absurd (omega arith);
-        twice = λ r. (refl, twice-last (f .placed) (own j) (found-once f (k .holds a .tables .classes)) e);
-      })
+        twice = λ r. (refl, twice-last (f .placed) own (found-once f (k .holds a .tables .classes)) e);
+      }
 
 -- ---- at the start: a table with no class
 
 pub state-none : (limit : ℕ) (s : List ℕ) (at : ℕ) {b : List ℕ} {o : Objects} {n : ℕ} (w : List ℕ) → Bytes b → length b < 2 ^ 32 → n ≡ o .layout .count → 64 * n ≤ length w
     → ObjectsIn b o (take (48 * n) w) → {ys : List ℕ} → ys ≡ cleared (4 * n) (drop (48 * n) w)
-    → State s b o n (foundIn limit o s at 0) (record { «open» = true; repeat = 0; classes = 0; rows = 0; size = 9 }) (put (48 * n) (length w - 48 * n) w ys)
+    → State s b o n (foundIn limit o s at 0) (openedAs 0 0 9) (put (48 * n) (length w - 48 * n) w ys)
 unfolding foundIn
 state-none limit s at {b} {o} {n} w y small e h k {ys} q =
     let v = drop (48 * n) w in

@@ -1,8 +1,8 @@
 -- The walk's steps: what an export's row adds to what was found and what its class adds, what the steps are lent, and how far they can count.
 -- Assumes nothing.
 use mathlib.Core.Path.{_≡_}
-use mathlib.Core.Bool.{false, cond}
-use mathlib.Core.List.{List, [], _++_}
+use mathlib.Core.Bool.{true, false, cond}
+use mathlib.Core.List.{List, [], _∷_, _++_}
 use Prim.Native.Nat.{ℕ, _+_, _*_, _≤_}
 use lib.ListN.{length, getD}
 use Rattle.text.specs.Find.{kept}
@@ -37,6 +37,18 @@ withClass limit o j p i f =
       size = f .size;
     }
 
+-- the same of an export that is a class
+unfoldable pub withOwn : ℕ → Package → ℕ → Found → Found
+withOwn j p i f = record {
+  placed = f .placed ++ (record { block = j; class = classAt p i (getD (p .read .exports) i noExport) } ∷ []);
+  refs = f .refs;
+  size = f .size;
+}
+
+-- a count as long as all is entered
+abbrev pub openedAs : ℕ → ℕ → ℕ → Census
+openedAs classes rows size = record { «open» = true; repeat = 0; classes = classes; rows = rows; size = size }
+
 -- a count that goes no further: there is no room, or that block repeats a key
 abbrev pub closedAs : Census → ℕ → Census
 closedAs t repeat = record { «open» = false; repeat = repeat; classes = t .classes; rows = t .rows; size = t .size }
@@ -46,6 +58,10 @@ pub record Behind (f f′ : Found) : Type 0 where
   pub more : List Placed
   pub placed : f′ .placed ≡ f .placed ++ more
   pub rows : length (f .refs) ≤ length (f′ .refs)
+
+-- package i, at a place of the corpus s: the first is block 2
+abbrev pub visitAt : List ℕ → ℕ → ℕ → Visit
+visitAt s at i = record { at = at; id = beAt 8 s at; block = i + 2 }
 
 -- d is the block of the package of the corpus s that is visited
 pub record Visited (s : List ℕ) (v : Visit) (d : List ℕ) : Type 0 where

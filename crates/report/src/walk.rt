@@ -3,7 +3,7 @@ ghost use mathlib.Core.Bool.{true};
 ghost use mathlib.Core.List.{List};
 ghost use mathlib.Core.Path.{_≡_};
 ghost use Prim.Native.Nat.{ℕ, _+_, _*_, _^_, _≤_, _<_};
-ghost use lib.ListN.{length, take};
+ghost use lib.ListN.{length, take, drop};
 ghost use Rattle.text.specs.Reading.{refused, gives, runBlock};
 ghost use Rattle.zen.specs.Answers.{answer};
 ghost use Rattle.zen.specs.Notes.{noteCount, Noted};
@@ -15,10 +15,11 @@ ghost use Rattle.objects.specs.Work.{ObjectsIn};
 ghost use Rattle.packages.specs.Framing.{partsAt};
 ghost use Rattle.packages.specs.Package.{readIn, packageIn, PackageIn};
 ghost use Rattle.packages.specs.RefBytes.{refBytes};
-ghost use Rattle.packages.specs.Row.{RowHolds, namesSize};
+ghost use Rattle.packages.specs.Row.{exportNo, namesSize, RowHolds};
 ghost use Rattle.packages.specs.Walk.{Sites, AllRead};
+ghost use Rattle.resolve.specs.Classes.{Classes};
 ghost use Rattle.report.specs.Found.{Found, headSize, withExport, withExports, withPackage, foundIn, Linked, State};
-ghost use Rattle.report.specs.Steps.{withRow, withClass, closedAs, SomeState, Visited, rowMost, headMost, Grown, Small};
+ghost use Rattle.report.specs.Steps.{withRow, withOwn, openedAs, closedAs, visitAt, Visited, SomeState, rowMost, headMost, Grown, Small};
 ghost use Rattle.report.specs.declared.walk.Census.{Census};
 ghost use Rattle.report.specs.declared.walk.Scanned.the-variants.{Refused, All};
 use packages::frame::block_at;
@@ -86,6 +87,19 @@ fn head_len(b: &[u8], p: Parts, names: &[u32; NOTES]) -> usize
     20 + place_len(b, home.place, home.number)
 }
 
+// All is entered.
+fn opened(classes: usize, rows: usize, size: usize) -> Census
+    ensures { λ r. ⌜ r ≡ openedAs classes rows size ⌝ }
+{
+    Census {
+        open: true,
+        repeat: 0,
+        classes,
+        rows,
+        size,
+    }
+}
+
 // Nothing more is entered.
 fn closed(t: Census, repeat: u32) -> Census
     ensures { λ r. ⌜ r ≡ closedAs t repeat ⌝ }
@@ -128,41 +142,30 @@ fn keep_row(
     let v = row_at(b, p, names, i, kind);
     let m = meaning(b, p, imported, id, v.class);
     put_words(&mut w[size..], t.rows, m);
-    Census {
-        open: true,
-        repeat: 0,
-        classes: t.classes,
-        rows: t.rows + 1,
-        size: t.size + row_len(b, p, names, imported, v),
-    }
+    let len = row_len(b, p, names, imported, v);
+    opened(t.classes, t.rows + 1, t.size + len)
 }
 
-// Enters export i if it is a class and there is room; s is the script block.
+// Enters export i, which is a class, if there is room and no class before it has its key.
 fn keep_class(
     b: &[u8],
     p: Parts,
     names: &[u32; NOTES],
     imported: &[u32; NOTES],
-    s: &[u8],
     w: &mut [u8],
     n: usize,
-    limit: usize,
     v: Visit,
     i: usize,
     t: Census,
 ) -> Census
-    requires { ⌜ PackageIn (now b) p × Noted (now b) (p .names) (now names) × Noted (now b) (p .imported) (now imported) × (i < p .count) ⌝ }
-    requires { ⌜ (t .open ≡ true) × SomeState (now s) n v (now b) t (now w) × (t .classes + 1 < 2 ^ 32) × (t .rows ≤ 2 ^ 32) × (0 < v .block) ⌝ }
-    ensures state { λ r. ⌜ ((c : List ℕ) (o : Objects) (f : Found) → Visited c v (now (b .entry)) → State c (now (s .entry)) o n f t (now (w .entry))
-        → State c (now (s .entry)) o n (withClass limit o (v .block) (packageIn (v .id) (now (b .entry))) i f) r (now (w .exit))) ⌝ }
+    requires { ⌜ PackageIn (now b) p × Noted (now b) (p .names) (now names) × Noted (now b) (p .imported) (now imported) × (i < p .count) × (exportNo (now b) i .hash ≡ 0 → ⊥) ⌝ }
+    requires { ⌜ (t .open ≡ true) × (64 * n ≤ length (now w)) × Classes (4 * n) (t .classes) (drop (48 * n) (now w)) × (0 < n) × (t .classes + 1 < 2 ^ 32) × (t .rows ≤ 2 ^ 32) × (0 < v .block) ⌝ }
+    ensures state { λ r. ⌜ ((c d : List ℕ) (o : Objects) (f : Found) → Visited c v (now (b .entry)) → State c d o n f t (now (w .entry))
+        → State c d o n (withOwn (v .block) (packageIn (v .id) (now (b .entry))) i f) r (now (w .exit))) ⌝ }
     ensures grown { λ r. ⌜ (r .classes ≤ t .classes + 1) × (r .rows ≡ t .rows) × (r .size ≡ t .size) ⌝ }
     ensures size { λ _. ⌜ length (now (w .exit)) ≡ length (now (w .entry)) ⌝ }
 {
     let size = 48 * n;
-    let e = export_at(b, p, i);
-    if !is_class(s, &w[..size], e, limit) {
-        return t;
-    }
     if w.len() / 64 <= n + t.classes + t.rows {
         return closed(t, 0);
     }
@@ -178,18 +181,12 @@ fn keep_class(
         v.id,
         i,
     ) {
-        return Census {
-            open: true,
-            repeat: 0,
-            classes: t.classes + 1,
-            rows: t.rows,
-            size: t.size,
-        };
+        return opened(t.classes + 1, t.rows, t.size);
     }
     closed(t, v.block)
 }
 
-// Both of export i.
+// Export i: its row, if it is a candidate, and its class, if it is one; s is the script block.
 fn scan_export(
     b: &[u8],
     p: Parts,
@@ -210,9 +207,14 @@ fn scan_export(
     ensures grown { λ r. ⌜ Grown 1 t r ⌝ }
     ensures size { λ _. ⌜ length (now (w .exit)) ≡ length (now (w .entry)) ⌝ }
 {
+    let size = 48 * n;
     let r = keep_row(b, p, names, imported, w, n, v.id, i, t);
-    if r.open {
-        return keep_class(b, p, names, imported, s, w, n, limit, v, i, r);
+    if !r.open {
+        return r;
+    }
+    let e = export_at(b, p, i);
+    if is_class(s, &w[..size], e, limit) {
+        return keep_class(b, p, names, imported, w, n, v, i, r);
     }
     r
 }
@@ -272,13 +274,7 @@ fn scan_package(
     let p = parts_of(l);
     note_names(b, p.names, names);
     note_names(b, p.imported, imported);
-    let before = Census {
-        open: true,
-        repeat: 0,
-        classes: t.classes,
-        rows: t.rows,
-        size: t.size + head_len(b, p, names),
-    };
+    let before = opened(t.classes, t.rows, t.size + head_len(b, p, names));
     scan_exports(b, p, names, imported, s, w, n, limit, v, before)
 }
 
@@ -314,6 +310,18 @@ fn scan_block(
     }
 }
 
+// Package i, at a place of the corpus: the first is block 2.
+fn visit_at(c: &[u8], at: usize, i: usize) -> Visit
+    requires { ⌜ (at + 12 ≤ length (now c)) × (i + 2 < 2 ^ 32) ⌝ }
+    ensures { λ v. ⌜ v ≡ visitAt (now (c .entry)) at i ⌝ }
+{
+    Visit {
+        at,
+        id: id_at(c, at),
+        block: (i + 2) as u32,
+    }
+}
+
 // Checks the packages from a place of the corpus on, and enters what they hold: w has the n linked script objects of the block s in front.
 pub fn scan_packages(
     c: &[u8],
@@ -337,21 +345,11 @@ pub fn scan_packages(
 {
     let size = 48 * n;
     clear(&mut w[size..], 4 * n);
-    let mut t = Census {
-        open: true,
-        repeat: 0,
-        classes: 0,
-        rows: 0,
-        size: 9,
-    };
+    let mut t = opened(0, 0, 9);
     let mut place = at;
     let mut i: usize = 0;
     while i < count {
-        let v = Visit {
-            at: place,
-            id: id_at(c, place),
-            block: (i + 2) as u32,
-        };
+        let v = visit_at(c, place, i);
         match scan_block(block_at(c, place), s, w, n, limit, names, imported, v, t) {
             Scanned::Refused(q, j) => return Scanned::Refused(q, j),
             Scanned::All(x) => t = x,

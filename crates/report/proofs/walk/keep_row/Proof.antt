@@ -1,6 +1,6 @@
 -- `walk::keep_row` meets its contract: no candidate, no room, or a row put at the end of the work buffer. Assumes nothing.
 use mathlib.Core.Path.{_≡_, refl, sym, _∙_, ap}
-use mathlib.Core.Bool.{true, false}
+use mathlib.Core.Bool.{true}
 use mathlib.Core.List.{List}
 use Prim.Native.Nat.{ℕ, _+_, _*_, _-_, _/_, _^_, _≤_, _<_}
 use native.Mathlib.Omega.{arith}
@@ -25,7 +25,7 @@ use Rattle.resolve.specs.Lent.{lent-part}
 use Rattle.resolve.specs.Rows.{rowAt, worded}
 use Rattle.report.specs.SizeLaws.{row-class, base-size}
 use Rattle.report.specs.StateLaws.{candidate-not, candidate-is, row-none, state-row-full, state-row}
-use Rattle.report.specs.Steps.{withRow, closedAs}
+use Rattle.report.specs.Steps.{withRow, openedAs, closedAs}
 use Rattle.report.specs.declared.walk.Census.{Census}
 use Rattle.report.proofs.walk.keep_row.Statement.{statement}
 use Rattle.report.proofs.walk.keep_row.Tie as tie
@@ -55,12 +55,12 @@ module _ (n id i : ℕ) (d : List ℕ) (t : Census) (w : List ℕ) {kind : ℕ} 
       row-put : n + t .classes + t .rows < length w / 64 → {m : Words} → m ≡ wordsOf (refIn (packageIn id d) (v .class)) → m .lo < 2 ^ 64 → m .hi < 2 ^ 64
           → {ys : List ℕ} → ys ≡ worded (rowAt (take (length w - 48 * n) (drop (48 * n) w)) (t .rows)) m (take (length w - 48 * n) (drop (48 * n) w))
           → {z : ℕ} → z ≡ 34 + namesSize d v + length (refBytes d (v .class))
-          → Next (record { «open» = true; repeat = 0; classes = t .classes; rows = t .rows + 1; size = t .size + z }) (put (48 * n) (length w - 48 * n) w ys)
-      row-put h {m} e lo hi {ys} q {z} g c b o f k =
-          state-row k going (packageIn id d) i (candidate-is (readIn d) (exportNo d i) (λ x. some (is ∙ x))) h m
+          → {r : Census} → r ≡ openedAs (t .classes) (t .rows + 1) (t .size + z) → Next r (put (48 * n) (length w - 48 * n) w ys)
+      row-put h {m} e lo hi {ys} q {z} g x c b o f k =
+          rw x (state-row k going (packageIn id d) i (candidate-is (readIn d) (exportNo d i) (λ x. some (is ∙ x))) h m
           (e ∙ ap (λ (x : ℕ). wordsOf (refIn (packageIn id d) x)) class-is) lo hi
           (rw (lent-part (48 * n) w) at q)
-          (ap (λ (x : ℕ). t .size + x) (g ∙ (ap (λ (x : Row). 34 + namesSize d x + length (refBytes d (x .class))) row-is ∙ base-size a y i l id)))
+          (ap (λ (x : ℕ). t .size + x) (g ∙ (ap (λ (x : Row). 34 + namesSize d x + length (refBytes d (x .class))) row-is ∙ base-size a y i l id))))
 
 mul-size : tie.Need-mul-size
 mul-size c = omega (arith, c .before .before .pre .1 .1)
@@ -73,15 +73,6 @@ returns c = let s = c .before .before .before .before in (
   no-candidate (s .args .n) (s .args .id) (s .args .i) (s .args .b .now) (s .args .t) (s .args .w .now) (c .before .candidate .ensures) (c .if1 .taken),
   ((refl, omega arith, omega arith), refl),
 )
-
-add-if2 : tie.Need-add-if2
-add-if2 c = search needs
-
-add-if2-2 : tie.Need-add-if2-2
-add-if2-2 c = search needs
-
-closed-requires : tie.Need-closed-requires
-closed-requires c κs = search needs
 
 returns-2 : tie.Need-returns-2
 returns-2 c =
@@ -98,24 +89,12 @@ row-at-requires c κs = search needs
 meaning-requires : tie.Need-meaning-requires
 meaning-requires c κs = search needs
 
-sub-put-words : tie.Need-sub-put-words
-sub-put-words c = search needs
-
-part-put-words-start : tie.Need-part-put-words-start
-part-put-words-start c = search needs
-
-part-put-words-end : tie.Need-part-put-words-end
-part-put-words-end c = search needs
-
 put-words-requires : tie.Need-put-words-requires
 put-words-requires c κs = search needs
 
-add-t16 : tie.Need-add-t16
-add-t16 c = omega (arith, c .before .before .before .before .before .before .before .before .before .before .before .before .before .before .pre .1)
-
 row-len-requires : tie.Need-row-len-requires
 row-len-requires c κs =
-    let r = c .before .before .before .before .before .before in
+    let r = c .before .before .before .before .before in
     let k = r .before .before .before .before in
     let s = k .before .before .before .before in (
       s .pre .0 .0,
@@ -125,23 +104,31 @@ row-len-requires c κs =
           (s .pre .0 .0) (λ i. k .before .before .before .shared-slice-known .given i .fits) (s .pre .0 .3) (r .row-at .ensures),
     )
 
-add-t17 : tie.Need-add-t17
-add-t17 c = omega (arith, c .before .row-len .ensures .1, c .before .before .before .before .before .before .before .before .before .before .before .before .before .before .before .before .pre .1)
+add-opened : tie.Need-add-opened
+add-opened c = omega (arith, c .before .before .before .before .before .before .before .before .before .before .before .before .before .before .before .pre .1)
 
-same-length : tie.Need-same-length
-same-length c = search needs
+add-opened-2 : tie.Need-add-opened-2
+add-opened-2 c =
+    let r = c .before .before in
+    omega (arith, r .row-len .ensures .1, r .before .before .before .before .before .before .before .before .before .before .before .before .before .before .pre .1)
 
 returns-3 : tie.Need-returns-3
 returns-3 c =
-    let u = c .before .before .before .before .before in
+    let n = c .before .before .before in
+    let u = n .before .before .before in
     let r = u .before .before .before in
     let k = r .before .before .before .before in
     let s = k .before .before .before .before in
-    let m = u .before .before .meaning in (
-      row-put (s .args .n) (s .args .id) (s .args .i) (s .args .b .now) (s .args .t) (s .args .w .now) (k .before .candidate .ensures) (k .if1 .left) (s .pre .1 .0)
-          (s .pre .0 .0) (λ i. k .before .before .before .shared-slice-known .given i .fits) (s .pre .0 .3) (r .row-at .ensures) (r .before .if2 .left) (m .ensures) (omega (arith, m .ok)) (omega (arith, m .ok)) (u .put-words .ensures)
-          (c .before .row-len .ensures .0),
-      ((refl, omega arith, omega (arith, c .before .row-len .ensures .1)), back-length (48 * s .args .n) (s .args .w .now) (u .put-words .last .0) (omega (arith, s .pre .1 .1)) (u .put-words .kept .0)),
+    let a = s .args in
+    let m = u .before .before .meaning in
+    let e = c .opened .ensures in (
+      row-put (a .n) (a .id) (a .i) (a .b .now) (a .t) (a .w .now) (k .before .candidate .ensures) (k .if1 .left) (s .pre .1 .0)
+          (s .pre .0 .0) (λ i. k .before .before .before .shared-slice-known .given i .fits) (s .pre .0 .3) (r .row-at .ensures) (r .before .if2 .left)
+          (m .ensures) (omega (arith, m .ok)) (omega (arith, m .ok)) (u .put-words .ensures) (n .row-len .ensures .0) e,
+      (
+        (ap (λ (x : Census). x .classes) e, omega (arith, ap (λ (x : Census). x .rows) e), omega (arith, ap (λ (x : Census). x .size) e, n .row-len .ensures .1)),
+        back-length (48 * a .n) (a .w .now) (u .put-words .last .0) (omega (arith, s .pre .1 .1)) (u .put-words .kept .0),
+      ),
     )
 
 pub keep-row-spec : {M : Type 1} → statement M
@@ -151,18 +138,19 @@ keep-row-spec =
     mul-size
     candidate-requires
     returns
-    add-if2
-    add-if2-2
-    closed-requires
+    (search needs)
+    (search needs)
+    (search needs)
     returns-2
     row-at-requires
     meaning-requires
-    sub-put-words
-    part-put-words-start
-    part-put-words-end
+    (search needs)
+    (search needs)
+    (search needs)
     put-words-requires
-    add-t16
     row-len-requires
-    add-t17
-    same-length
+    add-opened
+    add-opened-2
+    (search needs)
+    (search needs)
     returns-3)

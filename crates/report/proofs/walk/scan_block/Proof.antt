@@ -6,7 +6,6 @@ use Prim.Native.Nat.{ℕ, _+_}
 use native.Mathlib.Omega.{arith}
 use borrow.Author.Needs.{needs}
 use lib.ListN.{length}
-use Rattle.text.specs.Never.{never}
 use Rattle.text.specs.Reading.{gives, refused, runBlock}
 use Rattle.zen.specs.Answers.{answer}
 use Rattle.zen.specs.AnswersLaws.{rejected-got}
@@ -19,10 +18,11 @@ use Rattle.packages.specs.Package.{readIn, packageIn}
 use Rattle.packages.specs.WalkLaws.{layout-package}
 use Rattle.report.specs.Found.{Found, withPackage, State}
 use Rattle.report.specs.StateLaws.{package-behind, state-closed}
-use Rattle.report.specs.Steps.{Visited, Small}
+use Rattle.report.specs.Steps.{Small}
 use Rattle.report.specs.declared.walk.Census.{Census}
-use Rattle.report.specs.declared.walk.Scanned.the-variants.{Refused, All}
+use Rattle.report.specs.declared.walk.Scanned.the-variants.{Refused}
 use Rattle.report.specs.declared.walk.Visit.{Visit}
+use Rattle.report.proofs.Scans.{all-same, not-refused, not-all}
 use Rattle.report.proofs.walk.scan_block.Statement.{statement}
 use Rattle.report.proofs.walk.scan_block.Tie as tie
 
@@ -37,16 +37,6 @@ module _ (d : List ℕ) {x : Package} (e : x ≡ answer (runBlock packageBlock d
   rejected : {k j : ℕ} → x ≡ Rejected k → {q i : ℕ} → Refused k j ≡ Refused q i → (i ≡ j) × (runBlock packageBlock d ≡ refused q)
   rejected {k} {j} h {q} {i} z = let a : k ≡ q = cc in let b : j ≡ i = cc in (sym b, rw (← a) (rejected-got (runBlock packageBlock d) (sym e ∙ h)))
 
--- the answer of a function that returns a census
-same : {t t′ : Census} → All t ≡ All t′ → t ≡ t′
-same z = cc
-
-not-refused : {A : Type 0} {t : Census} {q j : ℕ} → All t ≡ Refused q j → A
-not-refused z = never (cc)
-
-not-all : {A : Type 0} {t : Census} {q j : ℕ} → Refused q j ≡ All t → A
-not-all z = never (cc)
-
 small-more : {x : ℕ} (m : ℕ) {t : Census} → Small x t → Small (x + 12 + m) t
 small-more m h = record { classes = omega (arith, h .classes); rows = omega (arith, h .rows); size = omega (arith, h .size) }
 
@@ -54,15 +44,6 @@ small-more m h = record { classes = omega (arith, h .classes); rows = omega (ari
 shut : (d b : List ℕ) (n limit : ℕ) (v : Visit) {t : Census} {w : List ℕ} → t .open ≡ false → {c : List ℕ} {o : Objects} {f : Found} → State c b o n f t w
     → State c b o n (withPackage limit o (v .block) (packageIn (v .id) d) f) t w
 shut d b n limit v h {o = o} {f = f} k = state-closed k h (package-behind limit o (v .block) (packageIn (v .id) d) f) refl
-
-check-package-requires : tie.Need-check-package-requires
-check-package-requires c κs = search needs
-
-enum-known-q : tie.Need-enum-known-q
-enum-known-q c = search needs
-
-enum-known-l : tie.Need-enum-known-l
-enum-known-l c = search needs
 
 scan-package-requires : tie.Need-scan-package-requires
 scan-package-requires c κs =
@@ -84,8 +65,8 @@ returns c =
       (
         λ t z. read (a .b .now) (l .before .before .check-package .ensures) (l .l .given .1),
         (
-          λ t c o f z v k. rw (← same z) (e .0 c o f v k),
-          (λ t x z h. rw (← same z) (e .1 .0 x h), e .1 .1),
+          λ t c o f z v k. rw (← all-same z) (e .0 c o f v k),
+          (λ t x z h. rw (← all-same z) (e .1 .0 x h), e .1 .1),
         ),
       ),
     )
@@ -106,8 +87,8 @@ returns-3 c =
       (
         λ t z. read (a .b .now) (l .before .before .check-package .ensures) (l .l .given .1),
         (
-          λ t k o f z v x. rw (← same z) (shut (a .b .now) (a .s .now) (a .n) (a .limit) (a .v) (c .if1 .left) x),
-          (λ t x z h. rw (← same z) (small-more (length (a .b .now)) h), (refl, s .pre .0 .0, s .pre .0 .1)),
+          λ t k o f z v x. rw (← all-same z) (shut (a .b .now) (a .s .now) (a .n) (a .limit) (a .v) (c .if1 .left) x),
+          (λ t x z h. rw (← all-same z) (small-more (length (a .b .now)) h), (refl, s .pre .0 .0, s .pre .0 .1)),
         ),
       ),
     )
@@ -116,9 +97,9 @@ pub scan-block-spec : {M : Type 1} → statement M
 scan-block-spec =
     tie.close
     (tie.spec
-    check-package-requires
-    enum-known-q
-    enum-known-l
+    (search needs)
+    (search needs)
+    (search needs)
     scan-package-requires
     same-length
     returns

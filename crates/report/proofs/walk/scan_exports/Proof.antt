@@ -1,31 +1,23 @@
 -- `walk::scan_exports` meets its contract. The loop's invariant: the state is that of the first i exports. Assumes nothing.
-use mathlib.Core.Path.{_≡_, refl, sym, _∙_}
-use mathlib.Core.Bool.{Bool, true, false, not}
+use mathlib.Core.Path.{_≡_, refl, _∙_}
+use mathlib.Core.Bool.{false}
 use mathlib.Core.List.{List}
-use Prim.Native.Nat.{ℕ, _+_, _*_, _-_, _^_, _≤_, _<_}
+use Prim.Native.Nat.{ℕ, _+_, _-_, _≤_}
 use native.Mathlib.Omega.{arith}
 use borrow.Author.Needs.{needs}
 use lib.ListN.{length}
-use Rattle.text.specs.Never.{never}
 use Rattle.zen.specs.Script.{Objects}
 use Rattle.packages.specs.Package.{packageIn, PackageIn}
 use Rattle.packages.specs.PackageLaws.{export-count}
 use Rattle.packages.specs.declared.package.Parts.{Parts}
 use Rattle.report.specs.Found.{Found, withExport, withExports, withPackage, State}
 use Rattle.report.specs.StateLaws.{exports-next, exports-behind, state-closed}
-use Rattle.report.specs.Steps.{SomeState, Visited, rowMost, Grown}
+use Rattle.report.specs.Steps.{SomeState, Visited, Grown}
 use Rattle.report.specs.declared.walk.Census.{Census}
 use Rattle.report.specs.declared.walk.Visit.{Visit}
+use Rattle.report.proofs.Scans.{not-true, not-false}
 use Rattle.report.proofs.walk.scan_exports.Statement.{statement}
 use Rattle.report.proofs.walk.scan_exports.Tie as tie
-
-not-true : (x : Bool) → not x ≡ true → x ≡ false
-not-true true h = never (cc)
-not-true false h = refl
-
-not-false : (x : Bool) → not x ≡ false → x ≡ true
-not-false true h = refl
-not-false false h = never (cc)
 
 -- after i exports of the package that is visited, whose block d is; b: the script block
 record Done (d b : List ℕ) (n limit : ℕ) (v : Visit) (t₀ : Census) (w₀ : List ℕ) (i : ℕ) (t : Census) (w : List ℕ) : Type 0 where
@@ -106,12 +98,6 @@ scan-export-requires c κs =
       (not-false _ (c .before .if2 .left), l .inv .1 .some, omega (arith, g .classes, q .1, h), omega (arith, g .rows, q .2, h), omega (arith, g .size, q .3, h), q .4),
     )
 
-add-i : tie.Need-add-i Inv-loop μ-loop
-add-i c = search needs
-
-loop-less : tie.Need-loop-less Inv-loop μ-loop
-loop-less c = search needs
-
 loop-again : tie.Need-loop-again Inv-loop μ-loop
 loop-again c =
     let l = c .before .before .before .before .before .before .before .before .loop in
@@ -144,8 +130,8 @@ scan-exports-spec =
     same-length
     returns
     scan-export-requires
-    add-i
-    loop-less
+    (search needs)
+    (search needs)
     loop-again
     same-length-2
     returns-2)

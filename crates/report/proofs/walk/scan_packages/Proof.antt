@@ -1,13 +1,11 @@
 -- `walk::scan_packages` meets its contract. The loop's invariant: the first i packages are accepted, and the state is theirs. Assumes nothing.
 use mathlib.Core.Path.{_≡_, refl, sym, _∙_, ap, ap₂, subst}
-use mathlib.Core.Bool.{true}
 use mathlib.Core.List.{List}
 use Prim.Native.Nat.{ℕ, _+_, _*_, _-_, _^_, _≤_, _<_}
 use native.Mathlib.Omega.{arith}
 use borrow.Author.Needs.{needs}
 use lib.ListN.{length, take, drop, length-drop}
 use lib.Seq.{length-take-le}
-use Rattle.text.specs.Never.{never}
 use Rattle.text.specs.Number.{beAt}
 use Rattle.text.specs.NumberLaws.{Bytes}
 use Rattle.text.specs.Reading.{gives, refused, runBlock}
@@ -20,18 +18,17 @@ use Rattle.objects.specs.Work.{ObjectsIn}
 use Rattle.packages.specs.Framing.{nextAt, partsAt}
 use Rattle.packages.specs.Package.{readIn, packageIn}
 use Rattle.packages.specs.Walk.{blockAt, packageAt, Site, placeOf, Sites, AllRead}
-use Rattle.packages.specs.WalkLaws.{place-none, place-next, site-length, all-none, all-more, all-less, read-refused}
+use Rattle.packages.specs.WalkLaws.{place-none, place-next, site-length, all-none, all-more, read-refused}
 use Rattle.table.specs.Table.{cleared}
 use Rattle.table.specs.Words.{put}
 use Rattle.report.specs.Found.{Found, withPackage, foundIn, Linked, State}
 use Rattle.report.specs.KeptLaws.{back-length}
 use Rattle.resolve.specs.Lent.{lent-part, lent-front}
 use Rattle.report.specs.StateLaws.{found-next, state-none}
-use Rattle.report.specs.Steps.{SomeState, Visited, Small}
+use Rattle.report.specs.Steps.{openedAs, visitAt, Visited, SomeState, Small}
 use Rattle.report.specs.declared.walk.Census.{Census}
-use Rattle.report.specs.declared.walk.Scanned.{Scanned}
-use Rattle.report.specs.declared.walk.Scanned.the-variants.{Refused, All}
 use Rattle.report.specs.declared.walk.Visit.{Visit}
+use Rattle.report.proofs.Scans.{all-same, not-refused, not-all}
 use Rattle.report.proofs.walk.scan_packages.Statement.{statement}
 use Rattle.report.proofs.walk.scan_packages.Tie as tie
 
@@ -73,9 +70,9 @@ module _ (s : List ℕ) (at : ℕ) (b : List ℕ) (n limit : ℕ) where
       front k = rw (lent-front (48 * n) w ys low-room) k
 
       begun : Bytes b → length b < 2 ^ 32 → ys ≡ cleared (4 * n) (take (length w - 48 * n) (drop (48 * n) w))
-          → Passed s at b n limit w₀ 0 at (record { «open» = true; repeat = 0; classes = 0; rows = 0; size = 9 }) w₀
-      begun y small e =
-          let same = lent-front (48 * n) w ys low-room in
+          → {t : Census} → t ≡ openedAs 0 0 9 → Passed s at b n limit w₀ 0 at t w₀
+      begun y small e q =
+          rw q (let same = lent-front (48 * n) w ys low-room in
           record {
             here-is = sym (place-none s at);
             low = omega arith;
@@ -86,41 +83,38 @@ module _ (s : List ℕ) (at : ℕ) (b : List ℕ) (n limit : ℕ) where
             objects = l .objects;
             linked = front (l .holds);
             state = λ o k. state-none limit s at w y small (omega (arith, (rw same at k) .all .entered .size, length-take-le (48 * n) w low-room)) (l .room) (rw same at k) (rw (lent-part (48 * n) w) at e);
-          }
+          })
 
   -- at the next package
   module _ {w₀ : List ℕ} {i here : ℕ} {t : Census} {w : List ℕ} (k : Passed s at b n limit w₀ i here t w) {count : ℕ} (z : Sites s at count) (h : i < count) where
     site : Site s here (blockAt s here)
     site = rw (k .here-is) (z .site i h)
 
-    abbrev visit : ℕ → Visit
-    visit id = record { at = here; id = id; block = i + 2 }
-
     module _ {d : List ℕ} (is : d ≡ blockAt s here) where
       own : Site s here d
       own = record { starts = site .starts; stops = site .stops; small = site .small; is = is }
 
-      stopped : {q j : ℕ} → j ≡ i + 2 → runBlock packageBlock d ≡ refused q → readFrom 2 (partsAt s at count) ≡ refusedIn q j
-      stopped {q} {j} e r =
-          let x : 2 + i ≡ j = omega arith in
+      stopped : {v : Visit} → v ≡ visitAt s here i → {q j : ℕ} → j ≡ v .block → runBlock packageBlock d ≡ refused q → readFrom 2 (partsAt s at count) ≡ refusedIn q j
+      stopped v {q} {j} e r =
+          let x : 2 + i ≡ j = omega (arith, ap (λ (x : Visit). x .block) v) in
           read-refused 2 s at count i q h (k .read) (ap (λ (y : List ℕ). runBlock packageBlock y) (sym (is ∙ ap (blockAt s) (k .here-is))) ∙ r) ∙ ap (refusedIn q) x
 
-      module _ {id : ℕ} (e : id ≡ beAt 8 s here) where
-        visited : Visited s (visit id) d
-        visited = record { site = own; id = e }
+      module _ {v : Visit} (e : v ≡ visitAt s here i) where
+        visited : Visited s v d
+        visited = rw e (record { site = own; id = refl })
 
-        asked : SomeState b n (visit id) d t w × (0 < i + 2) × ((x : ℕ) × Small x t × (x + 12 + length d < 2 ^ 32 + 4))
+        asked : SomeState b n v d t w × (0 < v .block) × ((x : ℕ) × Small x t × (x + 12 + length d < 2 ^ 32 + 4))
         asked = (
           record { corpus = s; objects = k .objects; found = foundIn limit (k .objects) s at i; visited = visited; holds = k .state (k .objects) (k .linked) },
-          omega arith,
+          rw e (omega arith),
           (here - at, k .small, omega (arith, site-end own, own .stops, own .small)),
         )
 
-        package-is : packageIn id d ≡ packageAt s (placeOf s at i)
-        package-is = ap₂ packageIn (e ∙ ap (beAt 8 s) (k .here-is)) (is ∙ ap (blockAt s) (k .here-is))
+        package-is : packageIn (v .id) d ≡ packageAt s (placeOf s at i)
+        package-is = rw e (ap₂ packageIn (ap (beAt 8 s) (k .here-is)) (is ∙ ap (blockAt s) (k .here-is)))
 
         module _ {t′ : Census} {w′ : List ℕ} (read : runBlock packageBlock d ≡ gives (readIn d))
-            (state : (c : List ℕ) (o : Objects) (f : Found) → Visited c (visit id) d → State c b o n f t w → State c b o n (withPackage limit o (i + 2) (packageIn id d) f) t′ w′)
+            (state : (c : List ℕ) (o : Objects) (f : Found) → Visited c v d → State c b o n f t w → State c b o n (withPackage limit o (v .block) (packageIn (v .id) d) f) t′ w′)
             (small : (x : ℕ) → Small x t → Small (x + 12 + length d) t′) (size : length w′ ≡ length w) where
           next : {here′ : ℕ} → here′ ≡ nextAt s here → Passed s at b n limit w₀ (i + 1) here′ t′ w′
           next {here′} q =
@@ -136,18 +130,10 @@ module _ (s : List ℕ) (at : ℕ) (b : List ℕ) (n limit : ℕ) where
                 objects = k .objects;
                 linked = k .linked;
                 state = λ o l. rw (found-next limit o s at i)
-                    (subst (λ (p : Package). State s b o n (withPackage limit o (i + 2) p (foundIn limit o s at i)) t′ w′) package-is (state s o (foundIn limit o s at i) visited (k .state o l)));
+                    (subst (λ (p : Package). State s b o n (withPackage limit o (i + 2) p (foundIn limit o s at i)) t′ w′) package-is
+                    (subst (λ (j : ℕ). State s b o n (withPackage limit o j (packageIn (v .id) d) (foundIn limit o s at i)) t′ w′) (ap (λ (x : Visit). x .block) e)
+                    (state s o (foundIn limit o s at i) visited (k .state o l))));
               }
-
--- the answer of a function that returns a census
-same : {t t′ : Census} → All t ≡ All t′ → t ≡ t′
-same e = cc
-
-not-all : {A : Type 0} {t : Census} {q j : ℕ} → Refused q j ≡ All t → A
-not-all e = never (cc)
-
-not-refused : {A : Type 0} {t : Census} {q j : ℕ} → All t ≡ Refused q j → A
-not-refused e = never (cc)
 
 few : {x m : ℕ} {t : Census} → Small x t → x ≤ m → m < 2 ^ 32 + 4 → (t .rows < 2 ^ 32) × (t .size < 2 ^ 60)
 few h l r = (omega (arith, h .rows), omega (arith, h .size))
@@ -165,12 +151,6 @@ mul-size c = let s = c .before .before .before in omega (arith, s .pre .1 .0 .ro
 sub-clear : tie.Need-sub-clear Inv-loop μ-loop
 sub-clear c = let s = c .before .before .before in omega (arith, s .pre .1 .0 .room)
 
-part-clear-start : tie.Need-part-clear-start Inv-loop μ-loop
-part-clear-start c = search needs
-
-part-clear-end : tie.Need-part-clear-end Inv-loop μ-loop
-part-clear-end c = search needs
-
 mul-clear : tie.Need-mul-clear Inv-loop μ-loop
 mul-clear c = let s = c .before .before .before .before in omega (arith, s .pre .1 .0 .room)
 
@@ -182,97 +162,81 @@ clear-requires c κs =
 
 loop-holds : tie.Need-loop-holds Inv-loop μ-loop
 loop-holds c =
-    let y = c .before .before .before .before .before in
+    let y = c .before .before .before .before .before .before in
     let s = y .before .before in
-    let a = s .args in (
+    let a = s .args in
+    let u = c .before .before .before .clear in (
       omega arith,
       s .pre .0 .3,
       s .pre .0 .4,
-      begun (a .c .now) (a .at) (a .s .now) (a .n) (a .limit) (a .w .now) (s .pre .1 .0) (c .before .before .clear .last .0) (λ i. y .shared-slice-known2 .given i .fits) (s .pre .1 .1) (c .before .before .clear .ensures),
+      begun (a .c .now) (a .at) (a .s .now) (a .n) (a .limit) (a .w .now) (s .pre .1 .0) (u .last .0) (λ i. y .shared-slice-known2 .given i .fits) (s .pre .1 .1) (u .ensures) (c .opened .ensures),
     )
 
-id-at-requires : tie.Need-id-at-requires Inv-loop μ-loop
-id-at-requires c κs =
+visit-at-requires : tie.Need-visit-at-requires Inv-loop μ-loop
+visit-at-requires c κs =
     let l = c .before .loop in
-    let s = c .before .before .before .before .before .before .before .before .before in
+    let s = c .before .before .before .before .before .before .before .before .before .before in
     let a = s .args in
-    site (a .c .now) (a .at) (a .s .now) (a .n) (a .limit) (l .inv .3) (s .pre .0 .0) (search needs) .starts
-
-add-t26 : tie.Need-add-t26 Inv-loop μ-loop
-add-t26 c =
-    let s = c .before .before .before .before .before .before .before .before .before .before in
-    omega (arith, c .before .loop-test, s .pre .0 .1)
-
-cast-t27 : tie.Need-cast-t27 Inv-loop μ-loop
-cast-t27 c =
-    let s = c .before .before .before .before .before .before .before .before .before .before in
-    omega (arith, c .before .loop-test, s .pre .0 .1)
+    let h : l .i < a .count = omega (arith, c .loop-test) in
+    (site (a .c .now) (a .at) (a .s .now) (a .n) (a .limit) (l .inv .3) (s .pre .0 .0) h .starts, omega (arith, s .pre .0 .1))
 
 block-at-requires : tie.Need-block-at-requires Inv-loop μ-loop
 block-at-requires c κs =
     let l = c .before .before .loop in
-    let s = c .before .before .before .before .before .before .before .before .before .before in
+    let s = c .before .before .before .before .before .before .before .before .before .before .before in
     let a = s .args in
-    let k = site (a .c .now) (a .at) (a .s .now) (a .n) (a .limit) (l .inv .3) (s .pre .0 .0) (search needs) in
+    let k = site (a .c .now) (a .at) (a .s .now) (a .n) (a .limit) (l .inv .3) (s .pre .0 .0) (omega (arith, c .before .loop-test)) in
     (k .starts, k .stops)
 
 scan-block-requires : tie.Need-scan-block-requires Inv-loop μ-loop
 scan-block-requires c κs =
-    let l = c .before .before .before .before .before .before .loop in
-    let s = c .before .before .before .before .before .before .before .before .before .before .before .before .before .before in
+    let x = c .before .before .before in
+    let l = x .before .before .before .loop in
+    let s = x .before .before .before .before .before .before .before .before .before .before .before .before in
     let a = s .args in
-    ((l .inv .1, l .inv .2), asked (a .c .now) (a .at) (a .s .now) (a .n) (a .limit) (l .inv .3) (s .pre .0 .0) (search needs) (c .before .before .before .block-at .ensures) (c .before .before .before .before .id-at .ensures))
-
-enum-known-q : tie.Need-enum-known-q Inv-loop μ-loop
-enum-known-q c = search needs
+    ((l .inv .1, l .inv .2), asked (a .c .now) (a .at) (a .s .now) (a .n) (a .limit) (l .inv .3) (s .pre .0 .0) (omega (arith, x .before .before .loop-test)) (x .block-at .ensures) (x .before .visit-at .ensures))
 
 same-length : tie.Need-same-length Inv-loop μ-loop
 same-length c =
-    let l = c .before .before .before .before .before .before .before .before .before .before .before .before .loop in
-    let u = c .before .before .before .before .before .before .before .before .before .before .before .before .before .before .before in
+    let l = c .before .before .before .before .before .before .before .before .before .before .before .before in
+    let u = l .before .before .before .before in
     let s = u .before .before .before .before .before in
     let a = s .args in
     c .before .before .before .before .before .scan-block .ensures .1 .1 .1 .1 .0
-    ∙ (l .inv .3 .size ∙ whole (a .c .now) (a .at) (a .s .now) (a .n) (a .limit) (a .w .now) (s .pre .1 .0) (u .clear .last .0) (u .clear .kept .0))
+    ∙ (l .loop .inv .3 .size ∙ whole (a .c .now) (a .at) (a .s .now) (a .n) (a .limit) (a .w .now) (s .pre .1 .0) (u .clear .last .0) (u .clear .kept .0))
 
 returns : tie.Need-returns Inv-loop μ-loop
 returns c =
     let e = c .before .before .before .before .before .scan-block .ensures in
     let x = c .before .before .before .before .before .before .before .before .before in
-    let l = x .before .before .before .loop in
-    let u = x .before .before .before .before .before .before in
+    let l = x .before .before .before in
+    let u = l .before .before .before .before in
     let s = u .before .before .before .before .before in
     let a = s .args in (
       λ q j z. let r = e .0 q j (c .before .q .given .1 ∙ z) in
-          stopped (a .c .now) (a .at) (a .s .now) (a .n) (a .limit) (l .inv .3) (s .pre .0 .0) (omega (arith, x .before .before .loop-test)) (x .block-at .ensures) (r .0) (r .1),
+          stopped (a .c .now) (a .at) (a .s .now) (a .n) (a .limit) (l .loop .inv .3) (s .pre .0 .0) (omega (arith, x .before .before .loop-test)) (x .block-at .ensures) (x .before .visit-at .ensures) (r .0) (r .1),
       (
         λ t z. not-all z,
         (
           λ t o z k. not-all z,
           (
-            e .1 .1 .1 .1 .0 ∙ (l .inv .3 .size ∙ whole (a .c .now) (a .at) (a .s .now) (a .n) (a .limit) (a .w .now) (s .pre .1 .0) (u .clear .last .0) (u .clear .kept .0)),
+            e .1 .1 .1 .1 .0 ∙ (l .loop .inv .3 .size ∙ whole (a .c .now) (a .at) (a .s .now) (a .n) (a .limit) (a .w .now) (s .pre .1 .0) (u .clear .last .0) (u .clear .kept .0)),
             λ t z. not-all z,
           ),
         ),
       ),
     )
 
-enum-known-x : tie.Need-enum-known-x Inv-loop μ-loop
-enum-known-x c = search needs
-
 next-at-requires : tie.Need-next-at-requires Inv-loop μ-loop
 next-at-requires c κs =
     let l = c .before .before .before .before .before .before .before .before .before .before .before .before .loop in
-    let s = c .before .before .before .before .before .before .before .before .before .before .before .before .before .before .before .before .before .before .before .before in
+    let s = c .before .before .before .before .before .before .before .before .before .before .before .before .before .before .before .before .before .before .before .before .before in
     let a = s .args in
     let k = site (a .c .now) (a .at) (a .s .now) (a .n) (a .limit) (l .inv .3) (s .pre .0 .0) (omega (arith, c .before .before .before .before .before .before .before .before .before .before .before .loop-test)) in
     (k .starts, k .stops)
 
 add-i : tie.Need-add-i Inv-loop μ-loop
-add-i c =
-    let l = c .before .before .before .before .before .before .before .before .before .before .before .before in
-    let s = l .before .before .before .before .before .before .before .before .before in
-    omega (arith, l .loop-test, s .pre .0 .1)
+add-i c = let l = c .before .before .before .before .before .before .before .before .before .before .before .before in omega (arith, l .loop-test, l .before .before .before .before .before .before .before .before .before .before .pre .0 .1)
 
 loop-less : tie.Need-loop-less Inv-loop μ-loop
 loop-less c = omega (arith, c .before .before .before .before .before .before .before .before .before .before .before .before .loop-test)
@@ -283,19 +247,19 @@ loop-again c =
     let m = c .before .before .x .given .1 in
     let x = c .before .before .before .before .before .before .before .before .before .before in
     let l = x .before .before .before .loop in
-    let s = x .before .before .before .before .before .before .before .before .before .before .before in
+    let s = x .before .before .before .before .before .before .before .before .before .before .before .before in
     let a = s .args in
     let h : l .i < a .count = omega (arith, x .before .before .loop-test) in (
       omega arith,
       e .1 .1 .1 .1 .1,
       e .1 .1 .1 .1 .2,
-      next (a .c .now) (a .at) (a .s .now) (a .n) (a .limit) (l .inv .3) (s .pre .0 .0) h (x .block-at .ensures) (x .before .id-at .ensures) (e .1 .0 _ m)
+      next (a .c .now) (a .at) (a .s .now) (a .n) (a .limit) (l .inv .3) (s .pre .0 .0) h (x .block-at .ensures) (x .before .visit-at .ensures) (e .1 .0 _ m)
           (λ c o f z k. e .1 .1 .0 _ c o f m z k) (λ y k. e .1 .1 .1 .0 _ y m k) (e .1 .1 .1 .1 .0) (c .next-at .ensures),
     )
 
 same-length-2 : tie.Need-same-length-2 Inv-loop μ-loop
 same-length-2 c =
-    let u = c .before .before .before .before in
+    let u = c .before .before .before .before .before in
     let s = u .before .before .before .before .before in
     let a = s .args in
     c .before .loop .inv .3 .size ∙ whole (a .c .now) (a .at) (a .s .now) (a .n) (a .limit) (a .w .now) (s .pre .1 .0) (u .clear .last .0) (u .clear .kept .0)
@@ -304,7 +268,7 @@ returns-2 : tie.Need-returns-2 Inv-loop μ-loop
 returns-2 c =
     let l = c .before .loop in
     let k = l .inv .3 in
-    let u = c .before .before .before .before in
+    let u = c .before .before .before .before .before in
     let s = u .before .before .before .before .before in
     let a = s .args in
     let n : l .i ≡ a .count = omega (arith, c .loop-test, l .inv .0) in (
@@ -312,10 +276,10 @@ returns-2 c =
       (
         λ t z. rw n at (k .read),
         (
-          λ t o z h. rw (← same z, ← n) (k .state o (front (a .c .now) (a .at) (a .s .now) (a .n) (a .limit) (a .w .now) (s .pre .1 .0) (u .clear .last .0) h)),
+          λ t o z h. rw (← all-same z, ← n) (k .state o (front (a .c .now) (a .at) (a .s .now) (a .n) (a .limit) (a .w .now) (s .pre .1 .0) (u .clear .last .0) h)),
           (
             k .size ∙ whole (a .c .now) (a .at) (a .s .now) (a .n) (a .limit) (a .w .now) (s .pre .1 .0) (u .clear .last .0) (u .clear .kept .0),
-            λ t z. rw (← same z) (few (k .small) (k .high) (s .pre .0 .2)),
+            λ t z. rw (← all-same z) (few (k .small) (k .high) (s .pre .0 .2)),
           ),
         ),
       ),
@@ -329,20 +293,19 @@ scan-packages-spec =
     μ-loop
     mul-size
     sub-clear
-    part-clear-start
-    part-clear-end
+    (search needs)
+    (search needs)
     mul-clear
     clear-requires
+    (search needs)
     loop-holds
-    id-at-requires
-    add-t26
-    cast-t27
+    visit-at-requires
     block-at-requires
     scan-block-requires
-    enum-known-q
+    (search needs)
     same-length
     returns
-    enum-known-x
+    (search needs)
     next-at-requires
     add-i
     loop-less
