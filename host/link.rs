@@ -4,7 +4,7 @@
 use std::env;
 use std::io;
 use std::path::Path;
-use std::process::{Command, ExitCode};
+use std::process::{Command, ExitCode, ExitStatus};
 
 fn variable(name: &str) -> String {
     env::var(name).unwrap_or_else(|error| panic!("{name}: {error}"))
@@ -17,7 +17,7 @@ fn build(library: &str, root: &Path) {
         .current_dir(root)
         .stdout(io::stderr())
         .status();
-    if !kit.as_ref().is_ok_and(|status| status.success()) {
+    if !kit.as_ref().is_ok_and(ExitStatus::success) {
         println!("cargo::warning=`rt staticlib {library}` gave no archive: {kit:?}");
     }
 }

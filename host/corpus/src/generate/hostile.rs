@@ -10,8 +10,10 @@ const ROW: &str = "Row_GEN_VARIABLE";
 /// The longest name, in units.
 const LONGEST: usize = 32_767;
 
-/// Each shape by its name.
-pub const SHAPES: [(&str, fn(u32) -> Described); 14] = [
+/// A name, and a corpus with so much of it.
+pub type Shape = (&'static str, fn(u32) -> Described);
+
+pub const SHAPES: [Shape; 14] = [
     ("objects in one bucket", one_bucket),
     ("class keys that agree in 88 turns", alike),
     ("chains of 64 classes", |n| chains(n, 1)),
@@ -96,7 +98,7 @@ pub fn object_key(global: u64) -> (u64, u64) {
 /// and a factor go round in even steps, so from one that is low the next is one of three numbers of steps away.
 fn first_bucket(n: u64, half: u64) -> impl Iterator<Item = u64> {
     let mixed = half.wrapping_mul(FACTOR);
-    let global = move |u: u64| half << 32 | (u ^ mixed % (1 << 32));
+    let global = move |u: u64| half << 32 | (u ^ (mixed % (1 << 32)));
     let low = move |u: u64| {
         let (lo, hi) = object_key(global(u));
         bucket(n, lo, hi) == 0
@@ -104,7 +106,7 @@ fn first_bucket(n: u64, half: u64) -> impl Iterator<Item = u64> {
     let few = (1_u64 << 32).div_ceil(n);
     let first = |sign: u64| {
         let turned = |d: &u64| d.wrapping_mul(FACTOR).wrapping_mul(sign) >> 32 < few;
-        (1..).find(turned).expect("a step that comes near")
+        (1..1 << 32).find(turned).expect("a step that comes near")
     };
     let (up, down) = (first(1), first(u64::MAX));
     let steps = [up.min(down), up.max(down), up + down];
