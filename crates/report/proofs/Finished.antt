@@ -1,13 +1,13 @@
--- 26 and the report, from all that was gathered and resolved. Assumes nothing.
-use mathlib.Core.Path.{_≡_, sym, ap}
+-- 26 and the report, from all that was gathered, linked and resolved. Assumes nothing.
+use mathlib.Core.Path.{_≡_, sym, _∙_, ap}
 use mathlib.Core.List.{List, []}
 use Prim.Native.Nat.{ℕ, _+_, _≤_, _<_}
 use native.Mathlib.Omega.{arith}
-use lib.ListN.{length}
+use lib.ListN.{length, length-map}
 use Rattle.text.specs.Answer.{refusal}
 use Rattle.text.specs.Output.{Wrote}
 use Rattle.zen.specs.Script.{Objects}
-use Rattle.meaning.specs.Call.{accepted, firstRepeat, noneTwice}
+use Rattle.meaning.specs.Call.{Placed, accepted, firstRepeat, noneTwice}
 use Rattle.meaning.specs.Reference.{Ref}
 use Rattle.meaning.specs.Scan.{Class}
 use Rattle.packages.specs.declared.frame.Frame.{Frame}
@@ -15,9 +15,14 @@ use Rattle.report.specs.Called.{Begun, Packages, foundBy, workNeeded, Ga
 use Rattle.report.specs.CallLaws.{answer-beyond, answer-outside, answer-fits, refused-by, answered-refused, answered-report}
 use Rattle.report.specs.Found.{classesIn}
 use Rattle.report.specs.FoundLaws.{found-size, found-once}
-use Rattle.resolve.specs.Rows.{Kept, SomeKept, Resolution, limitsOf}
+use Rattle.resolve.specs.Rows.{Kept, SomeClasses, SomeKept, Resolution, limitsOf}
 use Rattle.report.specs.Written.{reportAt, Ready, ReportRoom}
 use Rattle.report.specs.declared.walk.Census.{Census}
+
+-- classes were linked, and all is still kept
+abbrev pub Links : ℕ → ℕ → List ℕ → List ℕ → Type 0
+Links n classes w v =
+    (s b : List ℕ) (o : Objects) (xs : List Class) (refs : List Ref) → Kept s b o n xs refs w → classes ≤ length xs → Kept s b o n xs refs v
 
 -- ---- what was gathered
 
@@ -34,9 +39,23 @@ module _ {limit : ℕ} {c : List ℕ} {f : Frame} {s : List ℕ} {n : ℕ} {t : 
   rows-are : length refs ≡ t .rows
   rows-are = sym (g .state .entered (g .all) .1)
 
-  -- it can be resolved
-  pub gathered-kept : SomeKept n (t .rows) w
-  gathered-kept = record { corpus = c; block = s; objects = g .objects; classes = classes; refs = refs; count = rows-are; holds = kept }
+  classes-are : length classes ≡ t .classes
+  classes-are = length-map (foundBy limit (g .objects) c f .placed) (λ (x : Placed). x .class) ∙ sym (g .state .entered (g .all) .0)
+
+  -- its classes can be linked
+  pub gathered-classes : SomeClasses n (t .classes) w
+  gathered-classes = record {
+    some = record { corpus = c; block = s; objects = g .objects; classes = classes; holds = kept .tables };
+    inside = omega (arith, classes-are);
+  }
+
+  -- and it can be resolved once they are
+  module _ {v : List ℕ} (l : Links n (t .classes) w v) where
+    linked : Kept c s (g .objects) n classes refs v
+    linked = l c s (g .objects) classes refs kept (omega (arith, classes-are))
+
+    pub gathered-kept : SomeKept n (t .rows) v
+    gathered-kept = record { corpus = c; block = s; objects = g .objects; classes = classes; refs = refs; count = rows-are; holds = linked }
 
   -- no key stands twice, and the work buffer is long enough
   once : noneTwice (firstRepeat [] (foundBy limit (g .objects) c f .placed)) ≡ accepted tt
@@ -48,23 +67,24 @@ module _ {limit : ℕ} {c : List ℕ} {f : Frame} {s : List ℕ} {n : ℕ} {t : 
 -- ---- once it is resolved
 
 -- what classes and native classes take: `total` bytes
-pub record Summed (lookups limit : ℕ) (c : List ℕ) (f : Frame) (s : List ℕ) (n : ℕ) (t : Census) (w w′ : List ℕ) (total : ℕ) : Type 0 where
+pub record Summed (lookups limit : ℕ) (c : List ℕ) (f : Frame) (s : List ℕ) (n : ℕ) (t : Census) (w v w′ : List ℕ) (total : ℕ) : Type 0 where
   pub begun : Begun c f s
   pub packages : Packages c f
   pub gathered : Gathered limit c f s n t w
-  pub resolves : (s b : List ℕ) (o : Objects) (xs : List Class) (refs : List Ref) → Kept s b o n xs refs w → length refs ≡ t .rows
-      → Resolution (limitsOf lookups limit) s b o n xs refs w w′ total
+  pub links : Links n (t .classes) w v
+  pub resolves : (s b : List ℕ) (o : Objects) (xs : List Class) (refs : List Ref) → Kept s b o n xs refs v → length refs ≡ t .rows
+      → Resolution (limitsOf lookups limit) s b o n xs refs v w′ total
 
-module _ {lookups limit : ℕ} {c : List ℕ} {f : Frame} {s : List ℕ} {n : ℕ} {t : Census} {w w′ : List ℕ} {total : ℕ}
-    (z : Summed lookups limit c f s n t w w′ total) where
+module _ {lookups limit : ℕ} {c : List ℕ} {f : Frame} {s : List ℕ} {n : ℕ} {t : Census} {w v w′ : List ℕ} {total : ℕ}
+    (z : Summed lookups limit c f s n t w v w′ total) where
   abbrev objects : Objects
   objects = z .gathered .objects
 
   abbrev whole : List ℕ
   whole = reportAt (limitsOf lookups limit) objects c (f .«end» + 4) (f .count)
 
-  resolved : Resolution (limitsOf lookups limit) c s objects n (classes (z .gathered)) (refs (z .gathered)) w w′ total
-  resolved = z .resolves c s objects (classes (z .gathered)) (refs (z .gathered)) (kept (z .gathered)) (rows-are (z .gathered))
+  resolved : Resolution (limitsOf lookups limit) c s objects n (classes (z .gathered)) (refs (z .gathered)) v w′ total
+  resolved = z .resolves c s objects (classes (z .gathered)) (refs (z .gathered)) (linked (z .gathered) (z .links)) (rows-are (z .gathered))
 
   whole-size : t .size + total ≡ length whole
   whole-size =

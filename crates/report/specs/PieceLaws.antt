@@ -20,7 +20,7 @@ use Rattle.meaning.specs.Path.{Path, pathOf}
 use Rattle.meaning.specs.Reference.{Ref, script, import, export, null, bad, refIn, refText}
 use Rattle.meaning.specs.Scan.{Class, outerOf, candidateKind, numbered}
 use Rattle.meaning.specs.Resolve.{Limits, look, resolve, foundOr, pathText, classText}
-use Rattle.meaning.specs.Report.{Row as Said, flag, orUnknown, rowVersion, rowRest, rowBytes, rowOf}
+use Rattle.meaning.specs.Report.{Row as Said, flag, rowVersion, rowRest, rowBytes, rowOf}
 use Rattle.objects.specs.Work.{oneIf}
 use Rattle.packages.specs.Meaning.{kindBy, refKind}
 use Rattle.packages.specs.MeaningLaws.{kind-by}
@@ -32,7 +32,7 @@ use Rattle.packages.specs.RowLaws.{row-holds, row-names}
 use Rattle.packages.specs.declared.package.Parts.{Parts}
 use Rattle.packages.specs.declared.rows.Row.{Row}
 use Rattle.resolve.specs.Rows.{limitsOf}
-use Rattle.report.specs.Written.{isSome, classOf, nativeText}
+use Rattle.report.specs.Written.{isSome, bothTexts}
 use Rattle.report.specs.WrittenLaws.{behind, again}
 use Rattle.report.specs.Pieces.{rowTexts, referenceText, kindFor, rowFront, rowNo, RowDue, TextsPut}
 use Rattle.resolve.specs.declared.rows.Led.{Led}
@@ -130,7 +130,7 @@ module _ {s b : List ℕ} {n : ℕ} {w d : List ℕ} {p : Parts} {v : Row} {l : 
   pub due-holds : Bytes d → RowHolds d v
   due-holds y = rw (due .row-is) (row-holds a y i (due .inside))
 
-  pub due-kind : {kind : ℕ} → kind ≡ kindBy p (v .class) → kind ≡ refKind ref
+  due-kind : {kind : ℕ} → kind ≡ kindBy p (v .class) → kind ≡ refKind ref
   due-kind e = e ∙ rw class-is (kind-by a id (exportNo d i .class))
 
   reference-is : referenceText d (v .class) ≡ textBytes (refText ref)
@@ -138,11 +138,11 @@ module _ {s b : List ℕ} {n : ℕ} {w d : List ℕ} {p : Parts} {v : Row} {l : 
   reference-is = rw (class-is, text-any (readIn d) id (exportNo d i .class))
 
   pub texts-are : Bytes d → rowTexts said
-      ≡ namesAt d v ++ textBytes (orUnknown (classOf (limitsOf lookups objects) xs o ref)) ++ textBytes (orUnknown (nativeText (limitsOf lookups objects) xs o ref)) ++ referenceText d (v .class)
+      ≡ namesAt d v ++ bothTexts (limitsOf lookups objects) xs o ref ++ referenceText d (v .class)
   unfolding rowTexts rowOf
   texts-are y =
       let e = row-names a y i (due .inside) in
-      rw (reference-is, due .row-is, e)
+      rw (reference-is, due .row-is, e) (simp append-assoc)
 
   -- ---- the front
 

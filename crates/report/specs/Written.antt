@@ -1,10 +1,10 @@
 -- What the writers are lent: the resolved work buffer, and room for what they write. Assumes nothing.
 use mathlib.Core.Path.{_≡_}
 use mathlib.Core.Bool.{Bool, true, false}
-use mathlib.Core.List.{List}
+use mathlib.Core.List.{List, _++_}
 use mathlib.Core.Option.{Option, none, some}
-use Prim.Native.Nat.{ℕ, _≤_, _<_}
-use lib.ListN.{length, getD}
+use Prim.Native.Nat.{ℕ, _*_, _≤_, _<_}
+use lib.ListN.{length, drop}
 use Rattle.text.specs.Name.{textBytes}
 use Rattle.text.specs.Output.{Wrote}
 use Rattle.zen.specs.Script.{Objects}
@@ -12,15 +12,16 @@ use Rattle.meaning.specs.Reference.{Ref, refIn}
 use Rattle.meaning.specs.Resolve.{Limits, look, nativeOf, resolve, pathText}
 use Rattle.meaning.specs.Report.{orUnknown, rowOf, rowBytes, reportOf}
 use Rattle.meaning.specs.Scan.{Class, candidateKind}
-use Rattle.packages.specs.Meaning.{refKind}
 use Rattle.packages.specs.Package.{readIn, packageIn}
 use Rattle.packages.specs.Row.{exportNo, rowIn}
 use Rattle.packages.specs.Walk.{packagesAt}
 use Rattle.packages.specs.declared.package.Parts.{Parts}
 use Rattle.packages.specs.declared.rows.Row.{Row}
+use Rattle.resolve.specs.Classes.{classNo, ClassesIn}
 use Rattle.resolve.specs.Rows.{classNumber, objectNumber, columnsOf, limitsOf, Tables, Resolved}
-use Rattle.report.specs.Found.{Found, classesIn, foundIn}
+use Rattle.report.specs.Found.{classesIn, foundIn}
 use Rattle.resolve.specs.declared.rows.Led.{Led}
+use Rattle.report.specs.declared.texts.Both.{Both}
 use Rattle.report.specs.declared.texts.Told.{Told}
 
 -- "a known flag is 1 exactly where the text was found"
@@ -46,16 +47,24 @@ classOf m xs o r = resolve m (look xs) o r .class
 abbrev pub nativeText : Limits → List Class → Objects → Ref → Option (List ℕ)
 nativeText m xs o r = pathText (nativeOf m (look xs) o r)
 
--- some reference leads to l, and the buffer has room for its class (its native class, its whole row)
-pub record ClassRoom (s b : List ℕ) (n objects kind : ℕ) (w : List ℕ) (l : Led) (out : List ℕ) : Type 0 where
-  pub read : Objects
-  pub classes : List Class
-  pub lookups : ℕ
-  pub ref : Ref
-  pub target : Target s b read n classes lookups w ref l
-  pub kind-is : kind ≡ refKind ref
-  pub room : length (textBytes (orUnknown (classOf (limitsOf lookups objects) classes read ref))) ≤ length out
+-- the texts of both, and that they were written
+abbrev pub bothTexts : Limits → List Class → Objects → Ref → List ℕ
+bothTexts m xs o r = textBytes (orUnknown (classOf m xs o r)) ++ textBytes (orUnknown (nativeText m xs o r))
 
+pub record BothPut (m : Limits) (xs : List Class) (o : Objects) (r : Ref) (old new : List ℕ) (t : Both) : Type 0 where
+  pub wrote : Wrote old (bothTexts m xs o r) new (t .size)
+  pub class : t .class ≡ isSome (classOf m xs o r)
+  pub native : t .native ≡ isSome (nativeText m xs o r)
+
+-- class i of the corpus s is entered, and the buffer has room for its text
+pub record ClassRoom (s : List ℕ) (n i : ℕ) (w out : List ℕ) : Type 0 where
+  pub front : 48 * n ≤ length w
+  pub classes : List Class
+  pub holds : ClassesIn s (4 * n) classes (drop (48 * n) w)
+  pub inside : i < length classes
+  pub room : length (textBytes (classNo classes i .path)) ≤ length out
+
+-- some reference leads to l, and the buffer has room for its native class (for class and native class, its whole row)
 pub record NativeRoom (b : List ℕ) (n objects : ℕ) (w : List ℕ) (l : Led) (out : List ℕ) : Type 0 where
   pub corpus : List ℕ
   pub read : Objects
@@ -64,6 +73,14 @@ pub record NativeRoom (b : List ℕ) (n objects : ℕ) (w : List ℕ) (l : Led) 
   pub ref : Ref
   pub target : Target corpus b read n classes lookups w ref l
   pub room : length (textBytes (orUnknown (nativeText (limitsOf lookups objects) classes read ref))) ≤ length out
+
+pub record BothRoom (s b : List ℕ) (n objects : ℕ) (w : List ℕ) (l : Led) (out : List ℕ) : Type 0 where
+  pub read : Objects
+  pub classes : List Class
+  pub lookups : ℕ
+  pub ref : Ref
+  pub target : Target s b read n classes lookups w ref l
+  pub room : length (bothTexts (limitsOf lookups objects) classes read ref) ≤ length out
 
 -- the row of export i of the package with this id, whose block d is
 abbrev pub rowFor : Limits → List Class → Objects → ℕ → List ℕ → ℕ → List ℕ

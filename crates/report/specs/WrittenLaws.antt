@@ -19,10 +19,10 @@ use Rattle.text.specs.OutputLaws.{wrote-as, wrote-count, wrote-byte, wrote-fron
 use Rattle.text.specs.Utf8.{utf8}
 use Rattle.text.specs.Utf8Laws.{utf8-ascii}
 use Rattle.zen.specs.Script.{Objects}
-use Rattle.meaning.specs.Path.{Path, pathOf}
-use Rattle.meaning.specs.Reference.{Ref, script, import, export, null, bad}
+use Rattle.meaning.specs.Path.{Path}
+use Rattle.meaning.specs.Reference.{Ref}
 use Rattle.meaning.specs.Report.{orUnknown}
-use Rattle.meaning.specs.Resolve.{Limits, look, nativeOf, resolve, foundOr, pathText, classText}
+use Rattle.meaning.specs.Resolve.{pathText}
 use Rattle.meaning.specs.Scan.{Class}
 use Rattle.objects.specs.Numbers.{pathNo}
 use Rattle.objects.specs.PathLaws.{path-end, path-lost, outer-no}
@@ -31,13 +31,10 @@ use Rattle.objects.specs.Work.{objectNo, Stands}
 use Rattle.objects.specs.declared.object.Object.{Object}
 use Rattle.objects.specs.declared.path.Path.{Path as Told}
 use Rattle.objects.specs.declared.path.Path.the-variants.{Known, Unknown}
-use Rattle.packages.specs.Meaning.{refKind}
-use Rattle.resolve.specs.Classes.{classNo, ClassesIn, PathRoom}
-use Rattle.resolve.specs.ClassesLaws.{byNumber, look-seek}
-use Rattle.resolve.specs.ChainLaws.{follow-end}
+use Rattle.resolve.specs.Classes.{classNo}
 use Rattle.resolve.specs.Lent.{lent-part, lent-length}
-use Rattle.resolve.specs.Rows.{classNumber, objectNumber, columnsOf, pathBy, limitsOf}
-use Rattle.resolve.specs.RowsLaws.{class-inside, object-inside, native-by}
+use Rattle.resolve.specs.Rows.{objectNumber, columnsOf, pathBy, limitsOf}
+use Rattle.resolve.specs.RowsLaws.{class-inside, class-lost, class-found, object-inside, native-by}
 use Rattle.report.specs.Written.{Put, Target, classOf, nativeText}
 use Rattle.resolve.specs.declared.rows.Led.{Led}
 use Rattle.report.specs.declared.texts.Told.{Told as Text}
@@ -208,57 +205,15 @@ module _ {c b : List ℕ} {o : Objects} {n : ℕ} {xs : List Class} {lookups : �
 
 -- ---- the class
 
-found-class : (k : ℕ) (x : Option (List ℕ)) → foundOr k x .class ≡ x
-found-class k none = refl
-found-class k (some t) = refl
+module _ {c b : List ℕ} {o : Objects} {n : ℕ} {xs : List Class} {lookups : ℕ} {w : List ℕ} {r : Ref} {l : Led} (t : Target c b o n xs lookups w r l) (objects : ℕ) where
+  -- where there is no class of the table it is the native class
+  pub class-same : l .class ≡ 0 → classOf (limitsOf lookups objects) xs o r ≡ nativeText (limitsOf lookups objects) xs o r
+  class-same z = class-lost (limitsOf lookups objects) xs o r (sym (t .class) ∙ z)
 
--- a script object's class is its native class
-pub class-script : (m : Limits) (xs : List Class) (o : Objects) (r : Ref) → refKind r ≡ 0 → classOf m xs o r ≡ nativeText m xs o r
-unfolding resolve nativeOf
-class-script m xs o (script g) e = rw (found-class 0 (pathText (pathOf (m .objects) o g)), follow-end (look xs) (script g) (m .lookups) refl)
-class-script m xs o (import k name hash) e = absurd (omega arith)
-class-script m xs o (export k name) e = absurd (omega arith)
-class-script m xs o null e = absurd (omega arith)
-class-script m xs o (bad x) e = absurd (omega arith)
-
--- any other's is that of the number that it leads to
-class-other : (m : Limits) (xs : List Class) (o : Objects) (r : Ref) → (refKind r ≡ 0 → ⊥) → classOf m xs o r ≡ classText (byNumber xs (classNumber xs r))
-unfolding resolve classNumber
-class-other m xs o (script g) n = absurd (n refl)
-class-other m xs o (import k name hash) n = found-class 2 _ ∙ ap classText (look-seek xs k)
-class-other m xs o (export k name) n = found-class 4 _ ∙ ap classText (look-seek xs k)
-class-other m xs o null n = refl
-class-other m xs o (bad x) n = refl
-
-module _ {c b : List ℕ} {o : Objects} {n : ℕ} {xs : List Class} {lookups : ℕ} {w : List ℕ} {r : Ref} {l : Led} (t : Target c b o n xs lookups w r l) (objects : ℕ)
-    (not : refKind r ≡ 0 → ⊥) where
-  class-by : classOf (limitsOf lookups objects) xs o r ≡ classText (byNumber xs (l .class))
-  class-by = class-other (limitsOf lookups objects) xs o r not ∙ rw (t .class)
-
-  pub class-none : l .class ≡ 0 → classOf (limitsOf lookups objects) xs o r ≡ none
-  class-none z = class-by ∙ rw z
-
-  module _ (z : l .class ≡ 0 → ⊥) (s : List ℕ) (room : length (textBytes (orUnknown (classOf (limitsOf lookups objects) xs o r))) ≤ length s) where
-    class-in : l .class - 1 < length xs
+  -- else that of the number before
+  module _ (z : l .class ≡ 0 → ⊥) where
+    pub class-in : l .class - 1 < length xs
     class-in = omega (arith, class-inside xs r, t .class)
 
-    class-some : classOf (limitsOf lookups objects) xs o r ≡ some (classNo xs (l .class - 1) .path)
-    class-some = let k : l .class ≡ suc (l .class - 1) = omega arith in class-by ∙ ap (λ (i : ℕ). classText (byNumber xs i)) k
-
-    size-in : 4 + length (utf8 (classNo xs (l .class - 1) .path)) ≤ length s
-    size-in = rw (class-some, textBytes-length (classNo xs (l .class - 1) .path)) at room
-
-    classes-in : ClassesIn c (4 * n) xs (behind (48 * n) w)
-    classes-in = rw (lent-part (48 * n) w) (t .tables .classes)
-
-    pub class-room : PathRoom c (4 * n) (l .class - 1) (behind (48 * n) w) (behind 4 s)
-    class-room = record { classes = xs; holds = classes-in; inside = class-in; room = omega (arith, size-in, behind-length 4 s (omega (arith, size-in))) }
-
-    -- its path was written behind the first four bytes
-    module _ {p : List ℕ} {k : ℕ}
-        (put : (ys : List Class) → ClassesIn c (4 * n) ys (behind (48 * n) w) → l .class - 1 < length ys → Wrote (behind 4 s) (utf8 (classNo ys (l .class - 1) .path)) p k) where
-      pub class-fits : 4 + k ≤ length s
-      class-fits = omega (arith, put xs classes-in class-in .fits, behind-length 4 s (omega (arith, size-in)))
-
-      pub class-put : {q : List ℕ} {m : ℕ} → Wrote (again 4 s p) (beBytes 4 k) q m → Put (classOf (limitsOf lookups objects) xs o r) s q (record { size = 4 + k; known = true })
-      class-put v = rw class-some (known-put (omega (arith, size-in)) (put xs classes-in class-in) v)
+    pub class-some : classOf (limitsOf lookups objects) xs o r ≡ some (classNo xs (l .class - 1) .path)
+    class-some = class-found (limitsOf lookups objects) xs o r (l .class - 1) (omega (arith, t .class))

@@ -21,6 +21,7 @@ use objects::link::link;
 use packages::frame::Frame;
 use packages::frame::Framed;
 use packages::frame::read_frame;
+use resolve::links::link_classes;
 use resolve::rows::resolve_all;
 use scan::check::Blocks;
 use scan::check::check_packages;
@@ -81,6 +82,7 @@ fn finish(
     requires { ⌜ Begun (now c) f (now s) × Packages (now c) f × Gathered objects (now c) f (now s) n t (now w) × (objects ≤ 65) ⌝ }
     ensures { λ r. ⌜ Answered (limitsOf lookups objects) (now (c .entry)) (length (now (w .entry))) (now (report .entry)) (now (report .exit)) r ⌝ }
 {
+    link_classes(w, n, t.classes);
     let size = t.size + resolve_all(w, n, t.rows, lookups, objects);
     if 4294967299 < size {
         return refuse(26, 0);

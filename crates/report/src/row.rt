@@ -15,9 +15,8 @@ ghost use Rattle.packages.specs.Row.{exportNo, rowIn};
 ghost use Rattle.resolve.specs.Rows.{limitsOf};
 ghost use Rattle.report.specs.Written.{Target, rowFor, RowRoom};
 ghost use Rattle.report.specs.Pieces.{kindFor, numberedAs, rowTexts, rowFront, rowNo, referenceText, RowDue, TextsRoom, TextsPut};
-use super::texts::put_class;
+use super::texts::put_both;
 use super::texts::put_length;
-use super::texts::put_native;
 use packages::package::Parts;
 use packages::package::kind_of;
 use packages::reference::put_reference;
@@ -125,15 +124,13 @@ fn put_texts(
         → TextsPut (rowNo (limitsOf lookups objects) xs o id (now (b .entry)) i) (now (out .entry)) (now (out .exit)) t) ⌝ }
 {
     let first = put_names(out, b, v);
-    let class = put_class(&mut out[first..], c, s, w, n, kind, l, objects);
-    let second = first + class.size;
-    let native = put_native(&mut out[second..], s, w, n, l, objects);
-    let third = second + native.size;
-    let size = third + put_ref(&mut out[third..], b, p, names, imported, v.class, kind);
+    let both = put_both(&mut out[first..], c, s, w, n, l, objects);
+    let second = first + both.size;
+    let size = second + put_ref(&mut out[second..], b, p, names, imported, v.class, kind);
     Texts {
         size,
-        class: class.known,
-        native: native.known,
+        class: both.class,
+        native: both.native,
     }
 }
 

@@ -1,9 +1,8 @@
 // Class and native class of a row, written as texts.
-ghost use mathlib.Core.List.{List};
+ghost use mathlib.Core.List.{List, _++_};
 ghost use mathlib.Core.Option.{none};
-ghost use mathlib.Core.Path.{_≡_};
-ghost use Prim.Native.Nat.{ℕ, _≤_};
-ghost use lib.ListN.{length};
+ghost use Prim.Native.Nat.{ℕ, _+_, _*_, _≤_, _<_};
+ghost use lib.ListN.{length, drop};
 ghost use Rattle.text.specs.Name.{textBytes};
 ghost use Rattle.text.specs.Number.{beBytes};
 ghost use Rattle.text.specs.Output.{Wrote};
@@ -11,9 +10,9 @@ ghost use Rattle.zen.specs.Script.{Objects};
 ghost use Rattle.meaning.specs.Reference.{Ref};
 ghost use Rattle.meaning.specs.Report.{orUnknown};
 ghost use Rattle.meaning.specs.Scan.{Class};
-ghost use Rattle.packages.specs.Meaning.{refKind};
+ghost use Rattle.resolve.specs.Classes.{classNo, ClassesIn};
 ghost use Rattle.resolve.specs.Rows.{limitsOf};
-ghost use Rattle.report.specs.Written.{Put, Target, classOf, nativeText, ClassRoom, NativeRoom};
+ghost use Rattle.report.specs.Written.{Put, Target, nativeText, bothTexts, BothPut, ClassRoom, NativeRoom, BothRoom};
 use objects::path::Path;
 use objects::path::put_path;
 use resolve::paths::put_class_path;
@@ -48,7 +47,7 @@ fn put_unknown(out: &mut [u8]) -> Told
 }
 
 // The native class's text; w is the work buffer, with n script objects of the block s in front.
-pub fn put_native(out: &mut [u8], s: &[u8], w: &[u8], n: usize, l: Led, objects: usize) -> Told
+fn put_native(out: &mut [u8], s: &[u8], w: &[u8], n: usize, l: Led, objects: usize) -> Told
     requires { ⌜ NativeRoom (now s) n objects (now w) l (now out) ⌝ }
     ensures { λ t. ⌜ ((c : List ℕ) (o : Objects) (xs : List Class) (lookups : ℕ) (r : Ref) → Target c (now (s .entry)) o n xs lookups (now (w .entry)) r l
         → length (textBytes (orUnknown (nativeText (limitsOf lookups objects) xs o r))) ≤ length (now (out .entry))
@@ -72,34 +71,65 @@ pub fn put_native(out: &mut [u8], s: &[u8], w: &[u8], n: usize, l: Led, objects:
     }
 }
 
-// The class's text; kind is that of the reference, were it found.
-pub fn put_class(
+// The text of class i of the table behind the n script objects.
+fn put_class(out: &mut [u8], c: &[u8], w: &[u8], n: usize, i: usize) -> usize
+    requires { ⌜ ClassRoom (now c) n i (now w) (now out) ⌝ }
+    ensures { λ r. ⌜ ((xs : List Class) → ClassesIn (now (c .entry)) (4 * n) xs (drop (48 * n) (now (w .entry))) → i < length xs
+        → Wrote (now (out .entry)) (textBytes (classNo xs i .path)) (now (out .exit)) r) ⌝ }
+{
+    let size = 48 * n;
+    let k = put_class_path(&mut out[4..], c, &w[size..], 4 * n, i);
+    put_length(out, k) + k
+}
+
+// The first n bytes, once more behind themselves.
+fn put_again(out: &mut [u8], n: usize) -> usize
+    requires { ⌜ n + n ≤ length (now out) ⌝ }
+    ensures { λ r. ⌜ ((old a : List ℕ) → Wrote old a (now (out .entry)) n → Wrote old (a ++ a) (now (out .exit)) r) ⌝ }
+{
+    let mut i: usize = 0;
+    while i < n {
+        out[n + i] = out[i];
+        i += 1;
+    }
+    n + n
+}
+
+// Class and native class: how many bytes their texts take, and whether they are known.
+pub struct Both {
+    pub size: usize,
+    pub class: bool,
+    pub native: bool,
+}
+
+// The texts of class and native class. Without a class of the table they are the same, and the path is worked out once.
+pub fn put_both(
     out: &mut [u8],
     c: &[u8],
     s: &[u8],
     w: &[u8],
     n: usize,
-    kind: u8,
     l: Led,
     objects: usize,
-) -> Told
-    requires { ⌜ ClassRoom (now c) (now s) n objects kind (now w) l (now out) ⌝ }
-    ensures { λ t. ⌜ ((o : Objects) (xs : List Class) (lookups : ℕ) (r : Ref) → Target (now (c .entry)) (now (s .entry)) o n xs lookups (now (w .entry)) r l → kind ≡ refKind r
-        → length (textBytes (orUnknown (classOf (limitsOf lookups objects) xs o r))) ≤ length (now (out .entry))
-        → Put (classOf (limitsOf lookups objects) xs o r) (now (out .entry)) (now (out .exit)) t) ⌝ }
+) -> Both
+    requires { ⌜ BothRoom (now c) (now s) n objects (now w) l (now out) ⌝ }
+    ensures { λ t. ⌜ ((o : Objects) (xs : List Class) (lookups : ℕ) (r : Ref) → Target (now (c .entry)) (now (s .entry)) o n xs lookups (now (w .entry)) r l
+        → length (bothTexts (limitsOf lookups objects) xs o r) ≤ length (now (out .entry))
+        → BothPut (limitsOf lookups objects) xs o r (now (out .entry)) (now (out .exit)) t) ⌝ }
 {
-    if kind == 0 {
-        return put_native(out, s, w, n, l, objects);
+    if l.class == 0 {
+        let t = put_native(out, s, w, n, l, objects);
+        return Both {
+            size: put_again(out, t.size),
+            class: t.known,
+            native: t.known,
+        };
     }
-    let class = l.class;
-    if class == 0 {
-        return put_unknown(out);
-    }
-    let size = 48 * n;
-    let k = put_class_path(&mut out[4..], c, &w[size..], 4 * n, class - 1);
-    put_length(out, k);
-    Told {
-        size: 4 + k,
-        known: true,
+    let first = put_class(out, c, w, n, l.class - 1);
+    let t = put_native(&mut out[first..], s, w, n, l, objects);
+    Both {
+        size: first + t.size,
+        class: true,
+        native: t.known,
     }
 }

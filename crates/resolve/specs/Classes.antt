@@ -1,17 +1,18 @@
 -- What the part of the work buffer behind the script objects holds of the classes: a look-up table whose record k, of 64 bytes, is class k. Its
 -- key is the class's; bytes 24 to 63 are: the place of its package in the corpus (24), its number among the package's exports (28), where the
--- package's name, its own and its outer's start in the package's block (32, 36, 40), what its super means (44, 52), the length of its path in
--- UTF-8 (60). Assumes nothing.
+-- package's name, its own and its outer's start in the package's block (32, 36, 40), what its super means, in words or as a link (44, 52), the
+-- length of its path in UTF-8 (60). Assumes nothing.
 use mathlib.Core.Path.{_≡_}
 use mathlib.Core.List.{List, [], _∷_, _++_}
-use Prim.Native.Nat.{ℕ, _+_, _≤_, _<_}
+use mathlib.Core.Option.{some}
+use Prim.Native.Nat.{ℕ, _+_, _^_, _≤_, _<_}
 use lib.ListN.{length, getD}
 use Rattle.text.specs.Number.{leAt}
 use Rattle.text.specs.Reading.{gives, runBlock}
 use Rattle.text.specs.Utf8.{utf8}
 use Rattle.zen.specs.Zen.{packageBlock}
 use Rattle.meaning.specs.Key.{public}
-use Rattle.meaning.specs.Reference.{null}
+use Rattle.meaning.specs.Reference.{Ref, null, meant}
 use Rattle.meaning.specs.Scan.{Class, classAt}
 use Rattle.table.specs.Words.{stored, Kept}
 use Rattle.table.specs.Table.{recordAt, Holds}
@@ -57,14 +58,18 @@ pub record ClassIn (s : List ℕ) (x : Class) (w : List ℕ) (at : ℕ) : Type 0
   pub home-in : leAt 4 w (at + 32) ≡ homeOf (blockAt s place) .place .start
   pub own-in : leAt 4 w (at + 36) ≡ namesOf (blockAt s place) export .own .place .start
   pub outer-in : leAt 4 w (at + 40) ≡ namesOf (blockAt s place) export .outer .place .start
-  pub lo-in : leAt 8 w (at + 44) ≡ wordsOf (x .super) .lo
-  pub hi-in : leAt 8 w (at + 52) ≡ wordsOf (x .super) .hi
   pub size-in : leAt 4 w (at + 60) ≡ length (utf8 (x .path))
+
+-- what the super r of a class is kept as: its two words; or, once it is linked, 2^63 and the number of the class that it means, and 0
+pub data SuperIn (xs : List Class) (r : Ref) (lo hi : ℕ) : Type 0 where
+  words : lo ≡ wordsOf r .lo → hi ≡ wordsOf r .hi → SuperIn xs r lo hi
+  link : (k : ℕ) → k < length xs → meant r ≡ some (classNo xs k .key) → lo ≡ 2 ^ 63 + k → hi ≡ 0 → SuperIn xs r lo hi
 
 -- classes xs of the corpus s are entered, in n buckets
 pub record ClassesIn (s : List ℕ) (n : ℕ) (xs : List Class) (w : List ℕ) : Type 0 where
   pub keys : Holds n 64 (length xs) (λ i. keyWords (classNo xs i .key) .lo) (λ i. keyWords (classNo xs i .key) .hi) w
   pub columns : (i : ℕ) → i < length xs → ClassIn s (classNo xs i) w (recordAt n 64 i)
+  pub supers : (i : ℕ) → i < length xs → SuperIn xs (classNo xs i .super) (leAt 8 w (recordAt n 64 i + 44)) (leAt 8 w (recordAt n 64 i + 52))
 
 -- k classes of some corpus are; k classes of the corpus s are
 pub record Classes (n k : ℕ) (w : List ℕ) : Type 0 where

@@ -1,6 +1,7 @@
 -- Laws of entering a class: its record says what its package's block says, and those before it stay. Assumes nothing.
 use mathlib.Core.Path.{_≡_, refl, sym, _∙_, ap}
 use mathlib.Core.List.{List, [], _∷_, _++_}
+use mathlib.Core.Option.{some}
 use Prim.Native.Nat.{ℕ, _+_, _-_, _^_, _≤_, _<_}
 use native.Mathlib.Decide.{ℕ-discrete}
 use native.Mathlib.Omega.{arith}
@@ -10,7 +11,7 @@ use Rattle.text.specs.Number.{beAt, leAt}
 use Rattle.text.specs.NumberLaws.{Bytes}
 use Rattle.text.specs.Utf8.{utf8}
 use Rattle.meaning.specs.Key.{public}
-use Rattle.meaning.specs.Reference.{refIn}
+use Rattle.meaning.specs.Reference.{Ref, refIn}
 use Rattle.meaning.specs.Scan.{Class, classAt}
 use Rattle.zen.specs.declared.tables.Export.{Export}
 use Rattle.packages.specs.ClassPath.{pathBytes, home-holds}
@@ -32,8 +33,8 @@ use Rattle.table.specs.TableLaws.{record-other, holds-keys, holds-column}
 use Rattle.table.specs.AddedLaws.{added-read, added-kept}
 use Rattle.table.specs.Words.{Kept}
 use Rattle.table.specs.WordLaws.{kept-read, kept-then, kept-wider}
-use Rattle.resolve.specs.Classes.{noClass, classNo, classFrom, described, ClassIn, ClassesIn, Entered, Stands}
-use Rattle.resolve.specs.ClassesLaws.{class-key, key-words, class-hashed, hashed-key, block-home, block-names, block-path, class-same}
+use Rattle.resolve.specs.Classes.{noClass, classNo, classFrom, described, ClassIn, SuperIn, words, link, ClassesIn, Entered, Stands}
+use Rattle.resolve.specs.ClassesLaws.{class-key, key-words, class-hashed, hashed-key, block-home, block-names, block-path, class-same, super-same}
 use Rattle.resolve.specs.Stores.{Cell, noCell, stores, stores-kept, stores-read}
 
 -- ---- a record filled in
@@ -78,11 +79,21 @@ module _ (k : ℕ) (xs : List Class) (x : Class) (q : length xs ≡ k) where
   class-last : classNo (xs ++ (x ∷ [])) k ≡ x
   class-last = getD-at xs x [] noClass k q
 
+  -- a super stays kept as it is
+  super-before : {r : Ref} {lo hi : ℕ} → SuperIn xs r lo hi → SuperIn (xs ++ (x ∷ [])) r lo hi
+  super-before (words p h) = words p h
+  super-before (link j g e p h) = link j (omega (arith, one-more)) (e ∙ ap (λ (c : Class). some (c .key)) (sym (class-before j (omega arith)))) p h
+
   -- it is entered where its key was added, and its record filled in, with nothing else changed
   pub classes-more : {n id hash : ℕ} {s w v w′ : List ℕ} → ClassesIn s n xs w → x .key ≡ public id hash → (hash ≡ 0 → ⊥) → Added n 64 k id hash w v
-      → Kept (recordAt n 64 k + 24) (recordAt n 64 k + 64) v w′ → ClassIn s x w′ (recordAt n 64 k) → Entered s n xs x w w′
-  classes-more {n} {id} {hash} {s} {w} {v} {w′} t e h a d own = record {
-    holds = record { keys = rw one-more (holds-column added d k (omega arith) (omega arith)); columns = λ j g. column j (omega (arith, one-more)) (ℕ-discrete k j) };
+      → Kept (recordAt n 64 k + 24) (recordAt n 64 k + 64) v w′ → ClassIn s x w′ (recordAt n 64 k)
+      → leAt 8 w′ (recordAt n 64 k + 44) ≡ wordsOf (x .super) .lo → leAt 8 w′ (recordAt n 64 k + 52) ≡ wordsOf (x .super) .hi → Entered s n xs x w w′
+  classes-more {n} {id} {hash} {s} {w} {v} {w′} t e h a d own lo hi = record {
+    holds = record {
+      keys = rw one-more (holds-column added d k (omega arith) (omega arith));
+      columns = λ j g. column j (omega (arith, one-more)) (ℕ-discrete k j);
+      supers = λ j g. super j (omega (arith, one-more)) (ℕ-discrete k j);
+    };
     kept = rw q (kept-then (added-kept a) (kept-wider d 0 (recordAt n 64 (k + 1)) (omega arith) (omega arith)));
   }
     where
@@ -94,12 +105,23 @@ module _ (k : ℕ) (xs : List Class) (x : Class) (q : length xs ≡ k) where
           (λ j g. ap (λ (c : Class). keyWords (c .key) .lo) (class-before j g)) (λ j g. ap (λ (c : Class). keyWords (c .key) .hi) (class-before j g)))
           (sym (ap (λ (m : Words). m .lo) u)) (sym (ap (λ (m : Words). m .hi) u))
 
+      same : (j : ℕ) → (k ≡ j → ⊥) → (i c : ℕ) → 24 ≤ c → c + i ≤ 64 → leAt i w′ (recordAt n 64 j + c) ≡ leAt i w (recordAt n 64 j + c)
+      same j f i c l u =
+          kept-read d i (recordAt n 64 j + c) (record-other n 64 k (recordAt n 64 k + 24) (recordAt n 64 k + 64) (omega arith) (omega arith) j c i f u)
+          ∙ added-read a i j c l u
+
       column : (j : ℕ) → j < k + 1 → Dec (k ≡ j) → ClassIn s (classNo (xs ++ (x ∷ [])) j) w′ (recordAt n 64 j)
       column j g (yes f) = rw (← f, class-last) own
       column j g (no f) =
           rw (class-before j (omega arith))
-          (class-same (t .columns j (omega arith)) (λ i c l u. kept-read d i (recordAt n 64 j + c)
-          (record-other n 64 k (recordAt n 64 k + 24) (recordAt n 64 k + 64) (omega arith) (omega arith) j c i f u) ∙ added-read a i j c l u))
+          (class-same (t .columns j (omega arith)) (λ i c l u m. same j f i c l u))
+
+      super : (j : ℕ) → j < k + 1 → Dec (k ≡ j)
+          → SuperIn (xs ++ (x ∷ [])) (classNo (xs ++ (x ∷ [])) j .super) (leAt 8 w′ (recordAt n 64 j + 44)) (leAt 8 w′ (recordAt n 64 j + 52))
+      super j g (yes f) = rw (← f, class-last) (words lo hi)
+      super j g (no f) =
+          rw (class-before j (omega arith))
+          (super-same (super-before (t .supers j (omega arith))) (same j f 8 44 (omega arith) (omega arith)) (same j f 8 52 (omega arith) (omega arith)))
 
 -- ---- what a block says of a class
 
@@ -109,9 +131,9 @@ class-keyed {b} {s} {at} i z q g =
     class-key (packageAt s at) i (exportNo (blockAt s at) i) ∙ rw (q, g, z .is)
 
 module _ {b : List ℕ} {p : Parts} (a : PackageIn b p) (y : Bytes b) (i : ℕ) (l : i < p .count) {s : List ℕ} {at : ℕ} (z : Site s at b) where
-  super-same : wordsOf (refIn (packageIn (beAt 8 s at) b) (exportNo b i .parent)) ≡ wordsOf (classFrom s at i .super)
+  super-meant : wordsOf (refIn (packageIn (beAt 8 s at) b) (exportNo b i .parent)) ≡ wordsOf (classFrom s at i .super)
   unfolding classAt
-  super-same = ap (λ (x : List ℕ). wordsOf (refIn (packageIn (beAt 8 s at) x) (exportNo x i .parent))) (z .is)
+  super-meant = ap (λ (x : List ℕ). wordsOf (refIn (packageIn (beAt 8 s at) x) (exportNo x i .parent))) (z .is)
 
   site-same : Site s at (blockAt s at)
   site-same = rw (z .is) at z
@@ -125,7 +147,7 @@ module _ {b : List ℕ} {p : Parts} (a : PackageIn b p) (y : Bytes b) (i : ℕ) 
     length-is = ln ∙ rw (hm, rm) (ap length (block-path a z y i l))
 
     super-is : m ≡ wordsOf (classFrom s at i .super)
-    super-is = mm ∙ rw (q, g) super-same
+    super-is = mm ∙ rw (q, g) super-meant
 
     small : (at < 2 ^ 32) × (i < 2 ^ 32) × (home .place .start < 2 ^ 32) × (row .own .place .start < 2 ^ 32) × (row .outer .place .start < 2 ^ 32)
     small =
@@ -144,6 +166,10 @@ module _ {b : List ℕ} {p : Parts} (a : PackageIn b p) (y : Bytes b) (i : ℕ) 
     abbrev pub new : ℕ → List ℕ → List ℕ
     new r w = described r at i (home .place .start) (row .own .place .start) (row .outer .place .start) m len w
 
+    column-read : (r : ℕ) (w : List ℕ) → r + 64 ≤ length w → (j : ℕ) → j < 8 → getD columns j noCell .value < 256 ^ getD columns j noCell .width
+        → leAt (getD columns j noCell .width) (new r w) (r + getD columns j noCell .from) ≡ getD columns j noCell .value
+    column-read r w room = described-read at i (home .place .start) (row .own .place .start) (row .outer .place .start) m len r w room
+
     class-described : (r : ℕ) (w : List ℕ) → r + 64 ≤ length w → ClassIn s (classFrom s at i) (new r w) r
     class-described r w room = record {
       place = at;
@@ -154,19 +180,19 @@ module _ {b : List ℕ} {p : Parts} (a : PackageIn b p) (y : Bytes b) (i : ℕ) 
       hashed = rw (z .is) at h;
       is = refl;
       short = rw (← length-is) short;
-      place-in = back 0 (omega arith) (small .0);
-      export-in = back 1 (omega arith) (small .1);
-      home-in = back 2 (omega arith) (small .2) ∙ ap (λ (x : Name). x .place .start) (hm ∙ block-home a z);
-      own-in = back 3 (omega arith) (small .3) ∙ ap (λ (x : Row). x .own .place .start) (rm ∙ block-names a z i);
-      outer-in = back 4 (omega arith) (small .4) ∙ ap (λ (x : Row). x .outer .place .start) (rm ∙ block-names a z i);
-      lo-in = back 5 (omega arith) lo ∙ ap (λ (x : Words). x .lo) super-is;
-      hi-in = back 6 (omega arith) hi ∙ ap (λ (x : Words). x .hi) super-is;
-      size-in = back 7 (omega arith) (omega arith) ∙ length-is;
+      place-in = column-read r w room 0 (omega arith) (small .0);
+      export-in = column-read r w room 1 (omega arith) (small .1);
+      home-in = column-read r w room 2 (omega arith) (small .2) ∙ ap (λ (x : Name). x .place .start) (hm ∙ block-home a z);
+      own-in = column-read r w room 3 (omega arith) (small .3) ∙ ap (λ (x : Row). x .own .place .start) (rm ∙ block-names a z i);
+      outer-in = column-read r w room 4 (omega arith) (small .4) ∙ ap (λ (x : Row). x .outer .place .start) (rm ∙ block-names a z i);
+      size-in = column-read r w room 7 (omega arith) (omega arith) ∙ length-is;
     }
-      where
-        back : (j : ℕ) → j < 8 → getD columns j noCell .value < 256 ^ getD columns j noCell .width
-            → leAt (getD columns j noCell .width) (new r w) (r + getD columns j noCell .from) ≡ getD columns j noCell .value
-        back = described-read at i (home .place .start) (row .own .place .start) (row .outer .place .start) m len r w room
+
+    lo-described : (r : ℕ) (w : List ℕ) → r + 64 ≤ length w → leAt 8 (new r w) (r + 44) ≡ wordsOf (classFrom s at i .super) .lo
+    lo-described r w room = column-read r w room 5 (omega arith) lo ∙ ap (λ (x : Words). x .lo) super-is
+
+    hi-described : (r : ℕ) (w : List ℕ) → r + 64 ≤ length w → leAt 8 (new r w) (r + 52) ≡ wordsOf (classFrom s at i .super) .hi
+    hi-described r w room = column-read r w room 6 (omega arith) hi ∙ ap (λ (x : Words). x .hi) super-is
 
     -- THE WAY IN: its key was added, and its record filled in
     pub class-entered : {n k r : ℕ} {xs : List Class} {w v w′ : List ℕ} → ClassesIn s n xs w → length xs ≡ k → Added n 64 k id (e .hash) w v → r ≡ recordAt n 64 k
@@ -176,7 +202,7 @@ module _ {b : List ℕ} {p : Parts} (a : PackageIn b p) (y : Bytes b) (i : ℕ) 
         rw (u, f)
         (classes-more k xs (classFrom s at i) c t (class-keyed i z q g) (rw g h) d
         (described-kept at i (home .place .start) (row .own .place .start) (row .outer .place .start) m len (recordAt n 64 k) v room)
-        (class-described (recordAt n 64 k) v room))
+        (class-described (recordAt n 64 k) v room) (lo-described (recordAt n 64 k) v room) (hi-described (recordAt n 64 k) v room))
 
 -- one of those before it has its key, where that was found
 pub class-stands : {s : List ℕ} {n id hash r : ℕ} {xs : List Class} {w : List ℕ} (k : ℕ) (x : Class) → length xs ≡ k → ClassesIn s n xs w → x .key ≡ public id hash

@@ -1,7 +1,7 @@
 -- Laws of the classes in the work buffer: they stay where only bytes behind them change, and a look-up by a key is the class table's. Assumes
 -- nothing.
 use mathlib.Core.Path.{_≡_, refl, sym, _∙_, ap}
-use mathlib.Core.Logic.{inl}
+use mathlib.Core.Logic.{_⊎_, inl, inr}
 use mathlib.Core.Bool.{Bool, true, false}
 use mathlib.Core.List.{List, [], _∷_}
 use mathlib.Core.Option.{Option, none, some}
@@ -19,7 +19,7 @@ use Rattle.text.specs.SeekLaws.{Never, First, never-seek, first-seek, seek-neve
 use Rattle.text.specs.Utf8.{utf8}
 use Rattle.meaning.specs.Key.{Key, public, sameKey}
 use Rattle.meaning.specs.KeyLaws.{sameKey→eq, sameKey-refl, public-hash}
-use Rattle.meaning.specs.Reference.{Package}
+use Rattle.meaning.specs.Reference.{Package, Ref}
 use Rattle.meaning.specs.Resolve.{look}
 use Rattle.meaning.specs.Scan.{Class, classAt, classPath}
 use Rattle.zen.specs.declared.tables.Export.{Export}
@@ -36,7 +36,7 @@ use Rattle.table.specs.Table.{recordAt, Table, cleared}
 use Rattle.table.specs.TableLaws.{record-next, holds-table, holds-distinct, holds-behind, holds-cleared}
 use Rattle.table.specs.Words.{Kept}
 use Rattle.table.specs.WordLaws.{kept-read}
-use Rattle.resolve.specs.Classes.{classNo, classFrom, homeOf, namesOf, ClassIn, ClassesIn}
+use Rattle.resolve.specs.Classes.{classNo, classFrom, homeOf, namesOf, ClassIn, SuperIn, ClassesIn}
 
 -- ---- a class's key
 
@@ -91,10 +91,10 @@ module _ {b : List ℕ} {p : Parts} (a : PackageIn b p) {s : List ℕ} {at : ℕ
   unfolding classAt
   block-path y i l = path-is a y i l (homeIn b p) (home-name a y) 0 ∙ ap (λ (x : List ℕ). utf8 (classPath (readIn x) (exportNo x i))) (z .is)
 
--- ---- what a record says, by its columns alone
+-- ---- what a record says, by its columns alone, the super's apart
 
 pub class-same : {s : List ℕ} {x : Class} {w w′ : List ℕ} {at : ℕ} → ClassIn s x w at
-    → ((k c : ℕ) → 24 ≤ c → c + k ≤ 64 → leAt k w′ (at + c) ≡ leAt k w (at + c)) → ClassIn s x w′ at
+    → ((k c : ℕ) → 24 ≤ c → c + k ≤ 64 → (c + k ≤ 44) ⊎ (60 ≤ c) → leAt k w′ (at + c) ≡ leAt k w (at + c)) → ClassIn s x w′ at
 class-same r same = record {
   place = r .place;
   export = r .export;
@@ -104,15 +104,17 @@ class-same r same = record {
   hashed = r .hashed;
   is = r .is;
   short = r .short;
-  place-in = same 4 24 (omega arith) (omega arith) ∙ r .place-in;
-  export-in = same 4 28 (omega arith) (omega arith) ∙ r .export-in;
-  home-in = same 4 32 (omega arith) (omega arith) ∙ r .home-in;
-  own-in = same 4 36 (omega arith) (omega arith) ∙ r .own-in;
-  outer-in = same 4 40 (omega arith) (omega arith) ∙ r .outer-in;
-  lo-in = same 8 44 (omega arith) (omega arith) ∙ r .lo-in;
-  hi-in = same 8 52 (omega arith) (omega arith) ∙ r .hi-in;
-  size-in = same 4 60 (omega arith) (omega arith) ∙ r .size-in;
+  place-in = same 4 24 (omega arith) (omega arith) (inl (omega arith)) ∙ r .place-in;
+  export-in = same 4 28 (omega arith) (omega arith) (inl (omega arith)) ∙ r .export-in;
+  home-in = same 4 32 (omega arith) (omega arith) (inl (omega arith)) ∙ r .home-in;
+  own-in = same 4 36 (omega arith) (omega arith) (inl (omega arith)) ∙ r .own-in;
+  outer-in = same 4 40 (omega arith) (omega arith) (inl (omega arith)) ∙ r .outer-in;
+  size-in = same 4 60 (omega arith) (omega arith) (inr (omega arith)) ∙ r .size-in;
 }
+
+-- a super kept in the same two numbers
+pub super-same : {xs : List Class} {r : Ref} {lo hi lo′ hi′ : ℕ} → SuperIn xs r lo hi → lo′ ≡ lo → hi′ ≡ hi → SuperIn xs r lo′ hi′
+super-same c p q = rw (p, q) c
 
 -- ---- the table
 
@@ -121,6 +123,7 @@ pub classes-none : (s : List ℕ) (n : ℕ) (w : List ℕ) → n < 2 ^ 32 → 4 
 classes-none s n w few room = record {
   keys = holds-cleared n w room 64 (λ i. keyWords (classNo [] i .key) .lo) (λ i. keyWords (classNo [] i .key) .hi) few (omega arith);
   columns = λ i h. absurd (omega arith);
+  supers = λ i h. absurd (omega arith);
 }
 
 module _ {s : List ℕ} {n : ℕ} {xs : List Class} {w : List ℕ} where
@@ -133,11 +136,14 @@ module _ {s : List ℕ} {n : ℕ} {xs : List Class} {w : List ℕ} where
 -- only bytes behind the records changed
 pub classes-kept : {s : List ℕ} {n : ℕ} {xs : List Class} {w w′ : List ℕ} (b e : ℕ) → ClassesIn s n xs w → Kept b e w w′ → recordAt n 64 (length xs) ≤ b
     → ClassesIn s n xs w′
-classes-kept {s} {n} {xs} b e t k h = record {
+classes-kept {s} {n} {xs} {w} {w′} b e t k h = record {
   keys = holds-behind (t .keys) k h;
-  columns = λ i g. class-same (t .columns i g)
-      (λ j c l u. kept-read k j (recordAt n 64 i + c) (inl (omega (arith, record-next n 64 i (length xs) g))));
+  columns = λ i g. class-same (t .columns i g) (λ j c l u v. same i g j c u);
+  supers = λ i g. super-same (t .supers i g) (same i g 8 44 (omega arith)) (same i g 8 52 (omega arith));
 }
+  where
+    same : (i : ℕ) → i < length xs → (j c : ℕ) → c + j ≤ 64 → leAt j w′ (recordAt n 64 i + c) ≡ leAt j w (recordAt n 64 i + c)
+    same i g j c u = kept-read k j (recordAt n 64 i + c) (inl (omega (arith, record-next n 64 i (length xs) g)))
 
 -- ---- a class by its number
 
@@ -168,6 +174,9 @@ look-seek xs k = go (seek f xs) refl
 
 pub seek-inside : (xs : List Class) (key : Key) (k : ℕ) → seek (λ (c : Class). sameKey (c .key) key) xs ≡ k + 1 → k < length xs
 seek-inside xs key k e = seek-first (λ (c : Class). sameKey (c .key) key) (classNo [] 0) xs k e .here
+
+pub seek-key : (xs : List Class) (key : Key) (k : ℕ) → seek (λ (c : Class). sameKey (c .key) key) xs ≡ k + 1 → classNo xs k .key ≡ key
+seek-key xs key k e = sameKey→eq (classNo xs k .key) key (rw (seek-first (λ (c : Class). sameKey (c .key) key) (classNo [] 0) xs k e .passes) tt)
 
 -- ---- looked up
 
@@ -224,6 +233,15 @@ module _ {s : List ℕ} {n : ℕ} {xs : List Class} {w : List ℕ} (t : ClassesI
             passes = key-same (classNo xs i .key) (public lo hi) own;
             before = λ j h. key-other (classNo xs j .key) (public lo hi) (λ q. classes-distinct j i h l (q ∙ sym own));
           }) ∙ add-one i)
+
+  -- and by its own key each is found
+  pub seek-own : (k : ℕ) → k < length xs → seek (λ (c : Class). sameKey (c .key) (classNo xs k .key)) xs ≡ k + 1
+  seek-own k l =
+      first-seek (λ (c : Class). sameKey (c .key) (classNo xs k .key)) (classNo [] 0) xs k (record {
+        here = l;
+        passes = key-same (classNo xs k .key) (classNo xs k .key) refl;
+        before = λ j h. key-other (classNo xs j .key) (classNo xs k .key) (classes-distinct j k h l);
+      })
 
   -- no class has a hash of 0
   pub seek-none : (i : ℕ) → seek (λ (c : Class). sameKey (c .key) (public i 0)) xs ≡ 0

@@ -16,3 +16,4 @@ pub mod ClassesRead
 pub mod ChainLaws
 pub mod RowsLaws
 pub mod ResolvingLaws
+pub mod LinkLaws

@@ -258,7 +258,7 @@ pub record Part (lookups : ℕ) (s b : List ℕ) (o : Objects) (n : ℕ) (xs : L
 
 -- a row stays where nothing within its bytes changes
 module _ {w w′ : List ℕ} {at : ℕ} {ref : Ref} (same : (k p : ℕ) → at ≤ p → p + k ≤ at + 32 → leAt k w′ p ≡ leAt k w p) where
-  words-same : WordsIn w at ref → WordsIn w′ at ref
+  pub words-same : WordsIn w at ref → WordsIn w′ at ref
   words-same t = record { lo = same 8 at (omega arith) (omega arith) ∙ t .lo; hi = same 8 (at + 8) (omega arith) (omega arith) ∙ t .hi }
 
   target-same : {b : List ℕ} {o : Objects} {xs : List Class} {lookups : ℕ} → TargetIn b o xs lookups w at ref → TargetIn b o xs lookups w′ at ref

@@ -24,7 +24,7 @@ use Rattle.objects.specs.Work.{ObjectsIn, objectNo}
 use Rattle.objects.specs.declared.object.Object.{Object}
 use Rattle.packages.specs.Meaning.{wordsOf}
 use Rattle.packages.specs.declared.package.Words.{Words}
-use Rattle.resolve.specs.Classes.{ClassesIn}
+use Rattle.resolve.specs.Classes.{SuperIn, ClassesIn}
 use Rattle.resolve.specs.declared.rows.Led.{Led}
 
 -- ---- where a reference leads, by number
@@ -65,6 +65,11 @@ pub record Read (r : Ref) : Type 0 where
 pub record Means (x y : ℕ) (r : Ref) : Type 0 where
   pub lo : x ≡ wordsOf r .lo
   pub hi : y ≡ wordsOf r .hi
+  pub read : Read r
+
+-- (x, y) are what such a reference is kept as in a class's record
+pub record Keeps (xs : List Class) (x y : ℕ) (r : Ref) : Type 0 where
+  pub super : SuperIn xs r x y
   pub read : Read r
 
 -- with what its class index means
@@ -127,6 +132,11 @@ pub record SomeTables (n : ℕ) (w : List ℕ) : Type 0 where
   pub objects : Objects
   pub classes : List Class
   pub holds : Tables corpus block objects n classes w
+
+-- with k classes or more
+pub record SomeClasses (n k : ℕ) (w : List ℕ) : Type 0 where
+  pub some : SomeTables n w
+  pub inside : k ≤ length (some .classes)
 
 pub record SomeKept (n rows : ℕ) (w : List ℕ) : Type 0 where
   pub corpus : List ℕ

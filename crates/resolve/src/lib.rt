@@ -3,4 +3,5 @@
 pub mod classes; // classes entered
 pub mod paths; // their paths
 pub mod chain; // where a reference leads
+pub mod links; // classes linked to their supers' classes
 pub mod rows; // rows kept, then resolved

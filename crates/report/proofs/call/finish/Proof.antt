@@ -3,21 +3,24 @@ use mathlib.Core.Path.{refl}
 use native.Mathlib.Omega.{arith}
 use borrow.Author.Needs.{needs}
 use Rattle.report.specs.CallLaws.{begun-sites, begun-few}
-use Rattle.report.proofs.Finished.{gathered-kept, Summed, finish-beyond, finish-outside, finish-room, finish-report}
+use Rattle.report.proofs.Finished.{gathered-classes, gathered-kept, Summed, finish-beyond, finish-outside, finish-room, finish-report}
 use Rattle.report.proofs.call.finish.Statement.{statement}
 use Rattle.report.proofs.call.finish.Tie as tie
 
 -- what the rows come to
-summed : (c : tie.After-resolve-all) → let a = c .before .before .before .before .before .before .args in
-    Summed (a .lookups) (a .objects) (a .c .now) (a .f) (a .s .now) (a .n) (a .t) (a .w .now) (c .resolve-all .last .0) (c .resolve-all .result)
+summed : (c : tie.After-resolve-all) → let a = c .before .before .before .before .before .before .before .before .before .before .args in
+    Summed (a .lookups) (a .objects) (a .c .now) (a .f) (a .s .now) (a .n) (a .t) (a .w .now) (c .before .before .before .before .link-classes .last .0) (c .resolve-all .last .0) (c .resolve-all .result)
 summed c =
-    let (b, a, g, l) = c .before .before .before .before .before .before .pre in
-    record { begun = b; packages = a; gathered = g; resolves = c .resolve-all .ensures .0 }
+    let (b, a, g, l) = c .before .before .before .before .before .before .before .before .before .before .pre in
+    record { begun = b; packages = a; gathered = g; links = c .before .before .before .before .link-classes .ensures; resolves = c .resolve-all .ensures .0 }
+
+link-classes-requires : tie.Need-link-classes-requires
+link-classes-requires c κs = gathered-classes (c .before .before .before .before .before .pre .2)
 
 resolve-all-requires : tie.Need-resolve-all-requires
 resolve-all-requires c κs =
-    let (b, a, g, l) = c .before .before .before .before .before .pre in
-    (gathered-kept g, l, g .few .0)
+    let (b, a, g, l) = c .before .before .before .before .before .before .before .before .before .pre in
+    (gathered-kept g (c .before .before .before .link-classes .ensures), l, g .few .0)
 
 add-size : tie.Need-add-size
 add-size c =
@@ -50,6 +53,7 @@ pub finish-spec : {M : Type 1} → statement M
 finish-spec =
     tie.close
     (tie.spec
+    link-classes-requires
     resolve-all-requires
     add-size
     (search needs)
