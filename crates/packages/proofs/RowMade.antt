@@ -4,16 +4,13 @@ use mathlib.Core.Bool.{Bool, true, false}
 use mathlib.Core.List.{List}
 use mathlib.Core.Option.{Option, none, some}
 use Prim.Native.Nat.{ℕ, _<_}
-use Rattle.text.specs.NumberLaws.{Bytes}
-use Rattle.zen.specs.Holds.{textAt}
 use Rattle.zen.specs.Places.{placeAt}
-use Rattle.zen.specs.Zen.{baseOf}
 use Rattle.zen.specs.declared.places.Place.{Place}
 use Rattle.zen.specs.declared.tables.Export.{Export}
-use Rattle.meaning.specs.Scan.{outerOf, candidateKind}
+use Rattle.meaning.specs.Scan.{outerOf}
 use Rattle.packages.specs.Package.{readIn, PackageIn}
-use Rattle.packages.specs.PackageLaws.{export-named, name-holds}
-use Rattle.packages.specs.Row.{exportNo, isLocal, nameIn, rowWith, rowIn, kindAt}
+use Rattle.packages.specs.PackageLaws.{export-named}
+use Rattle.packages.specs.Row.{exportNo, isLocal, nameIn, rowWith, rowIn}
 use Rattle.packages.specs.RowLaws.{outer-some, outer-none}
 use Rattle.packages.specs.declared.package.Parts.{Parts}
 use Rattle.packages.specs.declared.rows.Row.{Row}
@@ -55,31 +52,3 @@ unfolding rowIn
 outer-start b p a i k e l u outer q g z m h =
     let w : outerOf (readIn b) (exportNo b i) ≡ some u = rw (← q, m) (outer-some a e (sym g ∙ z) .1) in
     h ∙ rw w
-
--- the names of export i make it the candidate that it is
-pub kind-is : {b : List ℕ} {p : Parts} → PackageIn b p → Bytes b → (i : ℕ) → i < p .count → kindAt b (rowIn b p 0 i) ≡ candidateKind (readIn b) (exportNo b i)
-unfolding kindAt rowIn candidateKind
-kind-is {b} {p} a y i h = go (isLocal p (e .outer)) refl
-  where
-    e : Export
-    e = exportNo b i
-
-    own : textAt b (placeAt b (p .names) (e .index)) ≡ baseOf (readIn b) e
-    own = name-holds a y (e .index) (export-named a i h) .text
-
-    go : (l : Bool) → isLocal p (e .outer) ≡ l → kindAt b (rowWith b p 0 e (outerOf (readIn b) e)) ≡ candidateKind (readIn b) e
-    go true q =
-        let (g, u) = outer-some a e q in
-        rw (u, own, name-holds a y (exportNo b (e .outer) .index) (export-named a (e .outer) g) .text)
-    go false q = rw (outer-none a e q, own)
-
--- a row with another kind
-pub rekinded : (b : List ℕ) (p : Parts) (j k i : ℕ) (v : Row) → v ≡ rowIn b p j i
-    → _≡_ {A = Row} (record { kind = k; own = v .own; nested = v .nested; outer = v .outer; class = v .class }) (rowIn b p k i)
-unfolding rowIn
-rekinded b p j k i v q = rw q (go (outerOf (readIn b) (exportNo b i)))
-  where
-    go : (o : Option Export) → let w = rowWith b p j (exportNo b i) o in
-        _≡_ {A = Row} (record { kind = k; own = w .own; nested = w .nested; outer = w .outer; class = w .class }) (rowWith b p k (exportNo b i) o)
-    go none = refl
-    go (some u) = refl

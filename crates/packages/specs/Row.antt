@@ -7,7 +7,7 @@ use mathlib.Core.Option.{Option, none, some}
 use Prim.Native.Nat.{ℕ, _+_, _*_, _-_}
 use lib.Dec.{ltb, eqb}
 use lib.ListN.{length, take, getD}
-use Rattle.text.specs.Affix.{startsWith, endsWith}
+use Rattle.text.specs.Affix.{endsWith}
 use Rattle.text.specs.AffixLaws.{unitSize}
 use Rattle.text.specs.Choose.{pick}
 use Rattle.text.specs.Index.{kind}
@@ -18,7 +18,7 @@ use Rattle.zen.specs.Places.{placeAt}
 use Rattle.zen.specs.Zen.{noExport}
 use Rattle.zen.specs.declared.places.Place.{Place}
 use Rattle.zen.specs.declared.tables.Export.{Export}
-use Rattle.meaning.specs.Scan.{outerOf, genVariable, defaultStart}
+use Rattle.meaning.specs.Scan.{outerOf, genVariable}
 use Rattle.packages.specs.Package.{readIn}
 use Rattle.packages.specs.declared.names.Name.{Name}
 use Rattle.packages.specs.declared.package.Parts.{Parts}
@@ -71,10 +71,6 @@ instancePlace w = cond (eqb (w .kind) 1) (shorter (w .own .place)) (w .own .plac
 -- the outer's name, or nothing
 abbrev pub outerAt : List ℕ → Row → List ℕ
 outerAt b w = pick (w .nested) (wholeAt b (w .outer)) []
-
--- the kind of candidate that the names make it, or 0
-unfoldable pub kindAt : List ℕ → Row → ℕ
-kindAt b w = cond (endsWith (baseAt b (w .own)) genVariable) 1 (cond (w .nested && startsWith (baseAt b (w .outer)) defaultStart) 2 0)
 
 -- the three texts, and how many bytes they take without their lengths
 unfoldable pub namesAt : List ℕ → Row → List ℕ

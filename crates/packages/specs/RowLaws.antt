@@ -108,16 +108,6 @@ module _ (b : List ℕ) (own : Place) (d : Holds b own (textAt b own)) (h : ends
         scalars = scalars-take (length (textAt b own) - length genVariable) (textAt b own) (d .scalars);
       }
 
--- ---- a row's kind
-
-pub row-kind : (b : List ℕ) (p : Parts) (k i : ℕ) → rowIn b p k i .kind ≡ k
-unfolding rowIn
-row-kind b p k i = go (outerOf (readIn b) (exportNo b i))
-  where
-    go : (o : Option Export) → rowWith b p k (exportNo b i) o .kind ≡ k
-    go none = refl
-    go (some u) = refl
-
 -- ---- a row's places
 
 candidate-ends : (r : Read) (e : Export) → candidateKind r e ≡ 1 → endsWith (baseOf r e) genVariable ≡ true

@@ -10,7 +10,7 @@ ghost use Rattle.text.specs.Utf8.{utf8};
 ghost use Rattle.zen.specs.Notes.{Noted};
 ghost use Rattle.meaning.specs.Scan.{candidateKind};
 ghost use Rattle.packages.specs.Package.{readIn, PackageIn};
-ghost use Rattle.packages.specs.Row.{exportNo, isLocal, rowIn, instancePlace, outerAt, kindAt, namesAt, namesSize, RowHolds};
+ghost use Rattle.packages.specs.Row.{exportNo, isLocal, rowIn, instancePlace, outerAt, namesAt, namesSize, RowHolds};
 use super::names::Name;
 use super::package::Parts;
 use super::package::export_at;
@@ -41,6 +41,27 @@ pub fn is_local(p: Parts, x: u64) -> bool
         return x < p.count as u64;
     }
     false
+}
+
+// The kind of candidate that export i is, or 0.
+pub fn candidate(b: &[u8], p: Parts, names: &[u32; NOTES], i: usize) -> u8
+    requires { ⌜ PackageIn (now b) p × Noted (now b) (p .names) (now names) × (i < p .count) ⌝ }
+    ensures { λ r. ⌜ r ≡ candidateKind (readIn (now (b .entry))) (exportNo (now (b .entry)) i) ⌝ }
+{
+    let e = export_at(b, p, i);
+    let own = name_at(b, p, names, e.index);
+    if place_ends_with(b, own, b"_GEN_VARIABLE") {
+        return 1;
+    }
+    if is_local(p, e.outer) {
+        let u = export_at(b, p, e.outer as usize);
+        let outer = name_at(b, p, names, u.index);
+        if place_starts_with(b, outer, b"Default__") {
+            return 2;
+        }
+        return 0;
+    }
+    0
 }
 
 // Export i as a candidate of a kind.
@@ -75,40 +96,6 @@ pub fn row_at(b: &[u8], p: Parts, names: &[u32; NOTES], i: usize, kind: u8) -> R
         nested: false,
         outer: own,
         class: e.class,
-    }
-}
-
-// The kind of candidate that a row's names make it, or 0.
-fn kind_at(b: &[u8], w: Row) -> u8
-    requires { ⌜ RowHolds (now b) w ⌝ }
-    ensures { λ r. ⌜ r ≡ kindAt (now (b .entry)) w ⌝ }
-{
-    if place_ends_with(b, w.own.place, b"_GEN_VARIABLE") {
-        return 1;
-    }
-    if w.nested {
-        if place_starts_with(b, w.outer.place, b"Default__") {
-            return 2;
-        }
-        return 0;
-    }
-    0
-}
-
-// Export i as a candidate; its kind is 0 where it is none.
-pub fn candidate_row(b: &[u8], p: Parts, names: &[u32; NOTES], i: usize) -> Row
-    requires { ⌜ PackageIn (now b) p × Noted (now b) (p .names) (now names) × (i < p .count) ⌝ }
-    ensures { λ r. ⌜ r ≡ rowIn (now (b .entry)) p (candidateKind (readIn (now (b .entry))) (exportNo (now (b .entry)) i)) i ⌝ }
-{
-    let v = row_at(b, p, names, i, 0);
-    let own = v.own;
-    let outer = v.outer;
-    Row {
-        kind: kind_at(b, v),
-        own,
-        nested: v.nested,
-        outer,
-        class: v.class,
     }
 }
 

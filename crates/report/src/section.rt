@@ -19,7 +19,8 @@ use packages::frame::next_at;
 use packages::package::Parts;
 use packages::package::home_at;
 use packages::package::parts_of;
-use packages::rows::candidate_row;
+use packages::rows::candidate;
+use packages::rows::row_at;
 use resolve::rows::led_at;
 use text::output::put_be32;
 use text::output::put_be64;
@@ -65,10 +66,11 @@ fn put_export(
     requires { ⌜ ((id : ℕ) × (h : How) × ExportRoom (now c) (now s) n (now w) objects r id (now b) i (now out) h) ⌝ }
     ensures { λ z. ⌜ ExportPut (now (c .entry)) (now (s .entry)) n (now (w .entry)) objects r (now (b .entry)) i (now (out .entry)) (now (out .exit)) z ⌝ }
 {
-    let v = candidate_row(b, p, names, i);
-    if v.kind == 0 {
+    let kind = candidate(b, p, names, i);
+    if kind == 0 {
         return Section { size: 0, rows: 0 };
     }
+    let v = row_at(b, p, names, i, kind);
     let front = 48 * n;
     let l = led_at(&w[front..], r);
     Section {

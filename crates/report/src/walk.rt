@@ -33,8 +33,9 @@ use packages::package::meaning;
 use packages::package::parts_of;
 use packages::reference::reference_len;
 use packages::rows::Row;
-use packages::rows::candidate_row;
+use packages::rows::candidate;
 use packages::rows::names_len;
+use packages::rows::row_at;
 use resolve::classes::enter_class;
 use resolve::classes::is_class;
 use resolve::rows::put_words;
@@ -131,13 +132,14 @@ fn keep_row(
     ensures size { λ _. ⌜ length (now (w .exit)) ≡ length (now (w .entry)) ⌝ }
 {
     let size = 48 * n;
-    let v = candidate_row(b, p, names, i);
-    if v.kind == 0 {
+    let kind = candidate(b, p, names, i);
+    if kind == 0 {
         return t;
     }
     if w.len() / 64 <= n + t.classes + t.rows {
         return closed(t, 0);
     }
+    let v = row_at(b, p, names, i, kind);
     let m = meaning(b, p, imported, id, v.class);
     put_words(&mut w[size..], t.rows, m);
     let len = row_len(b, p, names, imported, v);
