@@ -1,12 +1,12 @@
 -- The class test (document 01: "a class path whose part after the last `.` or `:` ends in `Class`"): as `Class` holds no separator, the
 -- part, the path and the innermost object's rendered name pass it together. Code tests the name. Assumes nothing.
 use mathlib.Core.Path.{_≡_, refl, sym, _∙_, ap}
-use mathlib.Core.Bool.{Bool, true, false, cond, not, _&&_, _||_}
+use mathlib.Core.Bool.{Bool, true, false, cond, not, _&&_}
 use mathlib.Core.List.{List, [], _∷_, _++_, append-assoc}
 use mathlib.Core.Option.{Option, none, some}
 use Prim.Native.Nat.{ℕ, zero, suc, _-_}
-use native.Mathlib.Omega.{arith}
 use native.Mathlib.Numerals.{add-one}
+use borrow.Author.Tests.{ne-eqb}
 use lib.Dec.{eqb, eqb·suc-zero}
 use lib.ListN.{length, take, getD}
 use Rattle.text.specs.Affix.{endsWith}
@@ -148,6 +148,13 @@ class-name o u = go (u .number) (getD (o .names) (u .index) [])
     go : (n : ℕ) (t : List ℕ) → endsWith (t ++ suffix n) classEnd ≡ eqb n 0 && endsWith t classEnd
     go zero t = rendered-plain t classEnd
     go (suc n) t = rw (eqb·suc-zero n) (rendered-ends t n (67 ∷ 108 ∷ 97 ∷ 115 ∷ []) 115 refl)
+
+-- so a name with a number doesn't; one without does where its base does
+pub name-numbered : (o : Objects) (u : Entry) → (u .number ≡ 0 → ⊥) → endsWith (objectName o u) classEnd ≡ false
+name-numbered o u n = class-name o u ∙ rw (ne-eqb (u .number) 0 n)
+
+pub name-plain : (o : Objects) (u : Entry) → u .number ≡ 0 → endsWith (objectName o u) classEnd ≡ endsWith (getD (o .names) (u .index) []) classEnd
+name-plain o u z = class-name o u ∙ rw z
 
 -- so a class is told by its class's object
 pub class-by-name : (limit : ℕ) (o : Objects) (e : Export) (u : Entry) → objectAt o (e .class) ≡ some u

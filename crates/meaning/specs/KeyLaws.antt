@@ -26,6 +26,21 @@ sameKey-refl (public i h) = go (eqb i i) (eqb h h) (eqb-refl i) (eqb-refl h)
     go true y h k = k
     go false y h k = h
 
+-- so the test of two keys, by whether they are equal
+pub sameKey-true : (a b : Key) → a ≡ b → sameKey a b ≡ true
+sameKey-true a b e = rw e (go (sameKey b b) (sameKey-refl b))
+  where
+    go : (x : Bool) → T x → x ≡ true
+    go true h = refl
+    go false h = absurd h
+
+pub sameKey-false : (a b : Key) → (a ≡ b → ⊥) → sameKey a b ≡ false
+sameKey-false a b n = go (sameKey a b) (sameKey→eq a b)
+  where
+    go : (x : Bool) → (T x → a ≡ b) → x ≡ false
+    go true f = absurd (n (f tt))
+    go false f = refl
+
 -- symmetric
 pub sameKey-sym : (a b : Key) → sameKey a b ≡ sameKey b a
 sameKey-sym a b = go (sameKey a b) (sameKey b a) (λ h. rw (sameKey→eq a b h) (sameKey-refl b)) (λ h. rw (sameKey→eq b a h) (sameKey-refl a))

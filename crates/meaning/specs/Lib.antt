@@ -46,6 +46,7 @@ pub mod Shut
 -- ==== Laws and lemmas
 pub mod KeyLaws
 pub mod Table
+pub mod Repeats
 pub mod BytesLaws
 pub mod Accepted
 pub mod Fits

@@ -1,8 +1,8 @@
 -- The class table in any order: question 24 ("no class key twice?") and the look-up by key don't see the packages' order.
 use mathlib.Core.Path.{_≡_, refl, sym, _∙_, ap}
-use mathlib.Core.Bool.{Bool, true, false, _&&_, _||_}
-use mathlib.Core.List.{List, [], _∷_, _++_, map, map-append}
-use mathlib.Core.Option.{Option, none, some}
+use mathlib.Core.Bool.{Bool, true, false, _||_}
+use mathlib.Core.List.{List, [], _∷_, map, map-append}
+use mathlib.Core.Option.{Option}
 use Prim.Native.Nat.{ℕ, _+_}
 use lib.Dec.{T}
 use Rattle.text.specs.Find.{orElse}
@@ -14,11 +14,11 @@ use Rattle.meaning.specs.KeyLaws.{sameKey→eq, sameKey-refl, sameKey-sy
 use Rattle.meaning.specs.Reference.{Package}
 use Rattle.meaning.specs.Scan.{Class, classesOf, table}
 use Rattle.meaning.specs.Resolve.{look}
-use Rattle.meaning.specs.Call.{Answer, refusedIn, accepted, Placed, placedFrom, hasKey, firstRepeat, noneTwice}
+use Rattle.meaning.specs.Call.{accepted, Placed, placedFrom, hasKey, firstRepeat, noneTwice}
 
 -- ---- tests
 
-or-swap : (a b c : Bool) → a || (b || c) ≡ b || (a || c)
+pub or-swap : (a b c : Bool) → a || (b || c) ≡ b || (a || c)
 or-swap true true c = refl
 or-swap true false c = refl
 or-swap false true c = refl

@@ -6,7 +6,6 @@ use mathlib.Core.Option.{Option, none, some}
 use Prim.Native.Nat.{ℕ, zero, suc, _+_, _-_, _*_, _/_, _%_, _≤_, _<_}
 use native.Mathlib.Omega.{arith}
 use native.Mathlib.Numerals.{add-one}
-use borrow.Author.Tests.{ne-eqb}
 use lib.Dec.{eqb}
 use lib.ListN.{length, getD}
 use Rattle.text.specs.Affix.{endsWith}
@@ -18,11 +17,10 @@ use Rattle.zen.specs.ScriptAccepted.{names-of, name-text}
 use Rattle.zen.specs.Places.{placeAt}
 use Rattle.zen.specs.Holds.{textAt, Holds, holds-name, holds-own}
 use Rattle.zen.specs.declared.places.Place.{Place}
-use Rattle.zen.specs.declared.script.Entry.{Entry}
 use Rattle.meaning.specs.Path.{Path, added, start, pathOf}
 use Rattle.meaning.specs.Native.{object-member}
 use Rattle.meaning.specs.Scan.{classEnd}
-use Rattle.meaning.specs.ClassTest.{isKnown, namesClass, class-test, class-name}
+use Rattle.meaning.specs.ClassTest.{isKnown, namesClass, class-test}
 use Rattle.table.specs.Table.{recordAt}
 use Rattle.objects.specs.Numbers.{entryNo, numberOf, linkOf, pathBy, pathNo}
 use Rattle.objects.specs.NumberLaws.{number-at, number-le, link-le, path-missing, path-found, member}
@@ -144,13 +142,6 @@ module _ {b : List ℕ} {o : Objects} {w : List ℕ} (t : ObjectsIn b o w) where
       let e : entryNo o i .global ≡ g = number-at (o .entries) g i (q ∙ add-one i) in
       let m = member (o .entries) i (omega (arith, number-le (o .entries) g)) in
       rw (← path-found limit o good g i q) (class-test o limit g (entryNo o i) (rw e at (object-member o good (entryNo o i) m)))
-
--- a name with a number doesn't end in `Class`; one without does where its base does
-pub class-numbered : (o : Objects) (u : Entry) → (u .number ≡ 0 → ⊥) → endsWith (objectName o u) classEnd ≡ false
-class-numbered o u n = class-name o u ∙ rw (ne-eqb (u .number) 0 n)
-
-pub class-plain : (o : Objects) (u : Entry) → u .number ≡ 0 → endsWith (objectName o u) classEnd ≡ endsWith (getD (o .names) (u .index) []) classEnd
-class-plain o u z = class-name o u ∙ rw z
 
 pub and-true : (x : Bool) {y : Bool} → y ≡ true → (x && y) ≡ x
 and-true true e = e

@@ -1,8 +1,9 @@
-// Layer 3 in code: the report call's passes, each proved against crates/meaning.
-pub mod class_path;
-pub mod described;
-pub mod frame;
-pub mod names;
-pub mod package;
-pub mod reference;
-pub mod rows;
+// Layer 3 in code: the framing, and one package by its places: references, candidates, names, class paths.
+
+pub mod frame; // the corpus around its blocks
+pub mod package; // an accepted package by its parts
+pub mod names; // names behind a text
+pub mod reference; // the text of a reference
+pub mod rows; // candidates, and the names of their rows
+pub mod class_path; // the path of a class
+pub mod described; // a package and its exports from where their names start

@@ -11,7 +11,7 @@ use Rattle.meaning.specs.Call.{Placed, accepted, firstRepeat, noneTwice}
 use Rattle.meaning.specs.Reference.{Ref}
 use Rattle.meaning.specs.Scan.{Class}
 use Rattle.packages.specs.declared.frame.Frame.{Frame}
-use Rattle.report.specs.Called.{Begun, Packages, foundBy, workNeeded, Gathered, Answered}
+use Rattle.report.specs.CallSteps.{Begun, Packages, foundBy, workNeeded, Gathered, Answered}
 use Rattle.report.specs.CallLaws.{answer-beyond, answer-outside, answer-fits, refused-by, answered-refused, answered-report}
 use Rattle.report.specs.Found.{classesIn}
 use Rattle.report.specs.FoundLaws.{found-size, found-once}

@@ -11,7 +11,7 @@ use Rattle.zen.specs.Script.{Objects, script}
 use Rattle.meaning.specs.Call.{readFrom, refusedIn}
 use Rattle.packages.specs.Framing.{partsAt}
 use Rattle.packages.specs.declared.frame.Frame.{Frame}
-use Rattle.report.specs.Called.{Begun, Packages, foundBy, workNeeded, Gathered, Refused, Answered}
+use Rattle.report.specs.CallSteps.{Begun, Packages, foundBy, workNeeded, Gathered, Refused, Answered}
 use Rattle.report.specs.CallLaws.{answer-package, answer-twice, refused-by, answered-refused}
 use Rattle.report.specs.Found.{Linked, State}
 use Rattle.resolve.specs.Rows.{limitsOf}

@@ -38,7 +38,7 @@ use Rattle.scan.specs.RepeatLaws.{twice-none, twice-some}
 use Rattle.scan.specs.Repeats.{repeatBlock}
 use Rattle.report.specs.FoundLaws.{found-placed, found-classes, found-rows}
 use Rattle.resolve.specs.Rows.{limitsOf}
-use Rattle.report.specs.Called.{Begun, Packages, foundBy, workNeeded, Refused, Answered}
+use Rattle.report.specs.CallSteps.{Begun, Packages, foundBy, workNeeded, Refused, Answered}
 
 -- ---- where the parts are
 

@@ -13,14 +13,15 @@ use Rattle.text.specs.LoopLaws.{flat-append, sum-append, filter-append}
 use Rattle.zen.specs.Script.{Objects}
 use Rattle.zen.specs.Zen.{noExport}
 use Rattle.zen.specs.declared.tables.Export.{Export}
-use Rattle.meaning.specs.Key.{Key, sameKey}
-use Rattle.meaning.specs.KeyLaws.{sameKey→eq}
+use Rattle.meaning.specs.Key.{Key}
+use Rattle.meaning.specs.KeyLaws.{sameKey-false}
 use Rattle.meaning.specs.Reference.{Package}
 use Rattle.meaning.specs.Scan.{Class, isClass, classAt, classesFrom, classesOf, table, isCandidate, candidates}
 use Rattle.meaning.specs.Resolve.{Limits, look}
 use Rattle.meaning.specs.Report.{size, rowSize, rowOf, classRef, reportOf}
 use Rattle.meaning.specs.Call.{Placed, placedFrom, hasKey, firstRepeat}
 use Rattle.meaning.specs.Lengths.{sectionSize, report-length}
+use Rattle.meaning.specs.Repeats.{placed-append}
 use Rattle.meaning.specs.Table.{placed-table}
 use Rattle.packages.specs.Walk.{placeOf, packageAt, packagesAt}
 use Rattle.packages.specs.WalkLaws.{packages-length}
@@ -68,10 +69,7 @@ module _ (limit : ℕ) (o : Objects) where
 
   placed-more : (j : ℕ) (ps : List Package) (p : Package)
       → placedFrom limit o j (ps ++ (p ∷ [])) ≡ placedFrom limit o j ps ++ map (placedAt (j + length ps)) (classesOf limit o p)
-  placed-more j [] p = let z : j + 0 ≡ j = omega arith in rw z (append-nil (map (placedAt j) (classesOf limit o p)))
-  placed-more j (x ∷ ps) p =
-      let z : j + 1 + length ps ≡ j + suc (length ps) = omega arith in
-      rw (placed-more (j + 1) ps p, z) (sym (append-assoc (map (placedAt j) (classesOf limit o x)) (placedFrom limit o (j + 1) ps) _))
+  placed-more j ps p = placed-append limit o j ps (p ∷ []) ∙ rw (append-nil (map (placedAt (j + length ps)) (classesOf limit o p)))
 
   -- ---- the first i exports of a package
 
@@ -226,13 +224,6 @@ found-size m o s at n =
 abbrev keyNo : List Placed → ℕ → Key
 keyNo cs i = classNo (map (λ (x : Placed). x .class) cs) i .key
 
-differ : (a b : Key) → (a ≡ b → ⊥) → sameKey a b ≡ false
-differ a b h = go (sameKey a b) refl
-  where
-    go : (t : Bool) → sameKey a b ≡ t → t ≡ false
-    go true e = absurd (h (sameKey→eq a b (rw e tt)))
-    go false e = refl
-
 -- classes with keys that are new, and apart
 once : (seen : List Key) (cs : List Placed) → ((i : ℕ) → i < length cs → hasKey seen (keyNo cs i) ≡ false)
     → ((i j : ℕ) → i < j → j < length cs → keyNo cs i ≡ keyNo cs j → ⊥) → firstRepeat seen cs ≡ none
@@ -240,7 +231,7 @@ once seen [] new apart = refl
 once seen (c ∷ cs) new apart =
     rw (new 0 (omega arith))
     (once (c .class .key ∷ seen) cs
-    (λ i h. rw (differ (c .class .key) (keyNo cs i) (apart 0 (suc i) (omega arith) (omega arith))) (new (suc i) (omega arith)))
+    (λ i h. rw (sameKey-false (c .class .key) (keyNo cs i) (apart 0 (suc i) (omega arith) (omega arith))) (new (suc i) (omega arith)))
     (λ i j h k. apart (suc i) (suc j) (omega arith) (omega arith)))
 
 -- where all are entered, no key stands twice

@@ -9,7 +9,7 @@ pub mod Written
 pub mod Pieces
 pub mod Sections
 -- what the call knows at each step
-pub mod Called
+pub mod CallSteps
 -- ==== Laws
 pub mod FoundLaws
 pub mod RepeatLaws

@@ -6,15 +6,14 @@ use mathlib.Core.List.{List, [], _∷_, _++_, map}
 use mathlib.Core.Option.{Option, none, some}
 use Prim.Native.Nat.{ℕ, zero, suc, _<_}
 use native.Mathlib.Omega.{arith}
-use lib.Dec.{T}
 use lib.ListN.{length, length-map}
 use Rattle.text.specs.Find.{orElse}
-use Rattle.text.specs.FindLaws.{none-some}
 use Rattle.text.specs.Never.{never}
 use Rattle.meaning.specs.Key.{Key, sameKey}
-use Rattle.meaning.specs.KeyLaws.{sameKey-refl}
+use Rattle.meaning.specs.KeyLaws.{sameKey-true}
 use Rattle.meaning.specs.Scan.{Class}
 use Rattle.meaning.specs.Call.{refusedIn, Placed, hasKey, firstRepeat, noneTwice}
+use Rattle.meaning.specs.Repeats.{repeat-more}
 use Rattle.resolve.specs.Classes.{classNo, Stands}
 
 -- the classes of some that have their blocks
@@ -22,16 +21,6 @@ abbrev classOf : Placed → Class
 classOf x = x .class
 
 -- what was refused stays so
-repeat-more : (seen : List Key) (xs ys : List Placed) (x : Placed) → firstRepeat seen xs ≡ some x → firstRepeat seen (xs ++ ys) ≡ some x
-repeat-more seen [] ys x e = none-some e
-repeat-more seen (c ∷ cs) ys x e = go (hasKey seen (c .class .key)) e (repeat-more (c .class .key ∷ seen) cs ys x)
-  where
-    go : (t : Bool) → orElse t c (firstRepeat (c .class .key ∷ seen) cs) ≡ some x
-        → (firstRepeat (c .class .key ∷ seen) cs ≡ some x → firstRepeat (c .class .key ∷ seen) (cs ++ ys) ≡ some x)
-        → orElse t c (firstRepeat (c .class .key ∷ seen) (cs ++ ys)) ≡ some x
-    go true e ih = e
-    go false e ih = ih e
-
 pub twice-more : (xs ys : List Placed) (q j : ℕ) → noneTwice (firstRepeat [] xs) ≡ refusedIn q j → noneTwice (firstRepeat [] (xs ++ ys)) ≡ refusedIn q j
 twice-more xs ys q j e = go (firstRepeat [] xs) refl e
   where
@@ -40,13 +29,6 @@ twice-more xs ys q j e = go (firstRepeat [] xs) refl e
     go (some x) r e = rw (repeat-more [] xs ys x r) e
 
 -- ---- one more, whose key an earlier one has
-
-same-key : (a b : Key) → a ≡ b → sameKey a b ≡ true
-same-key a b e = rw e (go (sameKey b b) (sameKey-refl b))
-  where
-    go : (t : Bool) → T t → t ≡ true
-    go true h = refl
-    go false h = absurd h
 
 either : (x y : Bool) → (x ≡ true) ⊎ (y ≡ true) → x || y ≡ true
 either true y h = refl
@@ -60,7 +42,7 @@ module _ (x : Placed) where
 
   earlier-next : (seen : List Key) (c : Placed) (cs : List Placed) → Earlier seen (c ∷ cs) → Earlier (c .class .key ∷ seen) cs
   earlier-next seen c cs (inl h) = inl (either (sameKey (c .class .key) (x .class .key)) (hasKey seen (x .class .key)) (inr h))
-  earlier-next seen c cs (inr (zero, l, e)) = inl (either (sameKey (c .class .key) (x .class .key)) (hasKey seen (x .class .key)) (inl (same-key (c .class .key) (x .class .key) e)))
+  earlier-next seen c cs (inr (zero, l, e)) = inl (either (sameKey (c .class .key) (x .class .key)) (hasKey seen (x .class .key)) (inl (sameKey-true (c .class .key) (x .class .key) e)))
   earlier-next seen c cs (inr (suc i, l, e)) = inr (i, omega arith, e)
 
   repeat-last : (seen : List Key) (xs : List Placed) → firstRepeat seen xs ≡ none → Earlier seen xs → firstRepeat seen (xs ++ (x ∷ [])) ≡ some x

@@ -8,7 +8,7 @@ ghost use Rattle.zen.specs.ScriptAnswers.{opened};
 ghost use Rattle.zen.specs.declared.script.Layout.{Layout};
 ghost use Rattle.zen.specs.declared.script.Opened.the-variants.{Open};
 ghost use Rattle.meaning.specs.Call.{outcome};
-ghost use Rattle.report.specs.Called.{Begun, Packages, workNeeded, Gathered, Refused, Answered};
+ghost use Rattle.report.specs.CallSteps.{Begun, Packages, workNeeded, Gathered, Refused, Answered};
 ghost use Rattle.report.specs.Found.{Linked};
 ghost use Rattle.resolve.specs.Rows.{limitsOf};
 ghost use Rattle.scan.specs.Repeats.{NotedScript};

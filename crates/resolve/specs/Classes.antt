@@ -71,17 +71,12 @@ pub record ClassesIn (s : List ℕ) (n : ℕ) (xs : List Class) (w : List ℕ) :
   pub columns : (i : ℕ) → i < length xs → ClassIn s (classNo xs i) w (recordAt n 64 i)
   pub supers : (i : ℕ) → i < length xs → SuperIn xs (classNo xs i .super) (leAt 8 w (recordAt n 64 i + 44)) (leAt 8 w (recordAt n 64 i + 52))
 
--- k classes of some corpus are; k classes of the corpus s are
+-- k classes of some corpus are
 pub record Classes (n k : ℕ) (w : List ℕ) : Type 0 where
   pub corpus : List ℕ
   pub classes : List Class
   pub count : length classes ≡ k
   pub holds : ClassesIn corpus n classes w
-
-pub record ClassesOf (s : List ℕ) (n k : ℕ) (w : List ℕ) : Type 0 where
-  pub classes : List Class
-  pub count : length classes ≡ k
-  pub holds : ClassesIn s n classes w
 
 -- the record at a place filled in
 unfoldable pub described : ℕ → ℕ → ℕ → ℕ → ℕ → ℕ → Words → ℕ → List ℕ → List ℕ

@@ -2,14 +2,13 @@
 -- nothing.
 use mathlib.Core.Path.{_≡_, refl, sym, _∙_, ap}
 use mathlib.Core.Logic.{_⊎_, inl, inr}
-use mathlib.Core.Bool.{Bool, true, false}
+use mathlib.Core.Bool.{Bool}
 use mathlib.Core.List.{List, [], _∷_}
 use mathlib.Core.Option.{Option, none, some}
 use Prim.Native.Nat.{ℕ, zero, suc, _+_, _-_, _*_, _^_, _≤_, _<_}
 use native.Mathlib.Numerals.{add-one}
 use native.Mathlib.Omega.{arith}
 use borrow.Author.Tests.{ne-eqb}
-use lib.Dec.{T}
 use lib.ListN.{length, getD}
 use Rattle.text.specs.Find.{find as first-of}
 use Rattle.text.specs.Number.{leAt}
@@ -18,7 +17,7 @@ use Rattle.text.specs.Seek.{seek}
 use Rattle.text.specs.SeekLaws.{Never, First, never-seek, first-seek, seek-never, seek-first}
 use Rattle.text.specs.Utf8.{utf8}
 use Rattle.meaning.specs.Key.{Key, public, sameKey}
-use Rattle.meaning.specs.KeyLaws.{sameKey→eq, sameKey-refl, public-hash}
+use Rattle.meaning.specs.KeyLaws.{sameKey→eq, sameKey-true, sameKey-false, public-hash}
 use Rattle.meaning.specs.Reference.{Package, Ref}
 use Rattle.meaning.specs.Resolve.{look}
 use Rattle.meaning.specs.Scan.{Class, classAt, classPath}
@@ -180,20 +179,6 @@ seek-key xs key k e = sameKey→eq (classNo xs k .key) key (rw (seek-first (λ (
 
 -- ---- looked up
 
-key-other : (a b : Key) → (a ≡ b → ⊥) → sameKey a b ≡ false
-key-other a b n = go (sameKey a b) refl
-  where
-    go : (t : Bool) → sameKey a b ≡ t → t ≡ false
-    go true e = absurd (n (sameKey→eq a b (rw e tt)))
-    go false e = refl
-
-key-same : (a b : Key) → a ≡ b → sameKey a b ≡ true
-key-same a b e = rw e (go (sameKey b b) (sameKey-refl b))
-  where
-    go : (t : Bool) → T t → t ≡ true
-    go true h = refl
-    go false h = absurd h
-
 module _ {s : List ℕ} {n : ℕ} {xs : List Class} {w : List ℕ} (t : ClassesIn s n xs w) where
   abbrev los : ℕ → ℕ
   los i = keyWords (classNo xs i .key) .lo
@@ -221,7 +206,7 @@ module _ {s : List ℕ} {n : ℕ} {xs : List Class} {w : List ℕ} (t : ClassesI
 
       go : (r : ℕ) → find los his lo hi (length xs) ≡ r → r ≡ seek f xs
       go zero e =
-          sym (never-seek f (classNo [] 0) xs (λ j h. key-other (classNo xs j .key) (public lo hi)
+          sym (never-seek f (classNo [] 0) xs (λ j h. sameKey-false (classNo xs j .key) (public lo hi)
           (λ q. find-none los his lo hi (length xs) e j h (words j h q .0) (words j h q .1))))
       go (suc i) e =
           let z : find los his lo hi (length xs) - 1 ≡ i = omega arith in
@@ -230,8 +215,8 @@ module _ {s : List ℕ} {n : ℕ} {xs : List Class} {w : List ℕ} (t : ClassesI
           let own : classNo xs i .key ≡ public lo hi = hashed-key (class-hashed (t .columns i l)) lo hi (k .0) (k .1) in
           sym (first-seek f (classNo [] 0) xs i (record {
             here = l;
-            passes = key-same (classNo xs i .key) (public lo hi) own;
-            before = λ j h. key-other (classNo xs j .key) (public lo hi) (λ q. classes-distinct j i h l (q ∙ sym own));
+            passes = sameKey-true (classNo xs i .key) (public lo hi) own;
+            before = λ j h. sameKey-false (classNo xs j .key) (public lo hi) (λ q. classes-distinct j i h l (q ∙ sym own));
           }) ∙ add-one i)
 
   -- and by its own key each is found
@@ -239,15 +224,15 @@ module _ {s : List ℕ} {n : ℕ} {xs : List Class} {w : List ℕ} (t : ClassesI
   seek-own k l =
       first-seek (λ (c : Class). sameKey (c .key) (classNo xs k .key)) (classNo [] 0) xs k (record {
         here = l;
-        passes = key-same (classNo xs k .key) (classNo xs k .key) refl;
-        before = λ j h. key-other (classNo xs j .key) (classNo xs k .key) (classes-distinct j k h l);
+        passes = sameKey-true (classNo xs k .key) (classNo xs k .key) refl;
+        before = λ j h. sameKey-false (classNo xs j .key) (classNo xs k .key) (classes-distinct j k h l);
       })
 
   -- no class has a hash of 0
   pub seek-none : (i : ℕ) → seek (λ (c : Class). sameKey (c .key) (public i 0)) xs ≡ 0
   seek-none i =
       never-seek (λ (c : Class). sameKey (c .key) (public i 0)) (classNo [] 0) xs
-      (λ j h. key-other (classNo xs j .key) (public i 0) (hashed-not (class-hashed (t .columns j h)) i))
+      (λ j h. sameKey-false (classNo xs j .key) (public i 0) (hashed-not (class-hashed (t .columns j h)) i))
 
   pub look-none : (i : ℕ) → look xs (public i 0) ≡ none
   look-none i = look-seek xs (public i 0) ∙ ap (byNumber xs) (seek-none i)

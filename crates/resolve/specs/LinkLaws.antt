@@ -1,10 +1,10 @@
--- Laws of a class that is linked to its super's class: all else stays as it was kept. Assumes nothing.
+-- Laws of classes that are linked to their supers' classes: how they are kept then, and that all else stays. Assumes nothing.
 use mathlib.Core.Path.{_≡_, refl, sym, _∙_, ap}
-use mathlib.Core.Logic.{_⊎_, inl, inr}
+use mathlib.Core.Logic.{_⊎_, inl, inr, by-cases}
 use mathlib.Core.List.{List, [], _∷_}
 use mathlib.Core.Option.{some}
 use Prim.Native.Nat.{ℕ, _+_, _-_, _*_, _^_, _≤_, _<_}
-use native.Mathlib.Decide.{ℕ-discrete}
+use native.Mathlib.Decide.{ℕ-discrete, decLt}
 use native.Mathlib.Omega.{arith}
 use lib.ListN.{length, drop, length-drop}
 use Rattle.text.specs.Number.{leAt}
@@ -15,14 +15,14 @@ use Rattle.meaning.specs.Key.{Key, public, sameKey}
 use Rattle.meaning.specs.Reference.{Ref, meant}
 use Rattle.meaning.specs.Scan.{Class}
 use Rattle.table.specs.Words.{stored, Kept}
-use Rattle.table.specs.WordLaws.{kept-read, kept-wider}
+use Rattle.table.specs.WordLaws.{kept-read, kept-none, kept-wider}
 use Rattle.table.specs.Table.{recordAt}
 use Rattle.table.specs.TableLaws.{record-next, record-other, holds-column}
 use Rattle.resolve.specs.Classes.{classNo, SuperIn, link}
 use Rattle.resolve.specs.ClassesLaws.{seek-inside, seek-key, class-same, super-same}
-use Rattle.resolve.specs.ChainLaws.{keeps-key, class-room, super-keeps, seek-le}
+use Rattle.resolve.specs.ChainLaws.{keeps-key, keeps-look, keeps-link, keeps-none, class-room, super-keeps, seek-le}
 use Rattle.resolve.specs.Stores.{Cell, stores, stores-kept, stores-read}
-use Rattle.resolve.specs.Rows.{rowAt, Tables, Kept as KeptRows, SomeTables, SomeClasses}
+use Rattle.resolve.specs.Rows.{classNumber, Keeps, Tables, Kept as KeptRows, SomeTables, SomeClasses, superAt, ClassLinked, LinkedTo, SuperOnly}
 use Rattle.resolve.specs.ResolvingLaws.{kept-drop, words-same}
 
 -- tables with no row
@@ -69,6 +69,37 @@ module _ (at v : ℕ) where
 
     linked-hi : leAt 8 (linked w) (at + 52) ≡ 0
     linked-hi = rw linked-is at (stores-read cells 44 60 at w (omega arith) (omega arith) 1 (omega arith) (omega arith))
+
+-- ---- class i, left as it is
+
+pub only-none : (n i : ℕ) (w : List ℕ) → SuperOnly n i w w
+only-none n i w = record { kept = kept-none (superAt n i) (superAt n i + 16) w }
+
+module _ {s b : List ℕ} {o : Objects} {n : ℕ} {xs : List Class} {w : List ℕ} (t : Tables s b o n xs w) {i at : ℕ} (h : i < length xs)
+    (place : at ≡ 48 * n + recordAt (4 * n) 64 i) {lo hi : ℕ} (p : lo ≡ leAt 8 w (at + 44)) (q : hi ≡ leAt 8 w (at + 52)) where
+  keeps : Keeps xs lo hi (classNo xs i .super)
+  keeps = super-keeps t i h place p q
+
+  lo-is : leAt 8 w (superAt n i) ≡ lo
+  lo-is = let z : superAt n i ≡ at + 44 = omega arith in rw z (sym p)
+
+  hi-is : leAt 8 w (superAt n i + 8) ≡ hi
+  hi-is = let z : superAt n i + 8 ≡ at + 52 = omega arith in rw z (sym q)
+
+  -- it means no key, or is linked already
+  pub linked-already : hi ≡ 0 → ClassLinked n xs i w w
+  linked-already z = record { found = λ k e. (lo-is ∙ number k e, hi-is ∙ z); none = λ e. (refl, refl) }
+    where
+      number : (k : ℕ) → classNumber xs (classNo xs i .super) ≡ k + 1 → lo ≡ 2 ^ 63 + k
+      number k e =
+          by-cases (decLt lo (2 ^ 63))
+          (λ (g : lo < 2 ^ 63). absurd (omega (arith, keeps-none keeps (t .classes) z g)))
+          (λ (g : ¬ (lo < 2 ^ 63)). omega (arith, keeps-link keeps (t .classes) z (omega arith)))
+
+  -- no class has its key
+  pub linked-lost : 0 < hi → {k : ℕ} → k ≡ seek (λ (c : Class). sameKey (c .key) (public lo hi)) xs → k ≡ 0 → ClassLinked n xs i w w
+  linked-lost g f z =
+      record { found = λ j e. absurd (omega (arith, f, keeps-look keeps (t .classes) g)); none = λ e. (refl, refl) }
 
 -- ---- class i, linked to class k - 1
 
@@ -146,3 +177,55 @@ module _ {s b : List ℕ} {o : Objects} {n : ℕ} {xs : List Class} {refs : List
     };
     apart = rw (behind .size) (t .apart);
   }
+
+  pub class-only : SuperOnly n i w w′
+  class-only =
+      let a : superAt n i ≡ at + 44 = omega arith in
+      let d : superAt n i + 16 ≡ at + 60 = omega arith in
+      record { kept = rw (d, a) change }
+
+  pub class-now : ClassLinked n xs i w w′
+  class-now =
+      let a : superAt n i ≡ at + 44 = omega arith in
+      let d : superAt n i + 8 ≡ at + 52 = omega arith in
+      let is = keeps-look (super-keeps (t .tables) i h place p q) (t .tables .classes) hash in
+      record {
+        found = λ j g.
+            let z : 2 ^ 63 + (k - 1) ≡ 2 ^ 63 + j = omega (arith, f, is) in
+            (rw (a, e) (linked-lo at (2 ^ 63 + (k - 1)) w room few ∙ z), rw (d, e) (linked-hi at (2 ^ 63 + (k - 1)) w room));
+        none = λ g. absurd (found (f ∙ (sym is ∙ g)));
+      }
+
+-- ---- the first classes, one after another
+
+pub linked-none : (n : ℕ) (xs : List Class) (w : List ℕ) → LinkedTo n xs 0 w w
+linked-none n xs w = record { linked = λ i h. absurd (omega arith); others = λ a m h. refl }
+
+-- one class more
+module _ {n : ℕ} {xs : List Class} {k : ℕ} {u v w : List ℕ} (t : LinkedTo n xs k u v) (e : ClassLinked n xs k v w) (only : SuperOnly n k v w) where
+  -- what a class's super is kept in lies outside another's
+  outside : (i j a : ℕ) → (i ≡ j → ⊥) → superAt n i ≤ a → a ≤ superAt n i + 8 → (a + 8 ≤ superAt n j) ⊎ (superAt n j + 16 ≤ a)
+  outside i j a z l h = by-cases (decLt i j) (λ (g : i < j). inl (omega arith)) (λ (g : ¬ (i < j)). inr (omega arith))
+
+  new : ClassLinked n xs k u w
+  new =
+      let a = t .others (superAt n k) 8 (λ i h. outside k i (superAt n k) (λ z. omega arith) (omega arith) (omega arith)) in
+      let d = t .others (superAt n k + 8) 8 (λ i h. outside k i (superAt n k + 8) (λ z. omega arith) (omega arith) (omega arith)) in
+      record { found = e .found; none = λ z. (e .none z .0 ∙ a, e .none z .1 ∙ d) }
+
+  old : (i : ℕ) → i < k → ClassLinked n xs i u w
+  old i h =
+      let a = kept-read (only .kept) 8 (superAt n i) (outside i k (superAt n i) (λ z. omega arith) (omega arith) (omega arith)) in
+      let d = kept-read (only .kept) 8 (superAt n i + 8) (outside i k (superAt n i + 8) (λ z. omega arith) (omega arith) (omega arith)) in
+      let x = t .linked i h in
+      record { found = λ j z. (a ∙ x .found j z .0, d ∙ x .found j z .1); none = λ z. (a ∙ x .none z .0, d ∙ x .none z .1) }
+
+  pub linked-more : LinkedTo n xs (k + 1) u w
+  linked-more = record {
+    linked = λ i h. go i h (ℕ-discrete k i);
+    others = λ a m h. kept-read (only .kept) m a (h k (omega arith)) ∙ t .others a m (λ i g. h i (omega arith));
+  }
+    where
+      go : (i : ℕ) → i < k + 1 → Dec (k ≡ i) → ClassLinked n xs i u w
+      go i h (yes z) = rw (← z) new
+      go i h (no z) = old i (omega arith)

@@ -1,10 +1,11 @@
 -- What the end of the work buffer holds of the rows: row r has 32 bytes, from the end on. First the two words that its class index means (0, 8);
 -- once it is resolved one more than the number of its class, or 0 (0), and the columns of the script object that its chain leads to (4, 8, 12, 16),
--- all 0 where there is none. Assumes nothing.
+-- all 0 where there is none. Then the whole work buffer, and what linking changes in it. Assumes nothing.
 use mathlib.Core.Path.{_≡_}
+use mathlib.Core.Logic.{_⊎_}
 use mathlib.Core.List.{List}
 use mathlib.Core.Option.{Option, none, some}
-use Prim.Native.Nat.{ℕ, zero, suc, _+_, _*_, _-_, _≤_, _<_}
+use Prim.Native.Nat.{ℕ, zero, suc, _+_, _*_, _-_, _^_, _≤_, _<_}
 use lib.ListN.{length, take, drop, getD}
 use Rattle.text.specs.Find.{option, sum}
 use Rattle.text.specs.Number.{leAt}
@@ -17,14 +18,14 @@ use Rattle.meaning.specs.Reference.{Package, Ref, null, refIn, meant}
 use Rattle.meaning.specs.Scan.{Class}
 use Rattle.meaning.specs.Resolve.{Limits, look, follow, nativeOf, resolve, pathText}
 use Rattle.meaning.specs.Report.{orUnknown, size}
-use Rattle.table.specs.Words.{stored}
+use Rattle.table.specs.Words.{stored, Kept as KeptWords}
 use Rattle.table.specs.Table.{recordAt}
 use Rattle.objects.specs.Numbers.{numberOf, pathNo}
 use Rattle.objects.specs.Work.{ObjectsIn, objectNo}
 use Rattle.objects.specs.declared.object.Object.{Object}
 use Rattle.packages.specs.Meaning.{wordsOf}
 use Rattle.packages.specs.declared.package.Words.{Words}
-use Rattle.resolve.specs.Classes.{SuperIn, ClassesIn}
+use Rattle.resolve.specs.Classes.{classNo, SuperIn, ClassesIn}
 use Rattle.resolve.specs.declared.rows.Led.{Led}
 
 -- ---- where a reference leads, by number
@@ -146,6 +147,31 @@ pub record SomeKept (n rows : ℕ) (w : List ℕ) : Type 0 where
   pub refs : List Ref
   pub count : length refs ≡ rows
   pub holds : Kept corpus block objects n classes refs w
+
+-- ---- classes linked to their supers' classes, behind n script objects
+
+-- where the two numbers are that class i's super is kept in
+abbrev pub superAt : ℕ → ℕ → ℕ
+superAt n i = 48 * n + recordAt (4 * n) 64 i + 44
+
+-- a super r that is kept in (x, y) is then kept in (x′, y′): as a link to its class, or as it was where it has none
+pub record LinkedAs (xs : List Class) (r : Ref) (x y x′ y′ : ℕ) : Type 0 where
+  pub found : (k : ℕ) → classNumber xs r ≡ k + 1 → (x′ ≡ 2 ^ 63 + k) × (y′ ≡ 0)
+  pub none : classNumber xs r ≡ 0 → (x′ ≡ x) × (y′ ≡ y)
+
+-- class i's super is
+abbrev pub ClassLinked : ℕ → List Class → ℕ → List ℕ → List ℕ → Type 0
+ClassLinked n xs i w w′ =
+    LinkedAs xs (classNo xs i .super) (leAt 8 w (superAt n i)) (leAt 8 w (superAt n i + 8)) (leAt 8 w′ (superAt n i)) (leAt 8 w′ (superAt n i + 8))
+
+-- the first k classes are, and all that stands outside their supers is as it was
+pub record LinkedTo (n : ℕ) (xs : List Class) (k : ℕ) (w w′ : List ℕ) : Type 0 where
+  pub linked : (i : ℕ) → i < k → ClassLinked n xs i w w′
+  pub others : (a m : ℕ) → ((i : ℕ) → i < k → (a + m ≤ superAt n i) ⊎ (superAt n i + 16 ≤ a)) → leAt m w′ a ≡ leAt m w a
+
+-- nothing changed but what class i's super is kept in
+pub record SuperOnly (n i : ℕ) (w w′ : List ℕ) : Type 0 where
+  pub kept : KeptWords (superAt n i) (superAt n i + 16) w w′
 
 -- ---- how many bytes class and native class of a row take
 

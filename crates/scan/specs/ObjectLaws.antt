@@ -1,6 +1,6 @@
 -- Laws of the class test, as code makes it: the object with a global index by its entry's number, its path, its name. Assumes nothing.
 use mathlib.Core.Path.{_≡_, refl, _∙_, ap}
-use mathlib.Core.Bool.{Bool, true, false, not, _&&_}
+use mathlib.Core.Bool.{Bool, true, false, not, _&&_, and-true, and-false}
 use mathlib.Core.List.{List, [], _∷_}
 use mathlib.Core.Option.{Option, none, some}
 use Prim.Native.Nat.{ℕ, zero, suc, _+_, _-_, _≤_, _<_}
@@ -19,7 +19,7 @@ use Rattle.zen.specs.declared.script.Entry.{Entry}
 use Rattle.zen.specs.declared.tables.Export.{Export}
 use Rattle.meaning.specs.Path.{Path, objectAt, added, beyond, pathOf}
 use Rattle.meaning.specs.Scan.{classEnd, isClass}
-use Rattle.meaning.specs.ClassTest.{isKnown, namesClass, class-test, class-test-none, class-name}
+use Rattle.meaning.specs.ClassTest.{isKnown, namesClass, class-test, class-test-none}
 
 -- ---- the first that passes a test, and its number
 
@@ -74,19 +74,7 @@ module _ (o : Objects) (g left : ℕ) where
     pub known-up : (kind (u .outer) ≡ 3 → ⊥) → isKnown (pathOf left o g) ≡ isKnown (pathOf (left - 1) o (u .outer))
     known-up k = rw (path-step, ne-eqb (kind (u .outer)) 3 k) (known-added (objectName o u) (pathOf (left - 1) o (u .outer)))
 
--- ---- a name with a number doesn't end in `Class`; one without does where its base does
-
-pub class-numbered : (o : Objects) (u : Entry) → (u .number ≡ 0 → ⊥) → endsWith (objectName o u) classEnd ≡ false
-class-numbered o u n = class-name o u ∙ rw (ne-eqb (u .number) 0 n)
-
-pub class-plain : (o : Objects) (u : Entry) → u .number ≡ 0 → endsWith (objectName o u) classEnd ≡ endsWith (getD (o .names) (u .index) []) classEnd
-class-plain o u z = class-name o u ∙ rw z
-
 -- ---- the class test: each question by itself
-
-and-false : (x : Bool) → (x && false) ≡ false
-and-false true = refl
-and-false false = refl
 
 module _ (limit : ℕ) (o : Objects) (e : Export) where
   pub class-hash : e .hash ≡ 0 → isClass limit o e ≡ false
@@ -115,8 +103,4 @@ module _ (limit : ℕ) (o : Objects) (g : ℕ) where
     names-plain e = class-test o limit g (getD (o .entries) k noEntry) (object-some o g k q) ∙ rw e (and-false (isKnown (pathOf limit o g)))
 
     pub names-known : endsWith (objectName o (getD (o .entries) k noEntry)) classEnd ≡ true → namesClass (pathOf limit o g) ≡ isKnown (pathOf limit o g)
-    names-known e = class-test o limit g (getD (o .entries) k noEntry) (object-some o g k q) ∙ rw e (go (isKnown (pathOf limit o g)))
-      where
-        go : (x : Bool) → (x && true) ≡ x
-        go true = refl
-        go false = refl
+    names-known e = class-test o limit g (getD (o .entries) k noEntry) (object-some o g k q) ∙ rw e (and-true (isKnown (pathOf limit o g)))

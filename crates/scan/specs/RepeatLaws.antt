@@ -1,8 +1,8 @@
 -- THE LAW of question 24 by number: the first class whose key an earlier one has, in the list that document 01 speaks of, is in the first
 -- package that `repeatsIn` is true of. Assumes nothing.
 use mathlib.Core.Path.{_≡_, refl, sym, _∙_, ap, ap₂}
-use mathlib.Core.Bool.{Bool, true, false, _&&_, _||_}
-use mathlib.Core.List.{List, [], _∷_, _++_, map, map-append, append-assoc, append-nil}
+use mathlib.Core.Bool.{Bool, true, false, _&&_, _||_, and-false, or-true}
+use mathlib.Core.List.{List, [], _∷_, _++_, map, map-append, append-nil}
 use mathlib.Core.Option.{Option, none, some}
 use Prim.Native.Nat.{ℕ, zero, suc, _+_, _-_, _≤_, _<_}
 use native.Mathlib.Omega.{arith}
@@ -17,9 +17,10 @@ use Rattle.text.specs.Never.{never}
 use Rattle.zen.specs.Script.{Objects}
 use Rattle.zen.specs.Zen.{noExport}
 use Rattle.zen.specs.declared.tables.Export.{Export}
-use Rattle.meaning.specs.Key.{Key, public, sameKey}
+use Rattle.meaning.specs.Key.{Key, public}
 use Rattle.meaning.specs.KeyLaws.{sameKey-public}
 use Rattle.meaning.specs.Reference.{Package}
+use Rattle.meaning.specs.Repeats.{keysOf, has-append, has-both, repeat-more, repeat-next, placed-append}
 use Rattle.meaning.specs.Table.{or-first, or-second}
 use Rattle.meaning.specs.Scan.{Class, isClass, classAt, classesFrom, classesOf}
 use Rattle.meaning.specs.Call.{refusedIn, accepted, Placed, placedFrom, hasKey, firstRepeat, noneTwice}
@@ -43,10 +44,6 @@ module _ (f : ℕ → Bool) where
   pub below-end : (n m : ℕ) → n ≤ m → m ≤ n → below n f ≡ false → false ≡ below m f
   below-end n m h g e = let z : m ≡ n = omega arith in rw z (sym e)
 
-  or-true : (a : Bool) → a || true ≡ true
-  or-true true = refl
-  or-true false = refl
-
   pub below-yes : (n i : ℕ) → i < n → f i ≡ true → below n f ≡ true
   unfolding below
   below-yes zero i h e = absurd (omega arith)
@@ -56,56 +53,7 @@ module _ (f : ℕ → Bool) where
       go (yes q) ih = let z : f n ≡ true = rw q at e in rw z (or-true (below n f))
       go (no q) ih = rw (ih (omega arith) e)
 
--- ---- the first repeat of classes one behind another
-
-abbrev keysOf : List Placed → List Key
-keysOf l = map (λ (x : Placed). x .class .key) l
-
-or-assoc : (a b c : Bool) → (a || b) || c ≡ a || (b || c)
-or-assoc true b c = refl
-or-assoc false b c = refl
-
-or-swap : (a b c : Bool) → a || (b || c) ≡ b || (a || c)
-or-swap true true c = refl
-or-swap true false c = refl
-or-swap false true c = refl
-or-swap false false c = refl
-
-has-append : (l m : List Key) (k : Key) → hasKey (l ++ m) k ≡ hasKey l k || hasKey m k
-has-append [] m k = refl
-has-append (x ∷ l) m k = rw (has-append l m k) (sym (or-assoc (sameKey x k) (hasKey l k) (hasKey m k)))
-
-has-both : (l m : List Placed) (k : Key) → hasKey (keysOf (l ++ m)) k ≡ hasKey (keysOf l) k || hasKey (keysOf m) k
-has-both l m k = rw (map-append (λ (x : Placed). x .class .key) l m) (has-append (keysOf l) (keysOf m) k)
-
-has-moved : (x : Key) (l m : List Key) (k : Key) → hasKey (l ++ x ∷ m) k ≡ hasKey (x ∷ l ++ m) k
-has-moved x l m k = rw (has-append l (x ∷ m) k, has-append l m k) (or-swap (hasKey l k) (sameKey x k) (hasKey m k))
-
--- of the keys seen only counts which they are
-repeat-seen : (l : List Placed) (s t : List Key) → ((k : Key) → hasKey s k ≡ hasKey t k) → firstRepeat s l ≡ firstRepeat t l
-repeat-seen [] s t e = refl
-repeat-seen (x ∷ l) s t e = rw (e (x .class .key), repeat-seen l (x .class .key ∷ s) (x .class .key ∷ t) (λ k. rw (e k)))
-
--- a repeat stays the first, whatever follows
-repeat-more : (s : List Key) (l m : List Placed) (x : Placed) → firstRepeat s l ≡ some x → firstRepeat s (l ++ m) ≡ some x
-repeat-more s [] m x e = never (cc)
-repeat-more s (y ∷ l) m x e = go (hasKey s (y .class .key)) (repeat-more (y .class .key ∷ s) l m x) e
-  where
-    go : (b : Bool) → (firstRepeat (y .class .key ∷ s) l ≡ some x → firstRepeat (y .class .key ∷ s) (l ++ m) ≡ some x)
-        → orElse b y (firstRepeat (y .class .key ∷ s) l) ≡ some x → orElse b y (firstRepeat (y .class .key ∷ s) (l ++ m)) ≡ some x
-    go true ih e = e
-    go false ih e = ih e
-
--- where there is none, it is that of what follows
-repeat-next : (s : List Key) (l m : List Placed) → firstRepeat s l ≡ none → firstRepeat s (l ++ m) ≡ firstRepeat (keysOf l ++ s) m
-repeat-next s [] m e = refl
-repeat-next s (y ∷ l) m e = go (hasKey s (y .class .key)) (repeat-next (y .class .key ∷ s) l m) e
-  where
-    go : (b : Bool) → (firstRepeat (y .class .key ∷ s) l ≡ none → firstRepeat (y .class .key ∷ s) (l ++ m) ≡ firstRepeat (keysOf l ++ y .class .key ∷ s) m)
-        → orElse b y (firstRepeat (y .class .key ∷ s) l) ≡ none
-        → orElse b y (firstRepeat (y .class .key ∷ s) (l ++ m)) ≡ firstRepeat (y .class .key ∷ keysOf l ++ s) m
-    go true ih e = never (cc)
-    go false ih e = ih e ∙ repeat-seen m (keysOf l ++ y .class .key ∷ s) (y .class .key ∷ keysOf l ++ s) (has-moved (y .class .key) (keysOf l) s)
+-- ---- the first repeat, by tests
 
 -- what a test says of the first repeat: there is none, or it is in block j
 abbrev Says : Bool → ℕ → Option Placed → Type 0
@@ -147,11 +95,7 @@ module _ (limit : ℕ) (o : Objects) where
     -- whether one of them has a key
     firsts-has : (id hash n : ℕ) → n ≤ length es → hasKey (keysOf (firsts n)) (public id hash) ≡ eqb (p .id) id && hasClass limit o es n hash
     unfolding below hasClass isClassOf classAt
-    firsts-has id hash zero h = go (eqb (p .id) id)
-      where
-        go : (a : Bool) → false ≡ (a && false)
-        go true = refl
-        go false = refl
+    firsts-has id hash zero h = sym (and-false (eqb (p .id) id))
     firsts-has id hash (suc n) h =
         let (k, q) = firsts-next n (omega arith) in
         rw (q, has-both (firsts n) (next k n) (public id hash), firsts-has id hash n (omega arith))
@@ -215,12 +159,6 @@ module _ (limit : ℕ) (o : Objects) where
   abbrev listed : List ℕ → ℕ → ℕ → List Placed
   listed c at n = placedFrom limit o 2 (packagesAt c at n)
 
-  placed-append : (j : ℕ) (ps qs : List Package) → placedFrom limit o j (ps ++ qs) ≡ placedFrom limit o j ps ++ placedFrom limit o (j + length ps) qs
-  placed-append j [] qs = let z : j + 0 ≡ j = omega arith in rw z
-  placed-append j (p ∷ ps) qs =
-      let z : j + suc (length ps) ≡ j + 1 + length ps = omega arith in
-      rw (z, placed-append (j + 1) ps qs) (sym (append-assoc (placed p j (classesOf limit o p)) (placedFrom limit o (j + 1) ps) (placedFrom limit o (j + 1 + length ps) qs)))
-
   module _ (c : List ℕ) (at : ℕ) where
     abbrev count : ℕ → ℕ
     count n = length (packageNo c at n .read .exports)
@@ -229,7 +167,7 @@ module _ (limit : ℕ) (o : Objects) where
     listed-next : (n : ℕ) → listed c at (suc n) ≡ listed c at n ++ firsts (packageNo c at n) (2 + n) (count n)
     unfolding classesOf
     listed-next n =
-        rw (← add-one n, packages-next c at n, placed-append 2 (packagesAt c at n) (packageNo c at n ∷ []), packages-length c at n, take-length (packageNo c at n .read .exports), append-nil)
+        rw (← add-one n, packages-next c at n, placed-append limit o 2 (packagesAt c at n) (packageNo c at n ∷ []), packages-length c at n, take-length (packageNo c at n .read .exports), append-nil)
 
     -- whether one of them has a key
     listed-has : (id hash n : ℕ) → hasKey (keysOf (listed c at n)) (public id hash) ≡ isBefore limit o c at n id hash
@@ -271,7 +209,7 @@ module _ (limit : ℕ) (o : Objects) where
         let (ps, q) = packages-more c at (suc n) (m - suc n) in
         let z : suc n + (m - suc n) ≡ m = omega arith in
         let l : listed c at m ≡ listed c at (suc n) ++ placedFrom limit o (2 + length (packagesAt c at (suc n))) ps =
-        ap (listed c at) (sym z) ∙ (ap (placedFrom limit o 2) q ∙ placed-append 2 (packagesAt c at (suc n)) ps) in
+        ap (listed c at) (sym z) ∙ (ap (placedFrom limit o 2) q ∙ placed-append limit o 2 (packagesAt c at (suc n)) ps) in
         rw (l, repeat-more [] (listed c at (suc n)) (placedFrom limit o (2 + length (packagesAt c at (suc n))) ps) y f) (omega arith)
 
   -- ---- for callers: the block says whether there is one, as no class stands in block 0

@@ -1,7 +1,6 @@
 //! The library against the model (document 01 read afresh) on generated corpora.
 use classreport::chain::{End, Headers, LineEnd};
 use classreport::{Corpus, CorpusBuilder, Refusal, Report, Row, report, report_into};
-use corpus::Described;
 use corpus::generate::{LARGE, dense, generate, ladder, sized};
 
 fn model(corpus: &[u8]) -> Result<Vec<u8>, Refusal> {
@@ -118,13 +117,7 @@ fn ends(bytes: &[u8]) -> Vec<End> {
 fn chains_agree_with_the_rows() {
     let mut seen = [0; 9];
     let dense = (0..3_000).map(dense).filter(|corpus| model(corpus).is_ok());
-    let ladders = [
-        ladder::paths(),
-        ladder::chains(),
-        ladder::ring(1),
-        ladder::ring(3),
-    ];
-    let ladders = ladders.iter().map(Described::bytes);
+    let ladders = ladder::all().map(|line| line.bytes());
     for corpus in dense.chain(ladders).chain([generate(5, LARGE)]) {
         for end in ends(&corpus) {
             seen[match end {

@@ -3,7 +3,6 @@
 mod both;
 
 use both::both;
-use corpus::Described;
 use corpus::census::census;
 use corpus::damage::{cuts, damage_block, faults, sound};
 use corpus::draft::Draft;
@@ -57,13 +56,7 @@ fn generated(asked: &mut Asked) {
     let small = (0..12_000).map(dense);
     let medium = (0..40).map(|seed| generate(seed, 50_000));
     let large = (0..2).map(|seed| generate(seed, 3 * LARGE));
-    let lines = [
-        ladder::paths(),
-        ladder::chains(),
-        ladder::ring(1),
-        ladder::ring(3),
-    ];
-    let lines = lines.iter().map(Described::bytes);
+    let lines = ladder::all().map(|line| line.bytes());
     for corpus in small.chain(medium).chain(large).chain(lines) {
         asked.ask_closely(&corpus);
     }

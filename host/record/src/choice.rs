@@ -76,13 +76,7 @@ fn examples() -> Vec<Question> {
 
 /// Paths, chains and rings around their limits.
 fn ladders() -> Vec<Question> {
-    let all = [
-        ladder::paths(),
-        ladder::chains(),
-        ladder::ring(1),
-        ladder::ring(3),
-    ];
-    all.map(|line| with_room(line.bytes())).into()
+    ladder::all().map(|line| with_room(line.bytes())).into()
 }
 
 /// The refusal and the block.

@@ -108,3 +108,8 @@ pub fn ring(packages: u64) -> Described {
     corpus.add_object(Text::of("Ring"), 0, other, one);
     corpus
 }
+
+/// All of them, the rings of one package and of three.
+pub fn all() -> [Described; 4] {
+    [paths(), chains(), ring(1), ring(3)]
+}

@@ -12,7 +12,7 @@ mod sized;
 
 pub use crate::random::Random;
 pub use dense::{dense, dense_described};
-pub use sized::sized;
+pub use sized::{sized, sized_edges};
 
 use crate::corpus;
 use objects::Objects;

@@ -62,6 +62,18 @@ pub fn sized(report: u64) -> Described {
     corpus
 }
 
+/// Lengths from the least on; around the first row; around the least row of one long name, and of two; past one of 65.
+pub fn sized_edges() -> impl Iterator<Item = u64> {
+    let edges = [
+        29..32,
+        99..109,
+        196_701..196_706,
+        393_305..393_310,
+        13_000_001..13_000_002,
+    ];
+    edges.into_iter().flatten()
+}
+
 /// Objects 1 to 65, each the outer of the next, which all have one name: the longest.
 fn nested() -> Described {
     let entry = |depth: u64| ScriptEntry {

@@ -1,6 +1,5 @@
 //! The call, oracle and model on generated, damaged and rearranged corpora, with a count of what was answered. Whatever is
 //! never answered fails the test.
-use corpus::Described;
 use corpus::damage::{cuts, damage_block, faults, sound};
 use corpus::draft::Draft;
 use corpus::generate::{LARGE, Random, dense, dense_described, generate, ladder};
@@ -22,13 +21,7 @@ fn small(asked: &mut Asked) {
 fn larger(asked: &mut Asked) {
     let medium = (100..140).map(|seed| generate(seed, 50_000));
     let large = (100..102).map(|seed| generate(seed, LARGE));
-    let lines = [
-        ladder::paths(),
-        ladder::chains(),
-        ladder::ring(1),
-        ladder::ring(3),
-    ];
-    let lines = lines.iter().map(Described::bytes);
+    let lines = ladder::all().map(|line| line.bytes());
     for corpus in medium.chain(large).chain(lines) {
         assert!(asked.ask_closely(&corpus), "accepted");
     }

@@ -1,6 +1,6 @@
 //! Reports that are far longer than their corpora, measured before a byte is written.
 use corpus::census::census;
-use corpus::generate::sized;
+use corpus::generate::{sized, sized_edges};
 
 use crate::asked::Asked;
 
@@ -13,17 +13,8 @@ fn has(asked: &mut Asked, length: usize) {
     assert_eq!(asked.ask(&corpus, work, length - 1), Err((26, 0)));
 }
 
-/// From the least length on; around the first row; around the least row of one long name, and of two; past one of 65.
 #[test]
 fn as_long_as_wanted() {
     let mut asked = Asked::new(5);
-    for lengths in [
-        29..32,
-        99..109,
-        196_701..196_706,
-        393_305..393_310,
-        13_000_001..13_000_002,
-    ] {
-        lengths.for_each(|length| has(&mut asked, length));
-    }
+    sized_edges().for_each(|length| has(&mut asked, length as usize));
 }

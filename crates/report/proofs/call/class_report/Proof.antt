@@ -7,7 +7,7 @@ use lib.ListN.{length, take, drop}
 use Rattle.zen.specs.ScriptAnswers.{opened}
 use Rattle.zen.specs.ScriptLaws.{script-shut}
 use Rattle.zen.specs.declared.script.Opened.the-variants.{Open}
-use Rattle.report.specs.Called.{Begun}
+use Rattle.report.specs.CallSteps.{Begun}
 use Rattle.report.specs.CallLaws.{begun, begun-inside, answer-broken, answer-script, refused-by, answered-refused, answered-outcome}
 use Rattle.report.proofs.call.class_report.Statement.{statement}
 use Rattle.report.proofs.call.class_report.Tie as tie

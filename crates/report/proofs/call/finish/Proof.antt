@@ -12,7 +12,7 @@ summed : (c : tie.After-resolve-all) → let a = c .before .before .before .befo
     Summed (a .lookups) (a .objects) (a .c .now) (a .f) (a .s .now) (a .n) (a .t) (a .w .now) (c .before .before .before .before .link-classes .last .0) (c .resolve-all .last .0) (c .resolve-all .result)
 summed c =
     let (b, a, g, l) = c .before .before .before .before .before .before .before .before .before .before .pre in
-    record { begun = b; packages = a; gathered = g; links = c .before .before .before .before .link-classes .ensures; resolves = c .resolve-all .ensures .0 }
+    record { begun = b; packages = a; gathered = g; links = c .before .before .before .before .link-classes .ensures .0; resolves = c .resolve-all .ensures .0 }
 
 link-classes-requires : tie.Need-link-classes-requires
 link-classes-requires c κs = gathered-classes (c .before .before .before .before .before .pre .2)
@@ -20,7 +20,7 @@ link-classes-requires c κs = gathered-classes (c .before .before .before .befor
 resolve-all-requires : tie.Need-resolve-all-requires
 resolve-all-requires c κs =
     let (b, a, g, l) = c .before .before .before .before .before .before .before .before .before .pre in
-    (gathered-kept g (c .before .before .before .link-classes .ensures), l, g .few .0)
+    (gathered-kept g (c .before .before .before .link-classes .ensures .0), l, g .few .0)
 
 add-size : tie.Need-add-size
 add-size c =

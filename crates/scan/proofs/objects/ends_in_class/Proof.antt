@@ -18,8 +18,8 @@ use Rattle.zen.specs.declared.places.Place.{Place}
 use Rattle.zen.specs.declared.script.Entry.{Entry}
 use Rattle.zen.specs.declared.script.Layout.{Layout}
 use Rattle.zen.specs.declared.script.Script.the-variants.{Accepted}
+use Rattle.meaning.specs.ClassTest.{name-numbered, name-plain}
 use Rattle.meaning.specs.Scan.{classEnd}
-use Rattle.scan.specs.ObjectLaws.{class-numbered, class-plain}
 use Rattle.scan.proofs.objects.ends_in_class.Statement.{statement}
 use Rattle.scan.proofs.objects.ends_in_class.Tie as tie
 
@@ -40,10 +40,10 @@ module _ (s : List ℕ) (l : Layout) (a : scriptAnswer (run script 0 s) ≡ Acce
 
       plain : (o : Objects) → run script 0 s ≡ gives o → u .number ≡ 0 → (r : Bool) → r ≡ endsWith (textAt s p) classEnd
           → r ≡ endsWith (objectName o (getD (o .entries) i noEntry)) classEnd
-      plain o q z r f = f ∙ rw (at, objects-facts s l a o q .holds y (u .index) named .text, ← same o q) (sym (class-plain o u z))
+      plain o q z r f = f ∙ rw (at, objects-facts s l a o q .holds y (u .index) named .text, ← same o q) (sym (name-plain o u z))
 
     numbered : (o : Objects) → run script 0 s ≡ gives o → (u .number ≡ 0 → ⊥) → endsWith (objectName o (getD (o .entries) i noEntry)) classEnd ≡ false
-    numbered o q n = rw (← same o q) (class-numbered o u n)
+    numbered o q n = rw (← same o q) (name-numbered o u n)
 
 entry-at-requires : tie.Need-entry-at-requires
 entry-at-requires c κs = let p = c .before .pre in (p .0 .0, inside _ _ (p .0 .0) _ (p .1))
