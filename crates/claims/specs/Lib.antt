@@ -2,3 +2,5 @@
 pub mod Claims
 -- Document 01's table of examples, and its mistaken readings.
 pub mod Examples
+-- Two limits on one corpus: what is known stays known.
+pub mod Limits

@@ -61,14 +61,14 @@ nested zero = []
 nested (suc n) = object 0 (scriptIndex n) (innermost n) ∷ nested n
 
 -- n classes, the super of each being the one before it, and of the first a native class; the index of the last (of the native class where n is 0)
-abbrev lastOf : ℕ → ℕ
+abbrev pub lastOf : ℕ → ℕ
 lastOf zero = scriptIndex 1
 lastOf (suc n) = n
 
 abbrev pub classWith : ℕ → ℕ → Export
 classWith parent hash = record { index = 2; number = 0; outer = nullIndex; class = scriptIndex 0; parent = parent; hash = hash }
 
-abbrev derived : ℕ → List Export
+abbrev pub derived : ℕ → List Export
 derived zero = []
 derived (suc n) = derived n ++ classWith (lastOf n) (n + 1) ∷ []
 

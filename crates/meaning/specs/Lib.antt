@@ -23,6 +23,7 @@ pub mod Edges
 pub mod CallExamples
 pub mod RowExamples
 pub mod LimitExamples
+pub mod RoomExamples
 -- the own chain, the native class, rows in the report's bytes
 pub mod OwnChain
 pub mod Native
@@ -37,6 +38,8 @@ pub mod Outcome
 -- demand 3
 pub mod Demand
 pub mod Rearrange
+-- two limits on one corpus: what is known stays known
+pub mod Monotone
 -- theorems that shut out wrong readings
 pub mod ClassTest
 pub mod Lengths
@@ -54,3 +57,5 @@ pub mod Sections
 pub mod Rewriting
 pub mod Reordering
 pub mod RearrangedLaws
+pub mod LimitsTable
+pub mod LimitsChain
