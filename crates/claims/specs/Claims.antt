@@ -19,7 +19,7 @@ use Rattle.text.specs.House.{lengthFirst}
 use Rattle.text.specs.Id.{idOf}
 use Rattle.text.specs.Index.{kind, importName, importHash}
 use Rattle.text.specs.Literal.{quoted}
-use Rattle.text.specs.Lower.{lowered}
+use Rattle.lower.specs.Lower.{lowered}
 use Rattle.text.specs.Name.{textBytes}
 use Rattle.text.specs.Number.{beBytes}
 use Rattle.text.specs.NumberLaws.{Bytes}

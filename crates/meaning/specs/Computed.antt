@@ -7,7 +7,7 @@ use Rattle.text.specs.City.{swapMul, mixU, mixV, mixY, mixLast, mix8, len33to64
 use Rattle.text.specs.City.{weak32, weakAt, nextX, nextY, nextZ, nextV, nextW, turn, turns, start, finish, longer, cityHash64}
 use Rattle.text.specs.Digits.{digits, decimal, hex}
 use Rattle.text.specs.Id.{idOf}
-use Rattle.text.specs.Lower.{lower}
+use Rattle.lower.specs.Lower.{lower}
 use Rattle.text.specs.Name.{decoded, textBytes}
 use Rattle.text.specs.Number.{leAt, beBytes}
 use Rattle.text.specs.Reading.{rows, runBlock}

@@ -14,8 +14,8 @@ use Rattle.text.specs.Output.{over, Wrote}
 use Rattle.text.specs.OutputLaws.{wrote-byte, wrote-as, wrote-count, wrote-taken}
 use Rattle.text.specs.Utf16.{isWell, encode16, unitBytes}
 use Rattle.text.specs.Name.{decoded, base}
-use Rattle.text.specs.LowerAscii.{lowerAscii}
-use Rattle.text.specs.Lower.{lowered}
+use Rattle.lower.specs.Ascii.{lowerAscii}
+use Rattle.lower.specs.Lower.{lowered}
 use Rattle.text.specs.LowerLaws.{lowered-units, lowered-unit}
 use Rattle.text.specs.City.{turn, turns, start, finish, cityHash64}
 use Rattle.text.specs.CityLaws.{turns-at, long-is}

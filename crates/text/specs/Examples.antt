@@ -21,7 +21,7 @@ use Rattle.text.specs.Units.{unitsOf, scalarOf, nameUnits}
 use Rattle.text.specs.Digits.{digits, decimal, hex}
 use Rattle.text.specs.Name.{decoded, suffix, rendered, textBytes}
 use Rattle.text.specs.Affix.{startsWith, endsWith, allAscii}
-use Rattle.text.specs.Lower.{lower, lowered}
+use Rattle.lower.specs.Lower.{lower, lowered}
 use Rattle.text.specs.City.{k2, shiftMix, hashLen16Mul, hashLen16, mulOf, len1to3, len4to7, len8to16, len0to16, mix4, len17to32}
 use Rattle.text.specs.City.{swapMul, mixU, mixV, mixY, mixLast, mix8, len33to64}
 use Rattle.text.specs.City.{weak32, weakAt, nextX, nextY, nextZ, nextV, nextW, turn, turns, start, finish, longer, cityHash64}

@@ -12,8 +12,8 @@ use Rattle.text.specs.Utf16Laws.{encode-append, encode-ascii}
 use Rattle.text.specs.Digits.{digits, decimal}
 use Rattle.text.specs.Name.{suffix}
 use Rattle.text.specs.NameLaws.{suffix-ascii}
-use Rattle.text.specs.Lower.{lower, lowered}
-use Rattle.text.specs.LowerAsciiLaws.{ascii-below, ascii-above}
+use Rattle.lower.specs.Lower.{lower, lowered}
+use Rattle.lower.specs.AsciiLaws.{ascii-below, ascii-above}
 use Rattle.text.specs.LowerLaws.{lower-is, lowered-append}
 use Rattle.text.specs.Units.{nameUnits}
 

@@ -36,9 +36,6 @@ pub mod NameLength
 pub mod Affix
 pub mod AffixLaws
 pub mod PlainLaws
-pub mod LowerAscii
-pub mod LowerAsciiLaws
-pub mod Lower
 pub mod LowerLaws
 -- ---- Hash: words of 64 bits, CityHash64, the id of a name
 pub mod Word

@@ -8,9 +8,9 @@ use native.Mathlib.Omega.{arith}
 use lib.ListN.{length, getD, length-map, List·getD-map}
 use borrow.Author.Tests.{lt-ltb, le-ltb}
 use Rattle.text.specs.Utf16.{Scalar, Scalars, encodeOne, encode16}
-use Rattle.text.specs.LowerAscii.{lowerAscii}
-use Rattle.text.specs.LowerAsciiLaws.{ascii-above, ascii-cases, ascii-unit}
-use Rattle.text.specs.Lower.{lower, lowered}
+use Rattle.lower.specs.Ascii.{lowerAscii}
+use Rattle.lower.specs.AsciiLaws.{ascii-above, ascii-cases, ascii-unit}
+use Rattle.lower.specs.Lower.{lower, lowered}
 
 pub lower-is : (c : ℕ) → lower c ≡ lowerAscii c
 unfolding lower

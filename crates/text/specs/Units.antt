@@ -4,7 +4,7 @@ use mathlib.Core.List.{List, [], _∷_, _++_}
 use Prim.Native.Nat.{ℕ}
 use Rattle.text.specs.Choose.{choose}
 use Rattle.text.specs.Utf16.{isHigh, isLow, ofPair, units, encode16}
-use Rattle.text.specs.Lower.{lowered}
+use Rattle.lower.specs.Lower.{lowered}
 use Rattle.text.specs.declared.utf16.Scalar.{Scalar}
 use Rattle.text.specs.declared.utf16.Scalar.the-variants.{One, Two, Ill}
 

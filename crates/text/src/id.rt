@@ -16,7 +16,7 @@ use super::city::hash_len0to32;
 use super::city::hash_len33up;
 use super::city::last_mix;
 use super::city::one_turn;
-use super::lower::lower_ascii;
+use lower::ascii::lower_ascii;
 use super::name::put_suffix;
 use super::number;
 use super::number::le64;

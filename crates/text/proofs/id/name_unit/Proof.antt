@@ -5,8 +5,8 @@ use native.Mathlib.Omega.{arith}
 use borrow.Author.Needs.{needs}
 use lib.ListN.{length, getD}
 use Rattle.text.specs.NumberLaws.{Bytes}
-use Rattle.text.specs.LowerAscii.{lowerAscii}
-use Rattle.text.specs.LowerAsciiLaws.{ascii-unit}
+use Rattle.lower.specs.Ascii.{lowerAscii}
+use Rattle.lower.specs.AsciiLaws.{ascii-unit}
 use Rattle.text.specs.Name.{base}
 use Rattle.text.specs.Units.{unitsOf, nameUnits}
 use Rattle.text.proofs.NameUnits.{name-length, part-unit, suffix-unit}

@@ -1,9 +1,9 @@
--- `text::lower::lower_ascii` meets its contract: one law of `lowerAscii` for each case. Assumes nothing.
+-- `lower::ascii::lower_ascii` meets its contract: one law of `lowerAscii` for each case. Assumes nothing.
 use mathlib.Core.Path.{sym}
 use borrow.Author.Needs.{needs}
-use Rattle.text.specs.LowerAsciiLaws.{ascii-below, ascii-above, ascii-letter}
-use Rattle.text.proofs.lower.lower_ascii.Statement.{statement}
-use Rattle.text.proofs.lower.lower_ascii.Tie as tie
+use Rattle.lower.specs.AsciiLaws.{ascii-below, ascii-above, ascii-letter}
+use Rattle.lower.proofs.ascii.lower_ascii.Statement.{statement}
+use Rattle.lower.proofs.ascii.lower_ascii.Tie as tie
 
 returns : tie.Need-returns
 returns c = sym (ascii-below _ (c .if1 .taken))

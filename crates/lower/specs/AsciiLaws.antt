@@ -6,7 +6,7 @@ use Prim.Native.Nat.{ℕ, _+_, _≤_, _<_}
 use native.Mathlib.Omega.{arith}
 use borrow.Author.Tests.{le-leb, lt-leb, leb-true}
 use lib.Dec.{leb}
-use Rattle.text.specs.LowerAscii.{lowerAscii}
+use Rattle.lower.specs.Ascii.{lowerAscii}
 
 pub ascii-below : (c : ℕ) → c < 65 → lowerAscii c ≡ c
 unfolding lowerAscii

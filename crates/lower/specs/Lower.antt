@@ -1,7 +1,7 @@
 -- Lowering a name for its id (document 01: "the UTF-16LE text with A to Z lowered"). Assumes nothing.
 use mathlib.Core.List.{List, [], _∷_}
 use Prim.Native.Nat.{ℕ}
-use Rattle.text.specs.LowerAscii.{lowerAscii}
+use Rattle.lower.specs.Ascii.{lowerAscii}
 
 -- the lower-case form of a scalar value: of A to Z alone. To unfold `lower` is to unfold `lowerAscii`
 unfoldable pub lower : ℕ → ℕ

@@ -1,6 +1,6 @@
 // Lowering one character: A to Z.
 ghost use mathlib.Core.Path.{_≡_};
-ghost use Rattle.text.specs.LowerAscii.{lowerAscii};
+ghost use Rattle.lower.specs.Ascii.{lowerAscii};
 
 // A to Z become a to z; every other value stays.
 pub fn lower_ascii(c: u32) -> u32

@@ -1,0 +1,5 @@
+-- Lowering a character of a name for its id.
+
+pub mod Ascii
+pub mod AsciiLaws
+pub mod Lower

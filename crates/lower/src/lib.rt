@@ -1,0 +1,3 @@
+// Lowering a character of a name for its id.
+
+pub mod ascii; // A to Z
