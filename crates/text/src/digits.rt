@@ -42,15 +42,17 @@ fn hex_digit(d: u64) -> u8
     (87 + d) as u8
 }
 
-// The last k hexadecimal digits of a number.
+// The last k hexadecimal digits of a number, from the last one on.
 pub fn put_hex(out: &mut [u8], n: u64, k: usize) -> usize
     requires { ⌜ k ≤ length (now out) ⌝ }
     ensures { λ r. ⌜ Wrote (now (out .entry)) (hex k n) (now (out .exit)) r ⌝ }
 {
-    if k == 0 {
-        return 0;
+    let mut rest = n;
+    let mut left = k;
+    while 0 < left {
+        left -= 1;
+        out[left] = hex_digit(rest % 16);
+        rest = rest / 16;
     }
-    let at = put_hex(out, n / 16, k - 1);
-    out[at] = hex_digit(n % 16);
-    at + 1
+    k
 }
