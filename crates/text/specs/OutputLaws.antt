@@ -6,7 +6,7 @@ use native.Mathlib.Nat.{zero-add}
 use native.Mathlib.Numerals.{add-one}
 use native.Mathlib.Omega.{arith}
 use lib.ListN.{length, set, getD, take, drop, length-append, length-drop, length-take, drop-of-length-le}
-use lib.Seq.{take-at, drop-at, drop-drop, take-all, drop-cons, set-at, take-suc, length-take-le, sets, sets-eq}
+use lib.Seq.{paste, take-append-le, take-add, take-take, take-at, drop-at, drop-drop, take-all, drop-cons, set-at, take-suc, length-take-le, sets, sets-eq}
 use Rattle.text.specs.Number.{beAt, beBytes}
 use Rattle.text.specs.NumberLaws.{length-beBytes, be-beBytes}
 use Rattle.text.specs.Output.{over, Wrote}
@@ -58,6 +58,22 @@ wrote-byte {s} {a} {o} {n} w h v = record {
 pub wrote-copy : {s o : List ℕ} {n : ℕ} (x : List ℕ) → Wrote s (take n x) o n → n < length x → n < length s
     → Wrote s (take (n + 1) x) (set o n (getD x n 0)) (n + 1)
 wrote-copy {s} {o} {n} x w h l = wrote-as (wrote-byte w l (getD x n 0)) (rw (add-one, take-suc x n 0 h))
+
+-- bytes of x were stored from k on, over some that were
+pub wrote-paste : {s o : List ℕ} {n : ℕ} (x : List ℕ) (k m : ℕ) → Wrote s (take n x) o n → k ≤ n → n ≤ k + m → k + m ≤ length x → k + m ≤ length s
+    → Wrote s (take (k + m) x) (paste o k (drop k x) m) (k + m)
+unfolding over
+wrote-paste {s} {o} {n} x k m w h l f g =
+    let e : length (take n x) ≡ n = sym (w .size) in
+    let d : n + (k + m - n) ≡ k + m = omega arith in
+    let front : take k o ≡ take k x = rw (w .is) (take-append-le k (take n x) _ (omega arith) ∙ take-take k n x h) in
+    let rest : drop (k + m) o ≡ drop (k + m) s =
+    rw (← d, ← drop-drop (k + m - n) n o, ← drop-drop (k + m - n) n s, w .is, drop-over s (take n x) n e) in
+    record {
+      size = sym (length-take-le (k + m) x f);
+      fits = g;
+      is = rw (front, rest, length-take-le (k + m) x f, take-add k m x);
+    }
 
 -- b was written to the part `&mut out[n..]`, which has come back: the list is as the borrow checker leaves it
 pub wrote-rest : {s a o b p : List ℕ} {n m : ℕ} → Wrote s a o n → Wrote (take (length o - n) (drop n o)) b p m

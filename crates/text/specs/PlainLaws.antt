@@ -1,18 +1,19 @@
 -- Laws of one-byte text that is ASCII: the test by bits, byte by byte, and what is written for it. Assumes nothing.
 use mathlib.Core.Path.{_≡_, refl, sym, _∙_, ap}
-use mathlib.Core.Bool.{Bool, true, false, _&&_}
+use mathlib.Core.Bool.{Bool, true, false, _&&_, and-eq-true-iff}
 use mathlib.Core.List.{List, [], _∷_, _++_}
-use Prim.Native.Nat.{ℕ, _+_, _-_, _≤_, _<_}
+use Prim.Native.Nat.{ℕ, zero, suc, _+_, _*_, _-_, _/_, _^_, _≤_, _<_}
 use native.Mathlib.Numerals.{add-one}
 use native.Mathlib.Omega.{arith}
-use borrow.Author.Tests.{lt-ltb, le-ltb, ltb-true, ltb-false}
-use lib.Bits.{bitOr, or-lt, or-add-and, and-le-r, and-le-l}
-use lib.Dec.{ltb}
-use lib.ListN.{length, take, drop, getD, length-append, length-drop}
-use lib.Seq.{take-suc, drop-drop}
+use borrow.Author.Tests.{lt-ltb, le-ltb, ltb-true, ltb-false, ne-eqb, eqb-true, eqb-false}
+use lib.Bits.{bitAnd, bitOr, or-lt, or-add-and, and-le-r, and-le-l, and-block, and-high}
+use lib.Dec.{eqb, ltb}
+use lib.ListN.{length, take, drop, getD, length-append, length-drop, take-append-drop}
+use lib.Seq.{take-suc, take-add, take-all, length-take-le}
 use Rattle.text.specs.Affix.{allAscii}
-use Rattle.text.specs.Output.{over, Wrote}
-use Rattle.text.specs.OutputLaws.{drop-over, wrote-length}
+use Rattle.text.specs.Number.{le, leAt}
+use Rattle.text.specs.NumberLaws.{Bytes, bytes-part, leAt-is}
+use Rattle.text.specs.Output.{Wrote}
 use Rattle.text.specs.Name.{decoded, base}
 use Rattle.text.specs.Utf8.{utf8One, utf8}
 use Rattle.text.specs.Utf8Laws.{Sized, one, two, three, four, sized, utf8-1, utf8-2, utf8-3, utf8-4, utf8-ascii}
@@ -28,23 +29,93 @@ or-ascii a b = go (ltb a 128) (ltb b 128) refl refl
     go false y p q = le-ltb (bitOr a b) 128 (omega (arith, or-add-and a b, and-le-r a b, ltb-false a 128 p))
     go true false p q = le-ltb (bitOr a b) 128 (omega (arith, or-add-and a b, and-le-l a b, ltb-false b 128 q))
 
-ascii-last : (s : List ℕ) (x : ℕ) → allAscii (s ++ x ∷ []) ≡ (allAscii s && ltb x 128)
-ascii-last [] x = go (ltb x 128)
-  where
-    go : (b : Bool) → (b && true) ≡ b
-    go true = refl
-    go false = refl
-ascii-last (c ∷ s) x = rw (ascii-last s x) (go (ltb c 128) (allAscii s) (ltb x 128))
+-- two parts are ASCII where each is
+pub ascii-both : (s t : List ℕ) → allAscii (s ++ t) ≡ (allAscii s && allAscii t)
+ascii-both [] t = refl
+ascii-both (c ∷ s) t = rw (ascii-both s t) (go (ltb c 128) (allAscii s) (allAscii t))
   where
     go : (a b c : Bool) → (a && (b && c)) ≡ ((a && b) && c)
     go true b c = refl
     go false b c = refl
 
+and-true : (b : Bool) → (b && true) ≡ b
+and-true true = refl
+and-true false = refl
+
+ascii-last : (s : List ℕ) (x : ℕ) → allAscii (s ++ x ∷ []) ≡ (allAscii s && ltb x 128)
+ascii-last s x = ascii-both s (x ∷ []) ∙ rw (and-true (ltb x 128))
+
 -- one byte more
 pub ascii-next : (s : List ℕ) (i all : ℕ) → i < length s → ltb all 128 ≡ allAscii (take i s) → ltb (bitOr all (getD s i 0)) 128 ≡ allAscii (take (i + 1) s)
 ascii-next s i all h e = or-ascii all (getD s i 0) ∙ rw (add-one i, take-suc s i 0 h, ascii-last (take i s) (getD s i 0), e)
 
+-- ---- the test, eight bytes a turn
+
+-- the highest bit of each of n bytes
+abbrev marks : ℕ → ℕ
+marks zero = 0
+marks (suc n) = marks n * 256 + 128
+
+-- a byte is ASCII where its highest bit isn't set
+low-bit : (b : ℕ) → b < 128 → bitAnd b 128 ≡ 0
+low-bit b h = let e : b / 128 ≡ 0 = omega arith in and-high b 1 7 ∙ rw e
+
+high-bit : (b : ℕ) → 128 ≤ b → b < 256 → bitAnd b 128 ≡ 128
+high-bit b l h = let e : b / 128 ≡ 1 = omega arith in and-high b 1 7 ∙ rw e
+
+byte-ascii : (b m : ℕ) → b < 256 → eqb (m * 256 + bitAnd b 128) 0 ≡ (ltb b 128 && eqb m 0)
+byte-ascii b m h = go (ltb b 128) (eqb m 0) refl refl
+  where
+    some : (x : ℕ) → (m ≡ 0 → ⊥) → m * 256 + x ≡ 0 → ⊥
+    some x z e = z (omega arith)
+
+    go : (x y : Bool) → ltb b 128 ≡ x → eqb m 0 ≡ y → eqb (m * 256 + bitAnd b 128) 0 ≡ (x && y)
+    go true true p q = rw (low-bit b (ltb-true b 128 p), eqb-true m 0 q)
+    go true false p q = ne-eqb _ _ (some (bitAnd b 128) (eqb-false m 0 q))
+    go false y p q = rw (high-bit b (ltb-false b 128 p) h) (ne-eqb (m * 256 + 128) 0 (λ (e : m * 256 + 128 ≡ 0). omega arith))
+
+-- so are bytes where their highest bits aren't set in their number
+marks-ascii : (l : List ℕ) → Bytes l → eqb (bitAnd (le l) (marks (length l))) 0 ≡ allAscii l
+marks-ascii [] b = refl
+marks-ascii (x ∷ l) b =
+    let e : x + 256 * le l ≡ le l * 2 ^ 8 + x = omega arith in
+    rw (e, and-block 8 (le l) (marks (length l)) x 128 (b zero) (omega arith))
+    (byte-ascii x (bitAnd (le l) (marks (length l))) (b zero) ∙ rw (marks-ascii l (λ i. b (suc i))))
+
+-- the eight bytes from a place on
+pub word-ascii : (s : List ℕ) (i : ℕ) → Bytes s → i + 8 ≤ length s → eqb (bitAnd (leAt 8 s i) 0x8080808080808080) 0 ≡ allAscii (take 8 (drop i s))
+word-ascii s i b h =
+    let e : length (take 8 (drop i s)) ≡ 8 = length-take-le 8 (drop i s) (simp length-drop (omega arith)) in
+    rw (leAt-is 8 s i) (rw e at (marks-ascii (take 8 (drop i s)) (bytes-part 8 i s b)))
+
+-- eight bytes more
+pub ascii-more : (s : List ℕ) (i : ℕ) → allAscii (take i s) ≡ true → allAscii (take 8 (drop i s)) ≡ true → allAscii (take (i + 8) s) ≡ true
+ascii-more s i e f = rw (take-add i 8 s, ascii-both (take i s) (take 8 (drop i s)), e, f)
+
+-- eight bytes that are not
+pub ascii-not : (s : List ℕ) (i : ℕ) → allAscii (take 8 (drop i s)) ≡ false → allAscii s ≡ false
+ascii-not s i f =
+    rw (← take-append-drop i s, ascii-both (take i s) (drop i s), ← take-append-drop 8 (drop i s), ascii-both (take 8 (drop i s)) (drop 8 (drop i s)), f) (go (allAscii (take i s)))
+  where
+    go : (b : Bool) → (b && false) ≡ false
+    go true = refl
+    go false = refl
+
+-- the last eight, where those before them are
+pub ascii-end : (s : List ℕ) (i last : ℕ) → last + 8 ≡ length s → last ≤ i → allAscii (take i s) ≡ true → allAscii (take 8 (drop last s)) ≡ allAscii s
+ascii-end s i last e h f =
+    let short : length (drop last s) ≤ 8 = simp length-drop (omega arith) in
+    let d : last + (i - last) ≡ i = omega arith in
+    let g : (allAscii (take last s) && allAscii (take (i - last) (drop last s))) ≡ true = sym (ascii-both (take last s) _) ∙ ap allAscii (sym (take-add last (i - last) s)) ∙ rw d f in
+    let p = and-eq-true-iff (allAscii (take last s)) (allAscii (take (i - last) (drop last s))) .0 g in
+    sym (ap allAscii (sym (take-append-drop last s)) ∙ ascii-both (take last s) (drop last s) ∙ rw (p .0, take-all 8 (drop last s) short))
+
 -- ---- what is written
+
+-- one-byte text is its bytes
+pub plain-base : (part : List ℕ) → base false part ≡ part
+unfolding decoded
+plain-base part = refl
 
 -- ASCII is its own UTF-8
 pub plain-bytes : (part : List ℕ) → allAscii part ≡ true → utf8 (base false part) ≡ part
@@ -70,20 +141,6 @@ pub plain-room : (part : List ℕ) → length part ≤ length (utf8 (base false 
 unfolding decoded
 plain-room part = utf8-some part
 
--- what is written over something shorter is as if that had not been written
-beyond : (s a : List ℕ) (n : ℕ) → length a ≤ n → drop n (over s a) ≡ drop n s
-beyond s a n h =
-    let e : length a + (n - length a) ≡ n = omega arith in
-    rw (← e, ← drop-drop (n - length a) (length a) (over s a), ← drop-drop (n - length a) (length a) s, drop-over s a (length a) refl)
-
-pub wrote-over : {s a m b o : List ℕ} {k n : ℕ} → Wrote s a m k → Wrote m b o n → length a ≤ length b → Wrote s b o n
-unfolding over
-wrote-over {s} {a} {m} {b} {o} {k} {n} v w h = record {
-  size = w .size;
-  fits = omega (arith, w .fits, wrote-length v);
-  is = w .is ∙ rw (v .is) (ap (λ (l : List ℕ). b ++ l) (beyond s a (length b) h));
-}
-
 -- a base of one-byte text, by whether it is ASCII
 module _ {wide : Bool} (part : List ℕ) (n : wide ≡ false) where
   pub plain-fits : (room : ℕ) → length (utf8 (base wide part)) ≤ room → length part ≤ room
@@ -95,6 +152,3 @@ module _ {wide : Bool} (part : List ℕ) (n : wide ≡ false) where
 
     pub plain-wrote : {s o : List ℕ} {k : ℕ} → Wrote s part o k → Wrote s (utf8 (base wide part)) o k
     plain-wrote w = rw (n, plain-bytes part (sym e ∙ y)) w
-
-  pub plain-then : {s m o : List ℕ} {j k : ℕ} → Wrote s part m j → Wrote m (utf8 (base wide part)) o k → Wrote s (utf8 (base wide part)) o k
-  plain-then v w = wrote-over v w (rw n (plain-room part))

@@ -8,6 +8,7 @@ ghost use Rattle.text.specs.Name.{decoded, base};
 ghost use Rattle.text.specs.Units.{unitsOf};
 ghost use Rattle.text.specs.Affix.{startsWith, endsWith, allAscii};
 use super::number;
+use super::plain::is_plain;
 use super::units::unit_at;
 use super::units::unit_count;
 
@@ -54,6 +55,9 @@ pub fn is_ascii(part: &[u8], wide: bool) -> bool
     requires { ⌜ isWell (decoded wide (now part)) ≡ true ⌝ }
     ensures { λ r. ⌜ r ≡ allAscii (base wide (now (part .entry))) ⌝ }
 {
+    if !wide {
+        return is_plain(part);
+    }
     let n = unit_count(part, wide);
     let mut i = 0;
     while i < n {

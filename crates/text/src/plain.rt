@@ -1,9 +1,9 @@
-// Names whose one-byte text is all ASCII: its bytes are its UTF-8, and are copied as they stand; other names go the way of `name`. The two
-// loops run to the end whatever they meet, so that the compiler can take many bytes a turn.
+// Names whose one-byte text is all ASCII: its bytes are its UTF-8, and are copied as they stand; other names go the way of `name`.
 ghost use mathlib.Core.Path.{_≡_};
 ghost use mathlib.Core.Bool.{true};
 ghost use Prim.Native.Nat.{_*_, _^_, _+_, _≤_, _<_};
-ghost use lib.ListN.{length};
+ghost use lib.ListN.{length, take, drop};
+ghost use lib.Seq.{paste};
 ghost use Rattle.text.specs.Affix.{allAscii};
 ghost use Rattle.text.specs.Output.{Wrote};
 ghost use Rattle.text.specs.Utf16.{isWell};
@@ -12,10 +12,20 @@ ghost use Rattle.text.specs.Name.{decoded, base, rendered, textBytes};
 use super::name;
 use super::name::put_suffix;
 use super::name::suffix_len;
+use super::number::le64;
 use super::output::put_be32;
+use super::output::put_bytes;
 
-// Whether bytes are all ASCII.
-fn is_plain(part: &[u8]) -> bool
+// Whether the eight bytes from a place on are ASCII: none of them has its highest bit set.
+fn is_word(part: &[u8], i: usize) -> bool
+    requires { ⌜ i + 8 ≤ length (now part) ⌝ }
+    ensures { λ r. ⌜ r ≡ allAscii (take 8 (drop i (now (part .entry)))) ⌝ }
+{
+    le64(part, i) & 0x8080_8080_8080_8080 == 0
+}
+
+// Whether a few bytes are all ASCII.
+fn is_short(part: &[u8]) -> bool
     ensures { λ r. ⌜ r ≡ allAscii (now (part .entry)) ⌝ }
 {
     let mut all: u8 = 0;
@@ -27,20 +37,65 @@ fn is_plain(part: &[u8]) -> bool
     all < 128
 }
 
-// Bytes, and whether they are all ASCII.
-fn put_plain(out: &mut [u8], part: &[u8]) -> bool
-    requires { ⌜ length (now part) ≤ length (now out) ⌝ }
-    ensures { λ r. ⌜ (r ≡ allAscii (now (part .entry))) × Wrote (now (out .entry)) (now (part .entry)) (now (out .exit)) (length (now (part .entry))) ⌝ }
+// Whether bytes are all ASCII, eight a turn; the last eight may have some of those before them.
+pub fn is_plain(part: &[u8]) -> bool
+    ensures { λ r. ⌜ r ≡ allAscii (now (part .entry)) ⌝ }
 {
-    let mut all: u8 = 0;
-    let mut i = 0;
-    while i < part.len() {
-        let v = part[i];
-        out[i] = v;
-        all = all | v;
-        i += 1;
+    let n = part.len();
+    if n < 8 {
+        return is_short(part);
     }
-    all < 128
+    let last = n - 8;
+    let mut i = 0;
+    while i < last {
+        if !is_word(part, i) {
+            return false;
+        }
+        i += 8;
+    }
+    is_word(part, last)
+}
+
+// The eight bytes of src from a place on, to the same place: all are read before one is written, so that they go as one word.
+fn put_eight(out: &mut [u8], src: &[u8], at: usize)
+    requires { ⌜ (at + 8 ≤ length (now src)) × (at + 8 ≤ length (now out)) ⌝ }
+    ensures { λ _. ⌜ now (out .exit) ≡ paste (now (out .entry)) at (drop at (now (src .entry))) 8 ⌝ }
+{
+    let a = src[at];
+    let b = src[at + 1];
+    let c = src[at + 2];
+    let d = src[at + 3];
+    let e = src[at + 4];
+    let f = src[at + 5];
+    let g = src[at + 6];
+    let h = src[at + 7];
+    out[at] = a;
+    out[at + 1] = b;
+    out[at + 2] = c;
+    out[at + 3] = d;
+    out[at + 4] = e;
+    out[at + 5] = f;
+    out[at + 6] = g;
+    out[at + 7] = h;
+}
+
+// The bytes of src, eight a turn; the last eight may have some of those before them.
+fn put_plain(out: &mut [u8], src: &[u8]) -> usize
+    requires { ⌜ length (now src) ≤ length (now out) ⌝ }
+    ensures { λ r. ⌜ Wrote (now (out .entry)) (now (src .entry)) (now (out .exit)) r ⌝ }
+{
+    let n = src.len();
+    if n < 8 {
+        return put_bytes(out, src);
+    }
+    let last = n - 8;
+    let mut i = 0;
+    while i < last {
+        put_eight(out, src, i);
+        i += 8;
+    }
+    put_eight(out, src, last);
+    n
 }
 
 // How many bytes of UTF-8 the base takes.
@@ -65,8 +120,8 @@ pub fn put_base(out: &mut [u8], part: &[u8], wide: bool) -> usize
     if wide {
         return name::put_base(out, part, wide);
     }
-    if put_plain(out, part) {
-        return part.len();
+    if is_plain(part) {
+        return put_plain(out, part);
     }
     name::put_base(out, part, wide)
 }

@@ -1,4 +1,4 @@
--- `plain::is_plain` meets its contract. The invariant: the bits so far are below 128 where the first i bytes are ASCII. Assumes nothing.
+-- `plain::is_short` meets its contract. The invariant: the bits so far are below 128 where the first i bytes are ASCII. Assumes nothing.
 use mathlib.Core.Path.{_≡_, refl, _∙_}
 use Prim.Native.Nat.{_≤_, _-_}
 use native.Mathlib.Omega.{arith}
@@ -7,8 +7,8 @@ use lib.ListN.{length, take}
 use lib.Seq.{take-length}
 use Rattle.text.specs.Affix.{allAscii}
 use Rattle.text.specs.PlainLaws.{ascii-next}
-use Rattle.text.proofs.plain.is_plain.Statement.{statement}
-use Rattle.text.proofs.plain.is_plain.Tie as tie
+use Rattle.text.proofs.plain.is_short.Statement.{statement}
+use Rattle.text.proofs.plain.is_short.Tie as tie
 
 abbrev Inv-loop : tie.InvT-loop
 Inv-loop part all₀ i₀ all i = (i ≤ length part) × (ltb all 128 ≡ allAscii (take i part))
@@ -36,7 +36,7 @@ returns c =
     let e : c .before .loop .i ≡ length (c .before .before .args .part .now) = omega arith in
     c .before .loop .inv .1 ∙ rw (e, take-length)
 
-pub is-plain-spec : {M : Type 1} → statement M
-is-plain-spec =
+pub is-short-spec : {M : Type 1} → statement M
+is-short-spec =
     tie.close
     (tie.spec Inv-loop μ-loop loop-holds shared-slice-read-all add-i loop-less loop-again returns)
