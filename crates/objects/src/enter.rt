@@ -14,6 +14,7 @@ use table::entries::clear;
 use table::entries::record_at;
 use table::words::set32;
 use zen::names::Names;
+use zen::notes::NOTES;
 use zen::notes::place_at;
 use zen::places::Place;
 use zen::script::Entry;
@@ -45,7 +46,7 @@ fn describe(w: &mut [u8], at: usize, p: Place, number: u32, len: usize)
 }
 
 // Fills in the record at a place, of an entry whose name is one of the batch.
-fn put_object(b: &[u8], n: Names, notes: &[u32; 4096], w: &mut [u8], at: usize, e: Entry)
+fn put_object(b: &[u8], n: Names, notes: &[u32; NOTES], w: &mut [u8], at: usize, e: Entry)
     requires { ⌜ Held (now b) n × (e .index < n .count) × Noted (now b) n (now notes) × (at + 44 ≤ length (now w)) ⌝ }
     ensures { λ _. ⌜ now (w .exit) ≡ described at (placeAt (now (b .entry)) n (e .index)) (e .number)
         (length (utf8 (nameAt (now (b .entry)) (placeAt (now (b .entry)) n (e .index)) (e .number)))) (now (w .entry)) ⌝ }
@@ -56,7 +57,7 @@ fn put_object(b: &[u8], n: Names, notes: &[u32; 4096], w: &mut [u8], at: usize, 
 }
 
 // Enters the objects: the first question that one fails (10, 11, 12), or 0.
-pub fn enter(b: &[u8], l: Layout, notes: &[u32; 4096], w: &mut [u8]) -> u8
+pub fn enter(b: &[u8], l: Layout, notes: &[u32; NOTES], w: &mut [u8]) -> u8
     requires { ⌜ (opened (now b) ≡ Open l) × Noted (now b) (l .names) (now notes) ⌝ }
     requires { ⌜ (length (now w) ≡ 48 * l .count) × (length (now b) < 2 ^ 32) ⌝ }
     ensures fault { λ r. ⌜ r ≡ faultAt (now (b .entry)) l ⌝ }

@@ -8,7 +8,7 @@ use Rattle.zen.specs.declared.names.Names.{Names}
 
 -- how many notes there are
 abbrev pub noteCount : ℕ
-noteCount = 4096
+noteCount = 16384
 
 -- how many names there are from a note to the next, so that the notes do for all
 abbrev pub stepOf : ℕ → ℕ

@@ -62,7 +62,7 @@ pub record ByPosition : Type 0 where
   pub texts : textsAt large-bytes 92 98 3 ≡ large .names
   pub place : placeAt large-bytes (large .layout .names) 1 ≡ record { start = 99; size = 4; wide = true }
   pub bytes : partAt large-bytes (placeAt large-bytes (large .layout .names) 1) ≡ 0x3D ∷ 0xD8 ∷ 0x00 ∷ 0xDE ∷ []
-  pub steps : map stepOf (0 ∷ 4095 ∷ 4096 ∷ 8192 ∷ []) ≡ 1 ∷ 1 ∷ 2 ∷ 3 ∷ []
+  pub steps : map stepOf (0 ∷ 16383 ∷ 16384 ∷ 32768 ∷ []) ≡ 1 ∷ 1 ∷ 2 ∷ 3 ∷ []
   pub summary : summaryAt large-bytes ≡ large .layout .summary
   pub exports : exportAt large-bytes 139 ∷ [] ≡ large .exports
   pub entries : map (entryAt (two (inner-A 0x4000000000000002))) (31 ∷ 63 ∷ []) ≡ two-objects .entries

@@ -10,7 +10,7 @@ use super::places::Place;
 use super::places::name_start;
 
 // How many notes there are.
-pub const NOTES: usize = 4096;
+pub const NOTES: usize = 16384;
 
 // How many names there are from a note to the next.
 fn step_of(count: usize) -> usize

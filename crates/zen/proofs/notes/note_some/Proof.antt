@@ -2,6 +2,7 @@
 use Prim.Native.Nat.{_-_}
 use native.Mathlib.Omega.{arith}
 use lib.ListN.{length-set}
+use Rattle.zen.specs.Notes.{noteCount}
 use Rattle.zen.proofs.Noting.{Going, going-first, going-next, going-end, going-full, going-inside, going-step}
 use Rattle.zen.proofs.notes.note_some.Statement.{statement}
 use Rattle.zen.proofs.notes.note_some.Tie as tie
@@ -10,7 +11,7 @@ abbrev Inv-loop : tie.InvT-loop
 Inv-loop s notes₀ step strings h₀ p₀ left₀ k₀ notes h p left k = Going s h₀ strings left₀ step notes h p left k
 
 abbrev μ-loop : tie.MeasureT-loop
-μ-loop s notes₀ step strings h₀ p₀ left₀ k₀ notes h p left k = 4096 - k
+μ-loop s notes₀ step strings h₀ p₀ left₀ k₀ notes h p left k = noteCount - k
 
 step-of-requires : tie.Need-step-of-requires Inv-loop μ-loop
 step-of-requires c κs = tt
