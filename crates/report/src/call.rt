@@ -3,6 +3,7 @@ ghost use mathlib.Core.Path.{_≡_};
 ghost use Prim.Native.Nat.{ℕ, _*_, _≤_, _<_};
 ghost use lib.ListN.{length};
 ghost use Rattle.text.specs.Reading.{gives, run};
+ghost use Rattle.zen.specs.Notes.{noteCount};
 ghost use Rattle.zen.specs.Script.{Objects, script};
 ghost use Rattle.zen.specs.ScriptAnswers.{opened};
 ghost use Rattle.zen.specs.declared.script.Layout.{Layout};
@@ -78,8 +79,11 @@ fn finish(
     report: &mut [u8],
     lookups: usize,
     objects: usize,
+    names: &mut [u32; NOTES],
+    imported: &mut [u32; NOTES],
 ) -> u64
     requires { ⌜ Begun (now c) f (now s) × Packages (now c) f × Gathered objects (now c) f (now s) n t (now w) × (objects ≤ 65) ⌝ }
+    requires { ⌜ (length (now names) ≡ noteCount) × (length (now imported) ≡ noteCount) ⌝ }
     ensures { λ r. ⌜ Answered (limitsOf lookups objects) (now (c .entry)) (length (now (w .entry))) (now (report .entry)) (now (report .exit)) r ⌝ }
 {
     link_classes(w, n, t.classes);
@@ -90,8 +94,6 @@ fn finish(
     if report.len() < size {
         return refuse(26, 0);
     }
-    let mut names = [0u32; NOTES];
-    let mut imported = [0u32; NOTES];
     put_report(
         report,
         c,
@@ -101,8 +103,8 @@ fn finish(
         w,
         n,
         objects,
-        &mut names,
-        &mut imported,
+        names,
+        imported,
     ) as u64
 }
 
@@ -140,7 +142,19 @@ fn with_objects(
                 return refuse(24, t.repeat);
             }
             if t.open {
-                return finish(c, f, s, l.count, t, w, report, lookups, objects);
+                return finish(
+                    c,
+                    f,
+                    s,
+                    l.count,
+                    t,
+                    w,
+                    report,
+                    lookups,
+                    objects,
+                    &mut names,
+                    &mut imported,
+                );
             }
             refuse_short(c, f, s, l, notes, objects)
         }

@@ -342,6 +342,7 @@ pub fn scan_packages(
         → State (now (c .entry)) (now (s .entry)) o n (foundIn limit o (now (c .entry)) at count) t (now (w .exit))) ⌝ }
     ensures size { λ _. ⌜ length (now (w .exit)) ≡ length (now (w .entry)) ⌝ }
     ensures few { λ r. ⌜ ((t : Census) → r ≡ All t → (t .rows < 2 ^ 32) × (t .size < 2 ^ 60)) ⌝ }
+    ensures notes { λ _. ⌜ (length (now (names .exit)) ≡ noteCount) × (length (now (imported .exit)) ≡ noteCount) ⌝ }
 {
     let size = 48 * n;
     clear(&mut w[size..], 4 * n);

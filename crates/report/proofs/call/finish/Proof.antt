@@ -1,5 +1,4 @@
 -- `report::call::finish` meets its contract.
-use mathlib.Core.Path.{refl}
 use native.Mathlib.Omega.{arith}
 use borrow.Author.Needs.{needs}
 use Rattle.report.specs.CallLaws.{begun-sites, begun-few}
@@ -11,15 +10,15 @@ use Rattle.report.proofs.call.finish.Tie as tie
 summed : (c : tie.After-resolve-all) → let a = c .before .before .before .before .before .before .before .before .before .before .args in
     Summed (a .lookups) (a .objects) (a .c .now) (a .f) (a .s .now) (a .n) (a .t) (a .w .now) (c .before .before .before .before .link-classes .last .0) (c .resolve-all .last .0) (c .resolve-all .result)
 summed c =
-    let (b, a, g, l) = c .before .before .before .before .before .before .before .before .before .before .pre in
+    let (b, a, g, l) = c .before .before .before .before .before .before .before .before .before .before .pre .0 in
     record { begun = b; packages = a; gathered = g; links = c .before .before .before .before .link-classes .ensures .0; resolves = c .resolve-all .ensures .0 }
 
 link-classes-requires : tie.Need-link-classes-requires
-link-classes-requires c κs = gathered-classes (c .before .before .before .before .before .pre .2)
+link-classes-requires c κs = gathered-classes (c .before .before .before .before .before .pre .0 .2)
 
 resolve-all-requires : tie.Need-resolve-all-requires
 resolve-all-requires c κs =
-    let (b, a, g, l) = c .before .before .before .before .before .before .before .before .before .pre in
+    let (b, a, g, l) = c .before .before .before .before .before .before .before .before .before .pre .0 in
     (gathered-kept g (c .before .before .before .link-classes .ensures .0), l, g .few .0)
 
 add-size : tie.Need-add-size
@@ -39,8 +38,10 @@ add-put-report c = omega (arith, begun-few (summed (c .before .before .before .b
 put-report-requires : tie.Need-put-report-requires
 put-report-requires c κs =
     let e = c .before .before .before .before .before in
-    let z = summed (e .before .before .before .before .before) in (
-      (begun-sites (z .begun), z .packages, omega (arith, begun-few (z .begun) .0), refl, refl),
+    let r = e .before .before .before .before .before in
+    let z = summed r in
+    let (names, imported) = r .before .before .before .before .before .before .before .before .before .before .pre .1 in (
+      (begun-sites (z .begun), z .packages, omega (arith, begun-few (z .begun) .0), names, imported),
       finish-room z _ (e .before .if1 .left) (e .if2 .left),
     )
 

@@ -22,7 +22,7 @@ walked c =
       packages = e .1 .0 _ t;
       state = e .1 .1 .0 _ (k .objects) t (k .holds);
       size = e .1 .1 .1 .0;
-      few = e .1 .1 .1 .1 _ t;
+      few = e .1 .1 .1 .1 .0 _ t;
     }
 
 add-scan-packages : tie.Need-add-scan-packages
@@ -38,14 +38,19 @@ returns c = scanned-twice (walked (c .before .before .before .before)) (c .befor
 
 finish-requires : tie.Need-finish-requires
 finish-requires c κs =
-    let t = c .before .before .before .before .before .before in
+    let i = c .before .before .before .before in
+    let t = i .before .before .before .before in
     let z = walked t in
-    (z .begun, z .packages, scanned-all z (c .before .before .if2 .taken), t .before .before .before .before .before .before .before .before .before .before .before .before .before .pre .3)
+    let s = t .before .before .before .before in (
+      (z .begun, z .packages, scanned-all z (i .if2 .taken), s .before .before .before .before .before .before .before .before .before .pre .3),
+      s .scan-packages .ensures .1 .1 .1 .1 .1,
+    )
 
 returns-2 : tie.Need-returns-2
 returns-2 c =
-    let z = walked (c .before .before .before .before .before .before .before .before .before .before .before) in
-    rw (z .size) at (c .before .before .before .before .finish .ensures)
+    let f = c .before .before .before .before in
+    let z = walked (f .before .before .before .before .before .before .before .before .before) in
+    rw (z .size) at (f .finish .ensures)
 
 refuse-short-requires : tie.Need-refuse-short-requires
 refuse-short-requires c κs =

@@ -221,7 +221,7 @@ returns c =
           λ t o z k. not-all z,
           (
             e .1 .1 .1 .1 .0 ∙ (l .loop .inv .3 .size ∙ whole (a .c .now) (a .at) (a .s .now) (a .n) (a .limit) (a .w .now) (s .pre .1 .0) (u .clear .last .0) (u .clear .kept .0)),
-            λ t z. not-all z,
+            (λ t z. not-all z, (e .1 .1 .1 .1 .1, e .1 .1 .1 .1 .2)),
           ),
         ),
       ),
@@ -279,7 +279,7 @@ returns-2 c =
           λ t o z h. rw (← all-same z, ← n) (k .state o (front (a .c .now) (a .at) (a .s .now) (a .n) (a .limit) (a .w .now) (s .pre .1 .0) (u .clear .last .0) h)),
           (
             k .size ∙ whole (a .c .now) (a .at) (a .s .now) (a .n) (a .limit) (a .w .now) (s .pre .1 .0) (u .clear .last .0) (u .clear .kept .0),
-            λ t z. rw (← all-same z) (few (k .small) (k .high) (s .pre .0 .2)),
+            (λ t z. rw (← all-same z) (few (k .small) (k .high) (s .pre .0 .2)), (l .inv .1, l .inv .2)),
           ),
         ),
       ),
