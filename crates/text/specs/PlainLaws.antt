@@ -1,6 +1,6 @@
 -- Laws of one-byte text that is ASCII: the test by bits, byte by byte, and what is written for it. Assumes nothing.
 use mathlib.Core.Path.{_≡_, refl, sym, _∙_, ap}
-use mathlib.Core.Bool.{Bool, true, false, _&&_, and-eq-true-iff}
+use mathlib.Core.Bool.{Bool, true, false, _&&_}
 use mathlib.Core.List.{List, [], _∷_, _++_}
 use Prim.Native.Nat.{ℕ, zero, suc, _+_, _*_, _-_, _/_, _^_, _≤_, _<_}
 use native.Mathlib.Numerals.{add-one}
@@ -9,11 +9,12 @@ use borrow.Author.Tests.{lt-ltb, le-ltb, ltb-true, ltb-false, ne-eqb, eqb-true, 
 use lib.Bits.{bitAnd, bitOr, or-lt, or-add-and, and-le-r, and-le-l, and-block, and-high}
 use lib.Dec.{eqb, ltb}
 use lib.ListN.{length, take, drop, getD, length-append, length-drop, take-append-drop}
-use lib.Seq.{take-suc, take-add, take-all, length-take-le}
+use lib.Seq.{take-suc, take-add, take-all, drop-drop, length-take-le}
 use Rattle.text.specs.Affix.{allAscii}
 use Rattle.text.specs.Number.{le, leAt}
 use Rattle.text.specs.NumberLaws.{Bytes, bytes-part, leAt-is}
-use Rattle.text.specs.Output.{Wrote}
+use Rattle.text.specs.Output.{over, Wrote}
+use Rattle.text.specs.OutputLaws.{drop-over, wrote-length}
 use Rattle.text.specs.Name.{decoded, base}
 use Rattle.text.specs.Utf8.{utf8One, utf8}
 use Rattle.text.specs.Utf8Laws.{Sized, one, two, three, four, sized, utf8-1, utf8-2, utf8-3, utf8-4, utf8-ascii}
@@ -92,6 +93,10 @@ word-ascii s i b h =
 pub ascii-more : (s : List ℕ) (i : ℕ) → allAscii (take i s) ≡ true → allAscii (take 8 (drop i s)) ≡ true → allAscii (take (i + 8) s) ≡ true
 ascii-more s i e f = rw (take-add i 8 s, ascii-both (take i s) (take 8 (drop i s)), e, f)
 
+-- eight bytes more, by whether they are
+pub ascii-eight : (s : List ℕ) (i : ℕ) → allAscii (take (i + 8) s) ≡ (allAscii (take i s) && allAscii (take 8 (drop i s)))
+ascii-eight s i = ap allAscii (take-add i 8 s) ∙ ascii-both (take i s) (take 8 (drop i s))
+
 -- eight bytes that are not
 pub ascii-not : (s : List ℕ) (i : ℕ) → allAscii (take 8 (drop i s)) ≡ false → allAscii s ≡ false
 ascii-not s i f =
@@ -101,14 +106,27 @@ ascii-not s i f =
     go true = refl
     go false = refl
 
--- the last eight, where those before them are
-pub ascii-end : (s : List ℕ) (i last : ℕ) → last + 8 ≡ length s → last ≤ i → allAscii (take i s) ≡ true → allAscii (take 8 (drop last s)) ≡ allAscii s
-ascii-end s i last e h f =
+-- the last eight, some of which may be among those before
+pub ascii-cover : (s : List ℕ) (i last : ℕ) → last + 8 ≡ length s → last ≤ i → (allAscii (take i s) && allAscii (take 8 (drop last s))) ≡ allAscii s
+ascii-cover s i last e h =
+    let x = take last s in
+    let y = take (i - last) (drop last s) in
+    let z = drop (i - last) (drop last s) in
     let short : length (drop last s) ≤ 8 = simp length-drop (omega arith) in
-    let d : last + (i - last) ≡ i = omega arith in
-    let g : (allAscii (take last s) && allAscii (take (i - last) (drop last s))) ≡ true = sym (ascii-both (take last s) _) ∙ ap allAscii (sym (take-add last (i - last) s)) ∙ rw d f in
-    let p = and-eq-true-iff (allAscii (take last s)) (allAscii (take (i - last) (drop last s))) .0 g in
-    sym (ap allAscii (sym (take-append-drop last s)) ∙ ascii-both (take last s) (drop last s) ∙ rw (p .0, take-all 8 (drop last s) short))
+    let d : i ≡ last + (i - last) = omega arith in
+    let f : allAscii (take i s) ≡ (allAscii x && allAscii y) = ap (λ (k : ℕ). allAscii (take k s)) d ∙ ap allAscii (take-add last (i - last) s) ∙ ascii-both x y in
+    let g : allAscii (drop last s) ≡ (allAscii y && allAscii z) = ap allAscii (sym (take-append-drop (i - last) (drop last s))) ∙ ascii-both y z in
+    let t : allAscii s ≡ (allAscii x && allAscii (drop last s)) = ap allAscii (sym (take-append-drop last s)) ∙ ascii-both x (drop last s) in
+    rw (take-all 8 (drop last s) short, f, t, g) (go (allAscii x) (allAscii y) (allAscii z))
+  where
+    go : (a b d : Bool) → ((a && b) && (b && d)) ≡ (a && (b && d))
+    go true true d = refl
+    go true false d = refl
+    go false b d = refl
+
+-- where those before are
+pub ascii-end : (s : List ℕ) (i last : ℕ) → last + 8 ≡ length s → last ≤ i → allAscii (take i s) ≡ true → allAscii (take 8 (drop last s)) ≡ allAscii s
+ascii-end s i last e h f = rw f at (ascii-cover s i last e h)
 
 -- ---- what is written
 
@@ -141,6 +159,20 @@ pub plain-room : (part : List ℕ) → length part ≤ length (utf8 (base false 
 unfolding decoded
 plain-room part = utf8-some part
 
+-- what is written over something shorter is as if that had not been written
+beyond : (s a : List ℕ) (n : ℕ) → length a ≤ n → drop n (over s a) ≡ drop n s
+beyond s a n h =
+    let e : length a + (n - length a) ≡ n = omega arith in
+    rw (← e, ← drop-drop (n - length a) (length a) (over s a), ← drop-drop (n - length a) (length a) s, drop-over s a (length a) refl)
+
+pub wrote-over : {s a m b o : List ℕ} {k n : ℕ} → Wrote s a m k → Wrote m b o n → length a ≤ length b → Wrote s b o n
+unfolding over
+wrote-over {s} {a} {m} {b} {o} {k} {n} v w h = record {
+  size = w .size;
+  fits = omega (arith, w .fits, wrote-length v);
+  is = w .is ∙ rw (v .is) (ap (λ (l : List ℕ). b ++ l) (beyond s a (length b) h));
+}
+
 -- a base of one-byte text, by whether it is ASCII
 module _ {wide : Bool} (part : List ℕ) (n : wide ≡ false) where
   pub plain-fits : (room : ℕ) → length (utf8 (base wide part)) ≤ room → length part ≤ room
@@ -152,3 +184,6 @@ module _ {wide : Bool} (part : List ℕ) (n : wide ≡ false) where
 
     pub plain-wrote : {s o : List ℕ} {k : ℕ} → Wrote s part o k → Wrote s (utf8 (base wide part)) o k
     plain-wrote w = rw (n, plain-bytes part (sym e ∙ y)) w
+
+  pub plain-then : {s m o : List ℕ} {j k : ℕ} → Wrote s part m j → Wrote m (utf8 (base wide part)) o k → Wrote s (utf8 (base wide part)) o k
+  plain-then v w = wrote-over v w (rw n (plain-room part))

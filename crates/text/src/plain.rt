@@ -14,7 +14,6 @@ use super::name::put_suffix;
 use super::name::suffix_len;
 use super::number::le64;
 use super::output::put_be32;
-use super::output::put_bytes;
 
 // Whether the eight bytes from a place on are ASCII: none of them has its highest bit set.
 fn is_word(part: &[u8], i: usize) -> bool
@@ -79,23 +78,41 @@ fn put_eight(out: &mut [u8], src: &[u8], at: usize)
     out[at + 7] = h;
 }
 
-// The bytes of src, eight a turn; the last eight may have some of those before them.
-fn put_plain(out: &mut [u8], src: &[u8]) -> usize
-    requires { ⌜ length (now src) ≤ length (now out) ⌝ }
-    ensures { λ r. ⌜ Wrote (now (out .entry)) (now (src .entry)) (now (out .exit)) r ⌝ }
+// A few bytes, and whether they are all ASCII.
+fn put_short(out: &mut [u8], part: &[u8]) -> bool
+    requires { ⌜ length (now part) ≤ length (now out) ⌝ }
+    ensures { λ r. ⌜ (r ≡ allAscii (now (part .entry))) × Wrote (now (out .entry)) (now (part .entry)) (now (out .exit)) (length (now (part .entry))) ⌝ }
 {
-    let n = src.len();
+    let mut all: u8 = 0;
+    let mut i = 0;
+    while i < part.len() {
+        let v = part[i];
+        out[i] = v;
+        all = all | v;
+        i += 1;
+    }
+    all < 128
+}
+
+// Bytes, and whether they are all ASCII: eight a turn; the last eight may have some of those before them.
+fn put_plain(out: &mut [u8], part: &[u8]) -> bool
+    requires { ⌜ length (now part) ≤ length (now out) ⌝ }
+    ensures { λ r. ⌜ (r ≡ allAscii (now (part .entry))) × Wrote (now (out .entry)) (now (part .entry)) (now (out .exit)) (length (now (part .entry))) ⌝ }
+{
+    let n = part.len();
     if n < 8 {
-        return put_bytes(out, src);
+        return put_short(out, part);
     }
     let last = n - 8;
+    let mut plain = true;
     let mut i = 0;
     while i < last {
-        put_eight(out, src, i);
+        plain = plain & is_word(part, i);
+        put_eight(out, part, i);
         i += 8;
     }
-    put_eight(out, src, last);
-    n
+    put_eight(out, part, last);
+    plain & is_word(part, last)
 }
 
 // How many bytes of UTF-8 the base takes.
@@ -120,8 +137,8 @@ pub fn put_base(out: &mut [u8], part: &[u8], wide: bool) -> usize
     if wide {
         return name::put_base(out, part, wide);
     }
-    if is_plain(part) {
-        return put_plain(out, part);
+    if put_plain(out, part) {
+        return part.len();
     }
     name::put_base(out, part, wide)
 }

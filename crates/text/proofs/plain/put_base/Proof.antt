@@ -1,6 +1,6 @@
--- `plain::put_base` meets its contract: what is ASCII is copied. Assumes nothing.
+-- `plain::put_base` meets its contract: what is ASCII is copied, and over what is not the base is written. Assumes nothing.
 use borrow.Author.Needs.{needs}
-use Rattle.text.specs.PlainLaws.{plain-fits, plain-wrote}
+use Rattle.text.specs.PlainLaws.{plain-fits, plain-wrote, plain-then}
 use Rattle.text.proofs.plain.put_base.Statement.{statement}
 use Rattle.text.proofs.plain.put_base.Tie as tie
 
@@ -12,9 +12,6 @@ same-length c = search needs
 
 returns : tie.Need-returns
 returns c = search needs
-
-is-plain-requires : tie.Need-is-plain-requires
-is-plain-requires c κs = search needs
 
 put-plain-requires : tie.Need-put-plain-requires
 put-plain-requires c κs = search plain-fits
@@ -32,7 +29,7 @@ same-length-3 : tie.Need-same-length-3
 same-length-3 c = search needs
 
 returns-3 : tie.Need-returns-3
-returns-3 c = search needs
+returns-3 c = search plain-then
 
 pub put-base-spec : {M : Type 1} → statement M
 put-base-spec =
@@ -41,7 +38,6 @@ put-base-spec =
     put-base-requires
     same-length
     returns
-    is-plain-requires
     put-plain-requires
     same-length-2
     returns-2
