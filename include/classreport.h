@@ -48,7 +48,7 @@ static inline int classreport_refused(uint64_t answer) { return (int)(answer >> 
 /* The report's length, where the answer is none. */
 static inline uint64_t classreport_length(uint64_t answer) { return classreport_refused(answer) ? 0 : answer; }
 
-/* The question that failed, 1 to 26, or 0 where none did: bits 32 to 39. */
+/* The question that failed, 1 to 26 (23 is retired), or 0 where none did: bits 32 to 39. */
 static inline unsigned classreport_question(uint64_t answer) {
     return classreport_refused(answer) ? (unsigned)(answer >> 32 & 0xff) : 0;
 }
@@ -113,8 +113,7 @@ enum classreport_refusal {
     CLASSREPORT_EXPORTS = 21,
     /* Is nothing left behind the imported names? */
     CLASSREPORT_PACKAGE_LEFT = 22,
-    /* Are all imported names ASCII? */
-    CLASSREPORT_IMPORTED_ASCII = 23,
+    /* 23 is retired: it was asked of imported names, which may have any letters now. No question takes its number. */
     /* Does no class key (package id and public hash) come twice? */
     CLASSREPORT_KEY_TWICE = 24,
     /* Has the work buffer at least 64 bytes for each script object, class and candidate? */
@@ -148,7 +147,6 @@ static inline const char *classreport_failed(unsigned question) {
     case CLASSREPORT_HASHES: return "the public hashes or the import map are no multiple of 8 bytes";
     case CLASSREPORT_EXPORTS: return "the export map is no multiple of 72 bytes";
     case CLASSREPORT_PACKAGE_LEFT: return "bytes are left behind the imported names";
-    case CLASSREPORT_IMPORTED_ASCII: return "an imported name is not ASCII";
     case CLASSREPORT_KEY_TWICE: return "a class key comes twice";
     case CLASSREPORT_WORK: return "the work buffer is too short";
     case CLASSREPORT_REPORT: return "the report is too long";

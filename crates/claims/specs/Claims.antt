@@ -99,6 +99,8 @@ pub record Refused (corpus work buffer : List ℕ) : Type 0 where
   -- "The first question that fails gives its refusal": whatever is asked before it is passed (`demand-1-first`)
   pub first : FirstFailed limits corpus (length work) (length buffer) question block
   pub asked : (1 ≤ question) × (question ≤ 26)
+  -- the number between is retired
+  pub kept : 22 < question → 24 ≤ question
   -- "bit 63 set, the refusal in bits 32 to 39, the block in bits 0 to 31, all else 0"
   pub number : outcome limits corpus work buffer .number ≡ 2 ^ 63 + question * 2 ^ 32 + block
   pub fits : block < 2 ^ 32
@@ -121,6 +123,7 @@ demand-1 corpus work buffer b = go (answer limits corpus (length work) (length b
       block = j;
       first = first-failed limits corpus (length work) (length buffer) q j .0 e;
       asked = refusals limits corpus b (length work) (length buffer) q j e .question;
+      kept = refusals limits corpus b (length work) (length buffer) q j e .kept;
       number = After.refused-number limits corpus work buffer q j e;
       fits = refusals limits corpus b (length work) (length buffer) q j e .block;
       unchanged = After.refused-buffer limits corpus work buffer q j e;
@@ -193,7 +196,8 @@ demand-2 corpus b work room report e =
       texts = texts-scalar limits corpus b c framed-is (a .opens);
     }
 
--- "CityHash64 v1.1 [..] decide package ids": "Id: CityHash64 v1.1 [..] of the UTF-16LE text with A to Z lowered"
+-- "CityHash64 v1.1 [..] decide package ids": "Id: CityHash64 v1.1 [..] of the UTF-16LE text with A to Z lowered"; document 02, Q-1: "Lowering a name
+-- for its id now follows the Unicode lowercase mappings, one character to one"
 pub demand-2-id : (name : List ℕ) → idOf name ≡ cityHash64 (utf16le (lowered name))
 unfolding idOf
 demand-2-id name = refl

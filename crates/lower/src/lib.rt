@@ -1,3 +1,6 @@
 // Lowering a character of a name for its id.
 
 pub mod ascii; // A to Z
+pub mod latin; // ASCII, Latin-1 and Latin Extended-A
+pub mod table; // all pairs
+pub mod search; // by the table

@@ -84,7 +84,7 @@ pub record Opens (m : Limits) (c : Corpus) : Type 0 where
   pub objects : Objects
   -- 3 to 13
   pub script-is : run script 0 (c .script) ≡ gives objects
-  -- 3 to 7, 10, 14 to 23
+  -- 3 to 7, 10, 14 to 22
   pub good : All Good (c .parts)
   -- 24
   pub once : repeats [] (table (m .objects) objects (packagesIn c)) ≡ false

@@ -4,7 +4,7 @@ use mathlib.Core.Path.{_≡_, refl, sym, _∙_, ap}
 use mathlib.Core.Bool.{Bool, true, false, cond}
 use mathlib.Core.List.{List, _∷_, map, List·Memᴰ, List·Memᴰ·head, List·Memᴰ·tail, List·Memᴰ·append-cases, Memᴰ·append-right}
 use mathlib.Core.Logic.{_⊎_, inl, inr}
-use Prim.Native.Nat.{ℕ, _+_, _/_, _^_, _<_}
+use Prim.Native.Nat.{ℕ, _+_, _/_, _^_, _≤_, _<_}
 use native.Mathlib.Omega.{arith}
 use lib.Dec.{eqb}
 use lib.ListN.{length, length-append}
@@ -68,24 +68,26 @@ placed-within limit o i (p ∷ ps) x m =
 
 pub record Refusal (q j : ℕ) : Type 0 where
   pub question : Within 1 26 q
+  -- the number between is retired
+  pub kept : 22 < q → 24 ≤ q
   pub block : j < 2 ^ 32
 
 pub refusals : (m : Limits) (s : List ℕ) → Bytes s → (work room q j : ℕ) → answer m s work room ≡ refusedIn q j → Refusal q j
 refusals m s b work room q j e = go (first-failed m s work room q j .0 e)
   where
     go : {q j : ℕ} → FirstFailed m s work room q j → Refusal q j
-    go (framing {q} f) = let (l, h) = framed-refusal s q f in record { question = omega arith; block = omega arith }
-    go (script-block {q} {c} f r) = let (l, h) = script-refusal (c .script) q r in record { question = omega arith; block = omega arith }
+    go (framing {q} f) = let (l, h) = framed-refusal s q f in record { question = omega arith; kept = λ z. omega arith; block = omega arith }
+    go (script-block {q} {c} f r) = let (l, h) = script-refusal (c .script) q r in record { question = omega arith; kept = λ z. omega arith; block = omega arith }
     go (package-block {q} {c} before p after f o is good r) =
         let (l, h) = package-refusal (p .block) q r in
         let n = few-packages s b c f in
-        record { question = omega arith; block = omega (arith, ap length is, length-append before (p ∷ after)) }
+        record { question = omega arith; kept = λ z. omega arith; block = omega (arith, ap length is, length-append before (p ∷ after)) }
     go (key-twice {c} {o} before x after f g good is once has) =
         let n = few-packages s b c f in
         let h = placed-within (m .objects) o 2 (packagesIn c) x (rw is (Memᴰ·append-right before (List·Memᴰ·head refl))) in
-        record { question = omega arith; block = omega (arith, good-length (c .parts) good) }
-    go (work-short h short) = record { question = omega arith; block = omega arith }
-    go (report-long h enough long) = record { question = omega arith; block = omega arith }
+        record { question = omega arith; kept = λ z. omega arith; block = omega (arith, good-length (c .parts) good) }
+    go (work-short h short) = record { question = omega arith; kept = λ z. omega arith; block = omega arith }
+    go (report-long h enough long) = record { question = omega arith; kept = λ z. omega arith; block = omega arith }
 
 -- ---- THE NUMBER says the answer
 

@@ -20,6 +20,7 @@ pub mod Computed
 pub mod Written
 pub mod Examples
 pub mod Edges
+pub mod AccentExamples
 pub mod CallExamples
 pub mod RowExamples
 pub mod LimitExamples

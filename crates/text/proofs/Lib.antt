@@ -1,3 +1,4 @@
+pub mod AsciiUnits
 pub mod Joined
 pub mod Signs
 pub mod NameLoop

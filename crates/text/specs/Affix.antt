@@ -1,5 +1,5 @@
--- What a text starts and ends with, and whether it is all ASCII (document 01: "base ends in `_GEN_VARIABLE`", "the outer's base
--- starts with `Default__`", "Imported names all ASCII?"). Assumes nothing.
+-- What a text starts and ends with (document 01: "base ends in `_GEN_VARIABLE`", "the outer's base starts with `Default__`"), and
+-- whether it is all ASCII. Assumes nothing.
 use mathlib.Core.Bool.{Bool, true, false, _&&_}
 use mathlib.Core.List.{List, [], _∷_}
 use Prim.Native.Nat.{ℕ, _-_}

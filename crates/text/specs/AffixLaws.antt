@@ -164,15 +164,12 @@ ends-encode t e a = same-test (endsWith (encode16 t) e) (endsWith t e) back fort
         rw us (ends-append (encode16 f) e)
 
 module _ (wide : Bool) (part : List ℕ) (b : Bytes part) (w : isWell (decoded wide part) ≡ true) where
-  -- a base starts with, ends in and is the ASCII that its units do
+  -- a base starts with and ends in the ASCII that its units do
   pub base-starts : (p : List ℕ) → allAscii p ≡ true → startsWith (unitsOf wide part) p ≡ startsWith (base wide part) p
   base-starts p a = rw (← base-units wide part b w .0) (starts-encode (base wide part) p a)
 
   pub base-ends : (e : List ℕ) → allAscii e ≡ true → endsWith (unitsOf wide part) e ≡ endsWith (base wide part) e
   base-ends e a = rw (← base-units wide part b w .0) (ends-encode (base wide part) e a)
-
-  pub base-ascii : allAscii (unitsOf wide part) ≡ allAscii (base wide part)
-  base-ascii = rw (← base-units wide part b w .0) (ascii-encode (base wide part))
 
 -- how many bytes a unit has
 abbrev pub unitSize : Bool → ℕ

@@ -258,8 +258,8 @@ pub record Affixes : Type 0 where
   pub ends : map (λ t. endsWith t (text "AB")) (text "AB" ∷ text "CAB" ∷ text "B" ∷ text "ABA" ∷ text "CB" ∷ text "AA" ∷ [] ∷ [])
       ≡ true ∷ true ∷ false ∷ false ∷ false ∷ false ∷ false ∷ []
   pub ascii : map allAscii ([] ∷ (0 ∷ 127 ∷ []) ∷ (128 ∷ 0 ∷ []) ∷ (0 ∷ 128 ∷ []) ∷ []) ≡ true ∷ true ∷ false ∷ false ∷ []
-  -- "with A to Z lowered"
-  pub lowering : lowered (text "@AZ[`az{É") ≡ text "@az[`az{É"
+  -- "follows the Unicode lowercase mappings, one character to one"
+  pub lowering : lowered (text "@AZ[`az{É×ŒİΑΣ𐐀") ≡ text "@az[`az{é×œİασ𐐨"
 
 pub affixes : Affixes
 unfolding endsWith lower
@@ -293,7 +293,7 @@ pub record Hashes : Type 0 where
   -- "Id of the empty name: k2"
   pub empty : idOf [] ≡ k2
   -- CityHash64 of `61 00` and of `7A 00 C9 00`
-  pub lowers : idOf (text "A") ∷ idOf (text "ZÉ") ∷ [] ≡ cityHash64 (0x61 ∷ 0x00 ∷ []) ∷ cityHash64 (0x7A ∷ 0x00 ∷ 0xC9 ∷ 0x00 ∷ []) ∷ []
+  pub lowers : idOf (text "A") ∷ idOf (text "ZÉ") ∷ [] ≡ cityHash64 (0x61 ∷ 0x00 ∷ []) ∷ cityHash64 (0x7A ∷ 0x00 ∷ 0xE9 ∷ 0x00 ∷ []) ∷ []
 
 pub hashes : Hashes
 unfolding idOf lower encodeOne encode16 cityHash64 len0to16 len1to3 len4to7 len8to16 mix4 len17to32 mix8 mixU mixV mixY mixLast swapMul len33to64

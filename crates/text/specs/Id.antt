@@ -1,4 +1,5 @@
--- The id of a name (document 01: "Id: CityHash64 v1.1 of the UTF-16LE text with A to Z lowered"). Assumes nothing.
+-- The id of a name (document 01: "Id: CityHash64 v1.1 of the UTF-16LE text with A to Z lowered"; document 02, Q-1: by Unicode's mappings, one
+-- character to one). Assumes nothing.
 use mathlib.Core.List.{List}
 use Prim.Native.Nat.{ℕ}
 use Rattle.text.specs.Utf16.{utf16le}

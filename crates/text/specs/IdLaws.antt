@@ -14,14 +14,15 @@ use Rattle.text.specs.Name.{suffix}
 use Rattle.text.specs.NameLaws.{suffix-ascii}
 use Rattle.lower.specs.Lower.{lower, lowered}
 use Rattle.lower.specs.AsciiLaws.{ascii-below, ascii-above}
-use Rattle.text.specs.LowerLaws.{lower-is, lowered-append}
+use Rattle.lower.specs.LatinLaws.{lower-ascii}
+use Rattle.text.specs.LowerLaws.{lowered-append}
 use Rattle.text.specs.Units.{nameUnits}
 
 -- ---- names
 
 -- an instance number has no letter
 lower-plain : (c : ℕ) → c < 65 → lower c ≡ c
-lower-plain c h = lower-is c ∙ ascii-below c h
+lower-plain c h = lower-ascii c (omega arith) ∙ ascii-below c h
 
 digits-lowered : (f n : ℕ) → lowered (digits f n) ≡ digits f n
 unfolding digits
@@ -34,7 +35,7 @@ digits-lowered (suc f) n =
 pub suffix-lowered : (n : ℕ) → lowered (suffix n) ≡ suffix n
 unfolding decimal
 suffix-lowered zero = refl
-suffix-lowered (suc n) = rw (lower-is 95, ascii-above 95 (omega arith), digits-lowered)
+suffix-lowered (suc n) = rw (lower-ascii 95 (omega arith), ascii-above 95 (omega arith), digits-lowered)
 
 -- the units of a lowered name: those of its lowered base, and its number as it stands
 pub name-units : (base : List ℕ) (number : ℕ) → encode16 (lowered (base ++ suffix number)) ≡ nameUnits base (suffix number)

@@ -46,7 +46,7 @@ and-true false = refl
 ascii-last : (s : List ℕ) (x : ℕ) → allAscii (s ++ x ∷ []) ≡ (allAscii s && ltb x 128)
 ascii-last s x = ascii-both s (x ∷ []) ∙ rw (and-true (ltb x 128))
 
--- one byte more
+-- one byte more, or one unit
 pub ascii-next : (s : List ℕ) (i all : ℕ) → i < length s → ltb all 128 ≡ allAscii (take i s) → ltb (bitOr all (getD s i 0)) 128 ≡ allAscii (take (i + 1) s)
 ascii-next s i all h e = or-ascii all (getD s i 0) ∙ rw (add-one i, take-suc s i 0 h, ascii-last (take i s) (getD s i 0), e)
 
@@ -129,11 +129,6 @@ pub ascii-end : (s : List ℕ) (i last : ℕ) → last + 8 ≡ length s → last
 ascii-end s i last e h f = rw f at (ascii-cover s i last e h)
 
 -- ---- what is written
-
--- one-byte text is its bytes
-pub plain-base : (part : List ℕ) → base false part ≡ part
-unfolding decoded
-plain-base part = refl
 
 -- ASCII is its own UTF-8
 pub plain-bytes : (part : List ℕ) → allAscii part ≡ true → utf8 (base false part) ≡ part

@@ -1,4 +1,4 @@
-// What the base of a name starts and ends with, and whether it is all ASCII.
+// What the base of a name starts and ends with.
 ghost use mathlib.Core.Path.{_≡_};
 ghost use mathlib.Core.Bool.{true};
 ghost use Prim.Native.Nat.{_+_, _≤_};
@@ -8,7 +8,6 @@ ghost use Rattle.text.specs.Name.{decoded, base};
 ghost use Rattle.text.specs.Units.{unitsOf};
 ghost use Rattle.text.specs.Affix.{startsWith, endsWith, allAscii};
 use super::number;
-use super::plain::is_plain;
 use super::units::unit_at;
 use super::units::unit_count;
 
@@ -48,23 +47,4 @@ pub fn ends_with(part: &[u8], wide: bool, affix: &[u8]) -> bool
         return false;
     }
     units_match(part, wide, n - affix.len(), affix)
-}
-
-// Whether the base is all ASCII.
-pub fn is_ascii(part: &[u8], wide: bool) -> bool
-    requires { ⌜ isWell (decoded wide (now part)) ≡ true ⌝ }
-    ensures { λ r. ⌜ r ≡ allAscii (base wide (now (part .entry))) ⌝ }
-{
-    if !wide {
-        return is_plain(part);
-    }
-    let n = unit_count(part, wide);
-    let mut i = 0;
-    while i < n {
-        if 128 <= unit_at(part, wide, i) {
-            return false;
-        }
-        i += 1;
-    }
-    true
 }

@@ -4,35 +4,143 @@ ghost use mathlib.Core.Path.{_≡_};
 ghost use mathlib.Core.Bool.{true};
 ghost use Prim.Native.Nat.{_+_, _*_, _^_, _≤_, _<_};
 ghost use lib.ListN.{length, getD, take, drop};
+ghost use mathlib.Core.Logic.{_⊎_};
+ghost use Rattle.lower.specs.Table.{pairs};
+ghost use Rattle.lower.specs.Lower.{flat};
+ghost use Rattle.text.specs.Affix.{allAscii};
 ghost use Rattle.text.specs.Number.{leAt};
 ghost use Rattle.text.specs.Output.{Wrote};
 ghost use Rattle.text.specs.Utf16.{isWell, unitBytes};
 ghost use Rattle.text.specs.Name.{decoded, base, rendered};
 ghost use Rattle.text.specs.City.{cityHash64};
-ghost use Rattle.text.specs.Units.{nameUnits};
+ghost use Rattle.text.specs.Units.{unitsOf, nameUnits, asciiUnits, TableFor};
 ghost use Rattle.text.specs.Id.{idOf};
 use super::city::first_state;
 use super::city::hash_len0to32;
 use super::city::hash_len33up;
 use super::city::last_mix;
 use super::city::one_turn;
-use lower::ascii::lower_ascii;
+use super::lowered::is_latin;
+use super::lowered::lowered_unit;
 use super::name::put_suffix;
 use super::number;
 use super::number::le64;
 use super::units::unit_at;
 use super::units::unit_count;
+use lower::ascii::lower_ascii;
+use lower::table::table;
 
-// Unit i of a lowered name.
-fn name_unit(part: &[u8], wide: bool, suffix: &[u8], i: usize) -> u32
-    requires { ⌜ (isWell (decoded wide (now part)) ≡ true) × (i < length (nameUnits (base wide (now part)) (now suffix))) ⌝ }
-    ensures { λ r. ⌜ (r ≡ getD (nameUnits (base wide (now (part .entry))) (now (suffix .entry))) i 0) × (r < 65536) ⌝ }
+// Unit i of a name with A to Z lowered.
+fn ascii_unit(part: &[u8], wide: bool, suffix: &[u8], i: usize) -> u32
+    requires { ⌜ i < length (asciiUnits (unitsOf wide (now part)) (now suffix)) ⌝ }
+    ensures { λ r. ⌜ (r ≡ getD (asciiUnits (unitsOf wide (now (part .entry))) (now (suffix .entry))) i 0) × (r < 65536) ⌝ }
 {
     let n = unit_count(part, wide);
     if i < n {
         return lower_ascii(unit_at(part, wide, i));
     }
     number::wide(suffix[i - n])
+}
+
+// The n units of a name with A to Z lowered, from a place on, in UTF-16LE, and whether they are all ASCII. The loop runs to the end
+// whatever it meets, so that the compiler can take many units a turn.
+fn put_ascii(out: &mut [u8], part: &[u8], wide: bool, suffix: &[u8], from: usize, n: usize) -> bool
+    requires { ⌜ (from + n ≤ length (asciiUnits (unitsOf wide (now part)) (now suffix))) × (from + n < 2 ^ 64) × (2 * n ≤ length (now out)) ⌝ }
+    ensures { λ r. ⌜ (r ≡ allAscii (take n (drop from (asciiUnits (unitsOf wide (now (part .entry))) (now (suffix .entry))))))
+        × Wrote (now (out .entry)) (unitBytes (take n (drop from (asciiUnits (unitsOf wide (now (part .entry))) (now (suffix .entry))))))
+        (now (out .exit)) (2 * n) ⌝ }
+{
+    let mut all: u16 = 0;
+    let mut at: usize = 0;
+    let mut i: usize = 0;
+    while i < n {
+        let u = ascii_unit(part, wide, suffix, from + i);
+        out[at] = (u % 256) as u8;
+        out[at + 1] = (u / 256) as u8;
+        all = all | (u as u16);
+        at += 2;
+        i += 1;
+    }
+    all < 128
+}
+
+// Unit i of a lowered name.
+fn name_unit(part: &[u8], wide: bool, suffix: &[u8], table: &[u32], i: usize) -> u32
+    requires { ⌜ (isWell (decoded wide (now part)) ≡ true) × (i < length (nameUnits (base wide (now part)) (now suffix)))
+        × ((now table ≡ flat pairs) ⊎ (getD (unitsOf wide (now part)) i 0 < 0x180)) ⌝ }
+    ensures { λ r. ⌜ (r ≡ getD (nameUnits (base wide (now (part .entry))) (now (suffix .entry))) i 0) × (r < 65536) ⌝ }
+{
+    let n = unit_count(part, wide);
+    if i < n {
+        return lowered_unit(part, wide, table, i);
+    }
+    number::wide(suffix[i - n])
+}
+
+// The n units of a lowered name from a place on, in UTF-16LE, with what their lowering needs at hand.
+fn put_lowered(
+    out: &mut [u8],
+    part: &[u8],
+    wide: bool,
+    suffix: &[u8],
+    table: &[u32],
+    from: usize,
+    n: usize,
+) -> usize
+    requires { ⌜ (isWell (decoded wide (now part)) ≡ true) × (from + n ≤ length (nameUnits (base wide (now part)) (now suffix)))
+        × (2 * n ≤ length (now out)) × TableFor (unitsOf wide (now part)) from n (now table) ⌝ }
+    ensures { λ r. ⌜ Wrote (now (out .entry)) (unitBytes (take n (drop from (nameUnits (base wide (now (part .entry))) (now (suffix .entry))))))
+        (now (out .exit)) r ⌝ }
+{
+    let mut at: usize = 0;
+    let mut i: usize = 0;
+    while i < n {
+        let u = name_unit(part, wide, suffix, table, from + i);
+        out[at] = (u % 256) as u8;
+        out[at + 1] = (u / 256) as u8;
+        at += 2;
+        i += 1;
+    }
+    at
+}
+
+// The same, by the table.
+fn put_tabled(
+    out: &mut [u8],
+    part: &[u8],
+    wide: bool,
+    suffix: &[u8],
+    from: usize,
+    n: usize,
+) -> usize
+    requires { ⌜ (isWell (decoded wide (now part)) ≡ true) × (from + n ≤ length (nameUnits (base wide (now part)) (now suffix)))
+        × (2 * n ≤ length (now out)) ⌝ }
+    ensures { λ r. ⌜ Wrote (now (out .entry)) (unitBytes (take n (drop from (nameUnits (base wide (now (part .entry))) (now (suffix .entry))))))
+        (now (out .exit)) r ⌝ }
+{
+    let pairs = table();
+    put_lowered(out, part, wide, suffix, &pairs, from, n)
+}
+
+// The same, where some unit is not ASCII. The table is bound only where a unit asks for it.
+fn put_beyond(
+    out: &mut [u8],
+    part: &[u8],
+    wide: bool,
+    suffix: &[u8],
+    from: usize,
+    n: usize,
+) -> usize
+    requires { ⌜ (isWell (decoded wide (now part)) ≡ true) × (from + n ≤ length (nameUnits (base wide (now part)) (now suffix)))
+        × (2 * n ≤ length (now out)) ⌝ }
+    ensures { λ r. ⌜ Wrote (now (out .entry)) (unitBytes (take n (drop from (nameUnits (base wide (now (part .entry))) (now (suffix .entry))))))
+        (now (out .exit)) r ⌝ }
+{
+    if is_latin(part, wide, from, n) {
+        let none = [0u32; 1];
+        return put_lowered(out, part, wide, suffix, &none, from, n);
+    }
+    put_tabled(out, part, wide, suffix, from, n)
 }
 
 // The n units of a lowered name from a place on, in UTF-16LE.
@@ -42,25 +150,23 @@ fn put_units(out: &mut [u8], part: &[u8], wide: bool, suffix: &[u8], from: usize
     ensures { λ r. ⌜ Wrote (now (out .entry)) (unitBytes (take n (drop from (nameUnits (base wide (now (part .entry))) (now (suffix .entry))))))
         (now (out .exit)) r ⌝ }
 {
-    let mut at: usize = 0;
-    let mut i: usize = 0;
-    while i < n {
-        let u = name_unit(part, wide, suffix, from + i);
-        out[at] = (u % 256) as u8;
-        out[at + 1] = (u / 256) as u8;
-        at += 2;
-        i += 1;
+    if put_ascii(out, part, wide, suffix, from, n) {
+        return 2 * n;
     }
-    at
+    put_beyond(out, part, wide, suffix, from, n)
 }
 
-// The 64 bytes of the 32 units of a lowered name from a place on.
+// The 64 bytes of the 32 units of a lowered name from a place on. `put_units` is written out here: with one caller `put_beyond` and its
+// large frame would become part of that caller, and ASCII names would pay for it.
 fn chunk_at(part: &[u8], wide: bool, suffix: &[u8], from: usize) -> [u8; 64]
     requires { ⌜ (isWell (decoded wide (now part)) ≡ true) × (from + 32 ≤ length (nameUnits (base wide (now part)) (now suffix))) ⌝ }
     ensures { λ r. ⌜ r ≡ unitBytes (take 32 (drop from (nameUnits (base wide (now (part .entry))) (now (suffix .entry))))) ⌝ }
 {
     let mut chunk = [0u8; 64];
-    put_units(&mut chunk, part, wide, suffix, from, 32);
+    if put_ascii(&mut chunk, part, wide, suffix, from, 32) {
+        return chunk;
+    }
+    put_beyond(&mut chunk, part, wide, suffix, from, 32);
     chunk
 }
 

@@ -37,7 +37,7 @@ fn is_short(part: &[u8]) -> bool
 }
 
 // Whether bytes are all ASCII, eight a turn; the last eight may have some of those before them.
-pub fn is_plain(part: &[u8]) -> bool
+fn is_plain(part: &[u8]) -> bool
     ensures { λ r. ⌜ r ≡ allAscii (now (part .entry)) ⌝ }
 {
     let n = part.len();

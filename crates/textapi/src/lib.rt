@@ -1,6 +1,7 @@
 // Layer 1's functions for tests and benchmarks in other languages.
 ghost use mathlib.Core.Path.{_≡_};
 ghost use lib.ListN.{length};
+ghost use Rattle.lower.specs.Lower.{lower};
 ghost use Rattle.text.specs.City.{cityHash64};
 ghost use Rattle.textapi.specs.Answers.{fine, idAnswer, nameAnswer, nameAfter};
 
@@ -9,6 +10,18 @@ pub extern "C" fn text_city_hash64(s: &[u8]) -> u64
     ensures { λ r. ⌜ r ≡ cityHash64 (now (s .entry)) ⌝ }
 {
     text::city::city_hash64(s)
+}
+
+// The lower-case form of a character, as the id of a name takes it.
+#[no_mangle]
+pub extern "C" fn text_lower(c: u32) -> u32
+    ensures { λ r. ⌜ r ≡ lower c ⌝ }
+{
+    if c < 0x180 {
+        return lower::latin::lower_latin(c);
+    }
+    let pairs = lower::table::table();
+    lower::search::lower_in(&pairs, c)
 }
 
 // Whether a part is a text that the functions below take.

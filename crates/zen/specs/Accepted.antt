@@ -17,7 +17,7 @@ use Rattle.text.specs.ReadingRows.{cells, cells-at, cells-length}
 use Rattle.text.specs.Number.{leAt}
 use Rattle.text.specs.NumberLaws.{Bytes, bytes-part, leAt-part, leAt-lt}
 use Rattle.zen.specs.Batch.{batch}
-use Rattle.zen.specs.Zen.{Read, Tables, Imports, summary, ordered, bulk, tables, exportAt, imports, content, header, lead, packageBlock, named, asciis, noExport}
+use Rattle.zen.specs.Zen.{Read, Tables, Imports, summary, ordered, bulk, tables, exportAt, imports, content, header, lead, packageBlock, named, noExport}
 use Rattle.zen.specs.Answers.{Order, answer, hashesOf, exportsOf, namesOf, importedOf, numbersOf, hashCount, exportCount}
 use Rattle.zen.specs.TableLaws.{bulk-got, tables-is, hashesIn, exportsIn}
 use Rattle.zen.specs.AnswersLaws.{accepted-got}
@@ -54,7 +54,6 @@ record ImportsGot (s : List ℕ) (at index count : ℕ) (v : Imports) : Type 0 w
   numbers : v .numbers ≡ cells (leAt 4 s) 4 (v .batch .place .«end») (v .batch .place .count)
   ends : v .batch .place .«end» + 4 * v .batch .place .count ≡ length s
   within : index < count
-  ascii : asciis (v .batch .texts) ≡ true
 
 imports-got : (s : List ℕ) (at index count : ℕ) (v : Imports) (k : ℕ) → at ≤ length s → walk (imports index count) s at ≡ got v k
     → ImportsGot s at index count v
@@ -70,12 +69,11 @@ imports-got s at index count v k l q =
         two (yes h) =
             pick-by (eqb (length s - (n .«end» + 4 * n .count)) 0) _ 22 (sym (imports-is s at index count n f h) ∙ q) λ a r.
             pick-by (ltb index count) _ 10 r λ b r.
-            pick-by (asciis (f .texts)) _ 23 r λ c r.
             let z = eqb-true (length s - (n .«end» + 4 * n .count)) 0 a in
             let d : Imports = record { batch = record { place = n; texts = f .texts }; numbers = cells (leAt 4 s) 4 (n .«end») (n .count) } in
             let y : d ≡ v = cc in
             let x : ImportsGot s at index count d =
-            record { found = f; texts = f .same; numbers = refl; ends = omega arith; within = ltb-true index count b; ascii = c } in
+            record { found = f; texts = f .same; numbers = refl; ends = omega arith; within = ltb-true index count b } in
             rw y at x
 
 -- what the header's reading says
@@ -92,7 +90,6 @@ record Says (s : List ℕ) (all : ℕ) (r : Read) : Type 0 where
   imported : r .imported ≡ textsAt s (r .layout .imported .headers) (r .layout .imported .strings) (r .layout .imported .count)
   numbers : r .numbers ≡ cells (leAt 4 s) 4 (r .layout .imported .«end») (r .layout .imported .count)
   ends : r .layout .imported .«end» + 4 * r .layout .imported .count ≡ length s
-  ascii : asciis (r .imported) ≡ true
 
 content-got : (s : List ℕ) (size : ℕ) (m : Summary) (o : Order m (length s)) (r : Read) (n : ℕ) → walk (content size m) s 52 ≡ got r n → Says s size r
 unfolding content
@@ -127,7 +124,6 @@ content-got s size m o r n q =
       imported = b .texts;
       numbers = b .numbers;
       ends = b .ends;
-      ascii = b .ascii;
     } in
     rw l at p
 
@@ -154,10 +150,9 @@ pub record Parts (b : List ℕ) (l : Layout) : Type 0 where
   -- the batches
   pub names-held : Bytes b → Held (take (l .size) b) (l .names)
   pub imported-held : Bytes b → Held (take (l .size) b) (l .imported)
-  -- questions 10, 10 and 23
+  -- question 10, of the package and of its exports
   pub index : l .summary .index < l .names .count
   pub named : named (l .names .count) (exportsOf (runBlock packageBlock b)) ≡ true
-  pub ascii : asciis (importedOf (runBlock packageBlock b)) ≡ true
   -- question 22
   pub ends : l .imported .«end» + 4 * l .imported .count ≡ l .size
   -- how many there are
@@ -227,7 +222,6 @@ read-parts b r y =
       imported-held = λ h. found-held _ (m .imported) (r .layout .imported) (bytes-part (r .layout .size) 0 b h) (c .behind);
       index = c .index;
       named = rw y (c .named);
-      ascii = rw y (c .ascii);
       ends = c .ends ∙ w;
       hash-count = rw (y, c .hashes) (cells-length (leAt 8 (take (r .layout .size) b)) 8 (m .hashes) (hashCount (r .layout)));
       export-count = rw (y, c .exports) (cells-length (exportAt (take (r .layout .size) b)) 72 (m .exports) (exportCount (r .layout)));

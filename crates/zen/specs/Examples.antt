@@ -138,9 +138,12 @@ imports-A index ts =
     let imported = batchOf ts ++ replicate (4 * length ts) 0 in
     packageOf (87 + length imported) index 0 (replicate 7 87) (batchOf (text-A ∷ []) ++ field 8 0 ++ imported)
 
--- é, in one byte and in UTF-16
+-- é, in one byte and in UTF-16; half a surrogate pair
 abbrev text-é : Bool → Text
 text-é w = record { wide = w; part = cond w (0xE9 ∷ 0x00 ∷ []) (0xE9 ∷ []) }
+
+abbrev text-half : Text
+text-half = record { wide = true; part = 0x3D ∷ 0xD8 ∷ [] }
 
 -- the refusal, and the block
 abbrev refused-packages : List (ℕ × List ℕ)
@@ -173,9 +176,10 @@ refused-packages =
     (22, packageOf 92 1 0 (replicate 7 87) (content-A ++ 0 ∷ [])) ∷  -- a byte is left, and there is no name 1
     (10, packageOf 91 1 0 (replicate 7 87) content-A) ∷  -- there is no name 1
     (3, packageOf 114 0 0 (replicate 7 87) (batchOf (text-A ∷ []) ++ field 8 0 ++ batchOf (text-A ∷ []))) ∷  -- no number for the imported name
-    (23, imports-A 0 (text-A ∷ text-é false ∷ [])) ∷  -- an imported name that is not ASCII
-    (23, imports-A 0 (text-é true ∷ text-A ∷ [])) ∷
-    (10, imports-A 1 (text-é false ∷ [])) ∷  -- 10 before 23
+    (6, imports-A 1 (text-é true ∷ text-half ∷ [])) ∷  -- an imported name that is no text, and there is no name 1
+    (10, imports-A 1 (text-é false ∷ [])) ∷
+    (0, imports-A 0 (text-A ∷ text-é false ∷ [])) ∷  -- imported names beyond ASCII are names
+    (0, imports-A 0 (text-é true ∷ text-A ∷ [])) ∷
     (0, imports-A 0 (text-A ∷ text-A ∷ [])) ∷
     (0, packageOf 92 0 0 (replicate 6 87 ++ 88 ∷ []) (batchOf (text-A ∷ []) ++ field 8 0 ++ 7 ∷ [] ++ batchOf [])) ∷
     []

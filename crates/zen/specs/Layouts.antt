@@ -17,7 +17,7 @@ use Rattle.text.specs.ReadingGives.{refused-gives}
 use Rattle.text.specs.ReadingRows.{cells}
 use Rattle.zen.specs.Batch.{u32, Batch, batch, someNames, body, strings, headAt}
 use Rattle.zen.specs.BatchLaws.{strings-got, batch-is, some-is, body-hashes, body-heads, body-room, body-is}
-use Rattle.zen.specs.Zen.{Read, Tables, Imports, summary, summaryAt, ordered, bulk, tables, named, imports, asciis, content, header, lead, packageBlock}
+use Rattle.zen.specs.Zen.{Read, Tables, Imports, summary, summaryAt, ordered, bulk, tables, named, imports, content, header, lead, packageBlock}
 use Rattle.zen.specs.Answers.{Order, answer}
 use Rattle.zen.specs.AnswersLaws.{accepted-got}
 use Rattle.zen.specs.SummaryLaws.{order-of, summary-got}
@@ -100,7 +100,6 @@ imports-batch s at index count v k q =
     chain-by (walk (rows (ns .place .count) u32) s e) _ (sym (walk-bind (rows (ns .place .count) u32) _ s e) ∙ w) λ ks j x y.
     ask-by (eqb (length s - j) 0) 22 _ s j y λ a r.
     ask-by (ltb index count) 10 _ s j r λ b r.
-    ask-by (asciis (ns .texts)) 23 _ s j r λ c r.
     let d : Imports = record { batch = ns; numbers = ks } in
     let z : d ≡ v = cc in
     (e, rw (← z) u)

@@ -20,7 +20,7 @@ use Rattle.text.specs.ReadingMarks.{Mark, whole, none}
 use Rattle.text.specs.ReadingTrail.{trail, trail-bind, trail-ask, trail-rows, copies, copies-replicate}
 use Rattle.zen.specs.Batch.{u32, u64, Batch, batch, noNames, someNames, body, head, strings, stringsOn}
 use Rattle.zen.specs.Script.{Start, Objects, entry, fresh, entriesOn, entries, opening, script}
-use Rattle.zen.specs.Zen.{Tables, Imports, Read, offset, summary, bulk, export, named, asciis, tables, imports, content, header, ordered}
+use Rattle.zen.specs.Zen.{Tables, Imports, Read, offset, summary, bulk, export, named, tables, imports, content, header, ordered}
 use Rattle.zen.specs.TableLaws.{in-parts}
 use Rattle.zen.specs.Listed.{joined, nameMarks, batchMarks, entryMarks, summaryMarks, exportMarks, scriptMarks, tableMarks, headerMarks}
 use Rattle.zen.specs.declared.names.Head.{Head}
@@ -250,7 +250,6 @@ imports-trail i c s at {is} {e} q =
     chain-by (walk (rows n u32) s p) _ (sym (walk-bind (rows n u32) _ s p) ∙ r) λ ks j g r.
     ask-by (eqb (length s - j) 0) 22 _ s j r λ t r.
     ask-by (ltb i c) 10 _ s j r λ u r.
-    ask-by (asciis (b .texts)) 23 _ s j r λ v r.
     let z : record { batch = b; numbers = ks } ≡ is = cc in
     let y : j ≡ e = cc in
     let h = trail-rows u32 s (replicate 4 whole) (λ at a m q. refl) n p g ∙ copies-replicate n 4 whole in (
@@ -262,7 +261,6 @@ imports-trail i c s at {is} {e} q =
             h,
             trail-ask 22 _ s j t,
             trail-ask 10 _ s j u,
-            trail-ask 23 _ s j v,
             append-nil (replicate (4 * n) whole),
           ),
       rw (← y) (eqb-true (length s - j) 0 t),

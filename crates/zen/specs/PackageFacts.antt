@@ -1,11 +1,9 @@
 -- All that a caller needs of an accepted package, in one place: what was read of it, how much of each there is, what its names' places
 -- hold. With it the accessors' promises are about what was read, and nothing of the reading is opened. Assumes nothing.
 use mathlib.Core.Path.{_≡_, refl, sym, _∙_, ap}
-use mathlib.Core.Bool.{true}
 use mathlib.Core.List.{List, [], _++_}
 use Prim.Native.Nat.{ℕ, _+_, _*_, _≤_, _<_}
 use lib.ListN.{length, take, getD}
-use Rattle.text.specs.Affix.{allAscii}
 use Rattle.text.specs.Name.{suffix}
 use Rattle.text.specs.NumberLaws.{Bytes}
 use Rattle.text.specs.Reading.{gives, runBlock}
@@ -15,7 +13,7 @@ use Rattle.zen.specs.AnswersLaws.{accepted-got}
 use Rattle.zen.specs.Places.{placeAt}
 use Rattle.zen.specs.Holds.{Holds}
 use Rattle.zen.specs.Accepted.{Parts, parts}
-use Rattle.zen.specs.PackageLaws.{name-count, imported-count, number-count, export-index, imported-ascii, name-text, imported-text}
+use Rattle.zen.specs.PackageLaws.{name-count, imported-count, number-count, export-index, name-text, imported-text}
 use Rattle.zen.specs.declared.places.Place.{Place}
 use Rattle.zen.specs.declared.zen.Layout.{Layout}
 use Rattle.zen.specs.declared.zen.Package.the-variants.{Accepted}
@@ -54,10 +52,9 @@ pub record PackageFacts (b : List ℕ) (l : Layout) (r : Read) : Type 0 where
   pub few-hashes : 8 * hashCount l ≤ length b
   pub few-names : 10 * l .names .count ≤ length b
   pub few-imported : 10 * l .imported .count ≤ length b
-  -- an export's name and the package's are in the batch; imported names are ASCII
+  -- an export's name and the package's are in the batch
   pub named : (i : ℕ) → i < exportCount l → getD (r .exports) i noExport .index < l .names .count
   pub index : l .summary .index < l .names .count
-  pub ascii : (i : ℕ) → i < l .imported .count → allAscii (getD (r .imported) i []) ≡ true
   -- what the places hold
   pub name-holds : Bytes b → (i : ℕ) → i < l .names .count → Holds b (namePlace b l i) (getD (r .names) i [])
   pub imported-holds : Bytes b → (i : ℕ) → i < l .imported .count → Holds b (importedPlace b l i) (getD (r .imported) i [])
@@ -96,7 +93,6 @@ module _ (b : List ℕ) (l : Layout) (acc : answer (runBlock packageBlock b) ≡
         few-imported = p .few-imported;
         named = λ j h. rw x at (export-index b l acc j (rw (p .export-count) h));
         index = p .index;
-        ascii = λ j h. rw i at (imported-ascii b l acc j h);
         name-holds = λ y j h. rw n at (name-text b l acc y j (namePlace b l j) h refl);
         imported-holds = λ y j h. rw i at (imported-text b l acc y j (importedPlace b l j) h refl);
       }

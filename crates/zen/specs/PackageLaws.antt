@@ -10,9 +10,8 @@ use lib.ListN.{length, take, getD}
 use Rattle.text.specs.Reading.{refused, gives, runBlock}
 use Rattle.text.specs.ReadingRows.{cells-length}
 use Rattle.text.specs.NumberLaws.{Bytes}
-use Rattle.text.specs.Affix.{allAscii}
 use Rattle.text.specs.Name.{suffix, rendered}
-use Rattle.zen.specs.Zen.{Read, packageBlock, named, asciis, noExport}
+use Rattle.zen.specs.Zen.{Read, packageBlock, named, noExport}
 use Rattle.zen.specs.Answers.{answer, namesOf, exportsOf, importedOf, numbersOf, importedNameOf, packageNameOf}
 use Rattle.zen.specs.AnswersLaws.{accepted-got, rejected-got}
 use Rattle.zen.specs.Places.{placeAt, partAt}
@@ -36,11 +35,6 @@ named-at n [] q i l = absurd (omega arith)
 named-at n (e ∷ es) q zero l = ltb-true (e .index) n (and-eq-true-iff (ltb (e .index) n) (named n es) .0 q .0)
 named-at n (e ∷ es) q (suc i) l = named-at n es (and-eq-true-iff (ltb (e .index) n) (named n es) .0 q .1) i (omega arith)
 
-asciis-at : (ts : List (List ℕ)) → asciis ts ≡ true → (i : ℕ) → i < length ts → allAscii (getD ts i []) ≡ true
-asciis-at [] q i l = absurd (omega arith)
-asciis-at (t ∷ ts) q zero l = and-eq-true-iff (allAscii t) (asciis ts) .0 q .0
-asciis-at (t ∷ ts) q (suc i) l = asciis-at ts (and-eq-true-iff (allAscii t) (asciis ts) .0 q .1) i (omega arith)
-
 -- ---- an accepted block
 
 module _ (b : List ℕ) (l : Layout) (acc : answer (runBlock packageBlock b) ≡ Accepted l) where
@@ -60,10 +54,6 @@ module _ (b : List ℕ) (l : Layout) (acc : answer (runBlock packageBlock b) ≡
   -- an export's name is in the batch
   pub export-index : (i : ℕ) → i < length (exportsOf (runBlock packageBlock b)) → getD (exportsOf (runBlock packageBlock b)) i noExport .index < l .names .count
   export-index i h = named-at (l .names .count) (exportsOf (runBlock packageBlock b)) (parts b l acc .named) i h
-
-  -- an imported name is ASCII
-  pub imported-ascii : (i : ℕ) → i < l .imported .count → allAscii (getD (importedOf (runBlock packageBlock b)) i []) ≡ true
-  imported-ascii i h = asciis-at (importedOf (runBlock packageBlock b)) (parts b l acc .ascii) i (rw imported-count h)
 
   module _ (y : Bytes b) (i : ℕ) (p : Place) where
     -- the place that `name_place` gives holds name i

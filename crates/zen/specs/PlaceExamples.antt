@@ -16,7 +16,7 @@ use Rattle.zen.specs.Notes.{stepOf}
 use Rattle.zen.specs.Places.{nameStart, textsAt, placeAt, partAt}
 use Rattle.zen.specs.Script.{Objects, fresh, opening}
 use Rattle.zen.specs.ScriptAnswers.{openedBy, opened, entryAt, noEntry, faultOf, faultOn, freshAt, faultAt, answerBy, scriptAnswer, entriesOf, objectNames}
-use Rattle.zen.specs.Zen.{Read, Imports, summaryAt, exportAt, noExport, named, asciis, importedName}
+use Rattle.zen.specs.Zen.{Read, Imports, summaryAt, exportAt, noExport, named, importedName}
 use Rattle.zen.specs.Answers.{checked, summed, batched, imported, answer, exportsOf, hashesOf, namesOf, importedOf, numbersOf, importedNameOf, packageNameOf, exportCount, hashCount}
 use Rattle.zen.specs.Examples.{large-bytes, large, inner-A, two, two-objects}
 use Rattle.zen.specs.declared.script.Entry.{Entry}
@@ -123,10 +123,8 @@ pub record PackageAnswers : Type 0 where
   pub numbers : both numbersOf ≡ [] ∷ large .numbers ∷ []
   pub imported-rendered : both (λ x. importedNameOf x 0) ≡ [] ∷ (66 ∷ 95 ∷ 49 ∷ []) ∷ []
   pub rendered : both packageNameOf ≡ [] ∷ (65 ∷ 95 ∷ 48 ∷ []) ∷ []
-  -- each export's name is in the batch; all names are ASCII
+  -- each export's name is in the batch
   pub all-named : map (λ n. named n (noExport ∷ large .exports)) (0 ∷ 1 ∷ 2 ∷ []) ≡ false ∷ false ∷ true ∷ []
-  pub all-ascii : map asciis ([] ∷ ((65 ∷ []) ∷ (127 ∷ []) ∷ []) ∷ ((65 ∷ []) ∷ (128 ∷ []) ∷ []) ∷ ((128 ∷ []) ∷ (65 ∷ []) ∷ []) ∷ [])
-      ≡ true ∷ true ∷ false ∷ false ∷ []
 
 pub package-answers : PackageAnswers
 unfolding checked summed batched imported answer exportsOf hashesOf namesOf importedOf numbersOf importedNameOf packageNameOf decimal digits
@@ -144,7 +142,6 @@ package-answers = record {
   imported-rendered = refl;
   rendered = refl;
   all-named = refl;
-  all-ascii = refl;
 }
 
 -- ---- and a script block's

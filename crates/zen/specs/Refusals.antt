@@ -1,4 +1,4 @@
--- Which questions a block can fail (document 01, "Questions in order"): a script block one of 3 to 13, a package one of 3 to 23. Assumes nothing.
+-- Which questions a block can fail (document 01, "Questions in order"): a script block one of 3 to 13, a package one of 3 to 22. Assumes nothing.
 use mathlib.Core.Path.{_≡_}
 use mathlib.Core.List.{List, [], _∷_}
 use Prim.Native.Nat.{ℕ, zero, suc, _+_, _*_, _-_, _/_, _%_, _≤_}
@@ -14,7 +14,7 @@ use Rattle.text.specs.Signed.{twos}
 use Rattle.text.specs.Utf16.{isWell}
 use Rattle.zen.specs.Batch.{head, stringsOn, strings, noNames, body, someNames, batch}
 use Rattle.zen.specs.Script.{entry, fresh, entriesOn, entries, opening, script}
-use Rattle.zen.specs.Zen.{offset, summary, ordered, bulk, export, named, tables, asciis, imports, content, header, lead, packageBlock}
+use Rattle.zen.specs.Zen.{offset, summary, ordered, bulk, export, named, tables, imports, content, header, lead, packageBlock}
 use Rattle.zen.specs.declared.names.Head.{Head}
 use Rattle.zen.specs.declared.script.Entry.{Entry}
 use Rattle.zen.specs.declared.summary.Summary.{Summary}
@@ -66,25 +66,25 @@ script-asks =
     asks-bind _ opening-asks λ o. asks-bind _ (entries-ask [] (o .layout .names .count) (o .layout .count)) λ es. rest λ l.
     asks-question (eqb l 0) 13 tt none
 
--- ---- a package: 3 to 23
+-- ---- a package: 3 to 22
 
-offset-asks : Asks 3 23 offset
+offset-asks : Asks 3 22 offset
 unfolding offset
 offset-asks = after λ l. asks-question (nonNeg (twos 32 (le l))) 16 tt none
 
-summary-asks : Asks 3 23 summary
+summary-asks : Asks 3 22 summary
 unfolding summary
 summary-asks = after λ a. bits λ b. after λ c. past (past (asks-bind _ (asks-rows offset-asks 7) λ os. none))
 
-bulk-asks : (stop : ℕ) → Asks 3 23 (bulk stop)
+bulk-asks : (stop : ℕ) → Asks 3 22 (bulk stop)
 unfolding bulk
 bulk-asks stop = after λ l. asks-question (nonNeg (twos 64 (le l))) 18 tt (past (spot λ p. asks-last (eqb p stop) 19 tt))
 
-export-asks : Asks 3 23 export
+export-asks : Asks 3 22 export
 unfolding export
 export-asks = past (after λ a. bits λ b. after λ c. after λ d. after λ e. after λ f. past (after λ g. past none))
 
-tables-ask : (m : Summary) (n : ℕ) → Asks 3 23 (tables m n)
+tables-ask : (m : Summary) (n : ℕ) → Asks 3 22 (tables m n)
 unfolding tables
 tables-ask m n =
     asks-question (eqb ((m .imports - m .hashes) % 8) 0) 20 tt
@@ -93,24 +93,24 @@ tables-ask m n =
     (past (asks-question (eqb ((m .bundles - m .exports) % 72) 0) 21 tt
     (asks-bind _ (asks-rows export-asks ((m .bundles - m .exports) / 72)) λ es. asks-question (named n es) 10 tt (past none)))))
 
-imports-ask : (index count : ℕ) → Asks 3 23 (imports index count)
+imports-ask : (index count : ℕ) → Asks 3 22 (imports index count)
 unfolding imports
 imports-ask index count =
-    asks-bind _ (batch-within 23 (lit≤ tt)) λ is. asks-bind _ (asks-rows (asks-number 4) (is .place .count)) λ ks. rest λ l.
+    asks-bind _ (batch-within 22 (lit≤ tt)) λ is. asks-bind _ (asks-rows (asks-number 4) (is .place .count)) λ ks. rest λ l.
     asks-question (eqb l 0) 22 tt
-    (asks-question (ltb index count) 10 tt (asks-question (asciis (is .texts)) 23 tt none))
+    (asks-question (ltb index count) 10 tt none)
 
-content-asks : (size : ℕ) (m : Summary) → Asks 3 23 (content size m)
+content-asks : (size : ℕ) (m : Summary) → Asks 3 22 (content size m)
 unfolding content
 content-asks size m =
-    asks-bind _ (batch-within 23 (lit≤ tt)) λ ns. asks-bind _ (bulk-asks (m .hashes)) λ u.
+    asks-bind _ (batch-within 22 (lit≤ tt)) λ ns. asks-bind _ (bulk-asks (m .hashes)) λ u.
     asks-bind _ (tables-ask m (ns .place .count)) λ t. asks-bind _ (imports-ask (m .index) (ns .place .count)) λ is. none
 
-header-asks : (size : ℕ) → Asks 3 23 (header size)
+header-asks : (size : ℕ) → Asks 3 22 (header size)
 unfolding header
 header-asks size = asks-bind _ summary-asks λ m. asks-question (ordered m size) 17 tt (content-asks size m)
 
-lead-asks : Asks 3 23 lead
+lead-asks : Asks 3 22 lead
 unfolding lead
 lead-asks =
     after λ f. asks-question (eqb (le f) 0) 14 tt (after λ z. rest λ l. asks-question (leb (le z) (8 + l)) 15 tt none)
@@ -120,5 +120,5 @@ lead-asks =
 pub script-refusal : (s : List ℕ) (q : ℕ) → run script 0 s ≡ refused q → Within 3 13 q
 script-refusal s q e = asks-run 3 13 (within 3 13 3 tt) script-asks 0 s e
 
-pub package-refusal : (b : List ℕ) (q : ℕ) → runBlock packageBlock b ≡ refused q → Within 3 23 q
-package-refusal b q e = asks-block 3 23 (within 3 23 3 tt) packageBlock lead-asks header-asks b e
+pub package-refusal : (b : List ℕ) (q : ℕ) → runBlock packageBlock b ≡ refused q → Within 3 22 q
+package-refusal b q e = asks-block 3 22 (within 3 22 3 tt) packageBlock lead-asks header-asks b e

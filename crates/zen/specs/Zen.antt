@@ -1,4 +1,4 @@
--- A package block (document 01, "zen.rs"; questions 3 to 7, 10, 14 to 23).
+-- A package block (document 01, "zen.rs"; questions 3 to 7, 10, 14 to 22).
 use mathlib.Core.List.{List, [], _∷_, _++_}
 use mathlib.Core.Bool.{Bool, true, _&&_}
 use Prim.Native.Nat.{ℕ, _+_, _-_, _/_, _%_}
@@ -7,7 +7,6 @@ use lib.Dec.{leb, ltb, eqb}
 use Rattle.text.specs.Reading.{Reading, give, _>>=_, _>>_, over-bytes, bytesLeft, place, Block, u30, ask, rows}
 use lib.Signed.{nonNeg}
 use Rattle.text.specs.Signed.{twos}
-use Rattle.text.specs.Affix.{allAscii}
 use Rattle.text.specs.Name.{suffix}
 use Rattle.text.specs.Number.{leAt}
 use Rattle.zen.specs.Field.{low30}
@@ -106,10 +105,6 @@ abbrev pub named : ℕ → List Export → Bool
 named n [] = true
 named n (e ∷ es) = ltb (e .index) n && named n es
 
-abbrev pub asciis : List (List ℕ) → Bool
-asciis [] = true
-asciis (t ∷ ts) = allAscii t && asciis ts
-
 pub record Tables : Type 0 where
   pub hashes : List ℕ
   pub exports : List Export
@@ -131,7 +126,7 @@ pub record Imports : Type 0 where
   pub batch : Batch
   pub numbers : List ℕ
 
--- imported names: a batch, then a number per name; nothing left? 22; package name? 10; all ASCII? 23
+-- imported names: a batch, then a number per name; nothing left? 22; package name? 10
 unfoldable pub imports : ℕ → ℕ → Reading Imports
 imports index count = do
   is ← batch
@@ -139,7 +134,6 @@ imports index count = do
   l ← bytesLeft
   ask (eqb l 0) 22
   ask (ltb index count) 10
-  ask (asciis (is .texts)) 23
   give (record { batch = is; numbers = ks })
 
 -- what a package says, and where

@@ -1,9 +1,9 @@
-//! The 26 questions that a corpus is asked, in order; the first that it fails is the refusal.
+//! The questions that a corpus is asked, in order; the first that it fails is the refusal. 23 is retired.
 
 /// A question, and what it means to fail it.
 #[derive(Debug, Clone, Copy, PartialEq, Eq)]
 pub struct Question {
-    /// 1 to 26.
+    /// 1 to 22, 24 to 26.
     pub number: u8,
     /// What is wrong where the answer is no, in a few words.
     pub failed: &'static str,
@@ -19,10 +19,10 @@ impl Question {
     /// ```
     /// let question = classreport::Question::numbered(2).unwrap();
     /// assert_eq!(question.failed, "the corpus has a version other than 1");
-    /// assert!(classreport::Question::numbered(27).is_none());
+    /// assert!([0, 23, 27].iter().all(|none| classreport::Question::numbered(*none).is_none()));
     /// ```
     pub fn numbered(number: u8) -> Option<&'static Question> {
-        QUESTIONS.get(usize::from(number).checked_sub(1)?)
+        QUESTIONS.iter().find(|question| question.number == number)
     }
 }
 
@@ -41,7 +41,7 @@ const fn question(
 }
 
 /// All questions, in the order of their numbers.
-pub const QUESTIONS: [Question; 26] = [
+pub const QUESTIONS: [Question; 25] = [
     question(
         1,
         "the corpus's lengths do not fit its bytes",
@@ -175,12 +175,6 @@ pub const QUESTIONS: [Question; 26] = [
         "bytes are left behind the imported names",
         "Is nothing left behind the imported names?",
         "The header size is damaged, or the package is of another engine version.",
-    ),
-    question(
-        23,
-        "an imported name is not ASCII",
-        "Are all imported names ASCII?",
-        "A package was imported whose name has letters beyond ASCII; its id can not be told. Rename that package.",
     ),
     question(
         24,

@@ -1,7 +1,7 @@
 //! The library against the model (document 01 read afresh) on generated corpora.
 use classreport::chain::{End, Headers, LineEnd};
 use classreport::{Corpus, CorpusBuilder, Refusal, Report, Row, report, report_into};
-use corpus::generate::{LARGE, dense, generate, ladder, sized};
+use corpus::generate::{LARGE, dense, generate, ladder, sized, spelt};
 
 fn model(corpus: &[u8]) -> Result<Vec<u8>, Refusal> {
     let answer = model::class_report(corpus, u64::MAX, u64::MAX);
@@ -117,8 +117,10 @@ fn ends(bytes: &[u8]) -> Vec<End> {
 fn chains_agree_with_the_rows() {
     let mut seen = [0; 9];
     let dense = (0..3_000).map(dense).filter(|corpus| model(corpus).is_ok());
-    let ladders = ladder::all().map(|line| line.bytes());
-    for corpus in dense.chain(ladders).chain([generate(5, LARGE)]) {
+    let ladders = ladder::all(1).map(|line| line.bytes());
+    let spelt = (0..500).map(|seed| spelt(seed).bytes());
+    let all = dense.chain(spelt).chain(ladders);
+    for corpus in all.chain([generate(5, LARGE)]) {
         for end in ends(&corpus) {
             seen[match end {
                 End::Script(line) => match line.end {

@@ -17,12 +17,24 @@ pub fn rendered(base: &str, number: u32) -> String {
     [base, suffix.as_deref().unwrap_or_default()].concat()
 }
 
-/// The id of a name: CityHash64 of its UTF-16LE text with A to Z lowered.
+/// A character lowered one to one: one whose lowercase mapping is several (U+0130 alone) stays.
+pub fn lower(c: char) -> char {
+    let mut mapped = c.to_lowercase();
+    match (mapped.next(), mapped.next()) {
+        (Some(one), None) => one,
+        _ => c,
+    }
+}
+
+/// Every character that lowering changes, in rising order, with what it becomes.
+pub fn pairs() -> impl Iterator<Item = (char, char)> {
+    let all = '\0'..=char::MAX;
+    all.map(|c| (c, lower(c))).filter(|(c, low)| c != low)
+}
+
+/// The id of a name: CityHash64 of its UTF-16LE text, lowered.
 pub fn id(text: &str) -> u64 {
-    let lowered = |unit| match unit {
-        0x41..=0x5a => unit + 0x20,
-        _ => unit,
-    };
-    let units = text.encode_utf16().map(|unit| lowered(unit).to_le_bytes());
-    cityhasher::hash(units.collect::<Vec<_>>().as_flattened())
+    let lowered: String = text.chars().map(lower).collect();
+    let units: Vec<[u8; 2]> = lowered.encode_utf16().map(u16::to_le_bytes).collect();
+    cityhasher::hash(units.as_flattened())
 }

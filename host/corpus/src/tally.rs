@@ -6,6 +6,9 @@ use std::fmt;
 /// The last refusal.
 const LAST: usize = 26;
 
+/// The refusal that is retired: nobody answers it any more.
+const RETIRED: usize = 23;
+
 /// Class kind, class known, native known: what `resolve` can answer.
 pub const CLASSES: [(u8, u8, u8); 10] = [
     (0, 1, 1),
@@ -34,7 +37,7 @@ impl Tally {
     /// Counts a refusal, or a report with its rows.
     pub fn add(&mut self, answer: Result<&[u8], Refusal>) {
         match answer {
-            Err((refusal, _)) => self.refusals[usize::from(refusal)] += 1,
+            Err((refusal, _)) => self.add_refusal(refusal.into()),
             Ok(report) => {
                 self.refusals[0] += 1;
                 sections(report)
@@ -43,6 +46,11 @@ impl Tally {
                     .for_each(|row| self.add_row(row));
             }
         }
+    }
+
+    fn add_refusal(&mut self, refusal: usize) {
+        assert_ne!(refusal, RETIRED, "a refusal that is retired");
+        self.refusals[refusal] += 1;
     }
 
     fn add_row(&mut self, row: &[u8]) {
@@ -63,7 +71,7 @@ impl Tally {
         let classes = CLASSES.iter().zip(&self.classes);
         let candidates = ["kind 1", "kind 2", "numbered"].iter().zip(self.candidates);
         refusals
-            .filter(|(_, n)| **n == 0)
+            .filter(|(i, n)| **n == 0 && *i != RETIRED)
             .map(|(i, _)| format!("refusal {i}"))
             .chain(
                 classes
@@ -81,7 +89,8 @@ impl Tally {
 
 impl fmt::Display for Tally {
     fn fmt(&self, f: &mut fmt::Formatter) -> fmt::Result {
-        let refusals = self.refusals.iter().enumerate().skip(1);
+        let refusals = self.refusals.iter().enumerate();
+        let refusals = refusals.filter(|(refusal, _)| ![0, RETIRED].contains(refusal));
         let classes = CLASSES.iter().zip(&self.classes);
         let lines = refusals
             .map(|(refusal, n)| format!("refusal {refusal}: {n}\n"))

@@ -1,6 +1,7 @@
 //! Every feature of document 01 occurs in what the generators make.
 use corpus::census::{Census, census};
-use corpus::generate::{LARGE, dense, generate, ladder};
+use corpus::generate::{LARGE, dense, generate, ladder, spelt};
+use corpus::name::pairs;
 
 fn joined(mut all: impl Iterator<Item = Census>) -> Census {
     let mut first = all.next().expect("a corpus");
@@ -23,8 +24,19 @@ fn all_in_small_corpora() {
     let mut counted = joined((0..2000).map(|seed| census(&dense(seed))));
     counted.join(&census(&ladder::paths().bytes()));
     counted.join(&census(&ladder::chains().bytes()));
+    (0..200).for_each(|seed| counted.join(&census(&spelt(seed).bytes())));
     println!("{counted}");
     assert_eq!(counted.missing(), Vec::<String>::new());
+}
+
+/// Every character that lowering changes is in the name of a package, and each row finds its class by a spelling of it.
+#[test]
+fn the_whole_of_lowering() {
+    let counted = census(&ladder::lowered(1).bytes());
+    let count = pairs().count() as u64;
+    assert_eq!(count, 1_487);
+    assert_eq!(counted.candidates, 2 * count);
+    assert_eq!(counted.features["import of a class"], 2 * count);
 }
 
 /// Joining forgets none of the counts.

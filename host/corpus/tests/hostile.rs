@@ -72,6 +72,7 @@ fn classes_and_rows() {
         ("long names", 0, 2),
         ("long wide names", 0, 2),
         ("long imported names", 0, 2),
+        ("long imported names beyond ASCII", 0, 2),
         ("two packages of one id", 200, 200),
         ("tiny packages", 0, 200),
         ("names beyond ASCII", 0, 200),

@@ -1,9 +1,10 @@
 //! Document 01 read afresh: from its text, with no code of the reference, for clarity and not for speed.
-//! One file for each of its headings; texts are UTF-8 bytes throughout.
+//! One file for each of its headings, and one for the lowering that document 02 adds; texts are UTF-8 bytes throughout.
 mod call;
 mod city;
 mod classes;
 mod frame;
+mod lower;
 mod names;
 mod package;
 mod reader;
@@ -15,3 +16,4 @@ mod text;
 
 pub use call::{BASE, Limits, class_report, class_report_within};
 pub use city::city_hash64;
+pub use lower::lower;

@@ -58,7 +58,6 @@ pub fn package_block(bytes: &[u8], id: u64, block: u32) -> Result<Package, Refus
     let exports = exports(header, &regions, &names, block)?;
     let imported = imported_names(header, &regions, block)?;
     let name = name.name(r, &names)?.rendered();
-    r.ask(imported.iter().all(|name| name.is_ascii()), 23)?;
     Ok(Package {
         id,
         block,

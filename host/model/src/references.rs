@@ -1,5 +1,6 @@
 //! What a class index or a super index of a package means, and its text in the report.
 use crate::city::city_hash64;
+use crate::lower::lower;
 use crate::package::Package;
 use crate::script::{Kind, kind};
 use crate::text::{Text, decimal, hex16};
@@ -68,13 +69,17 @@ fn local(package: &Package, index: u64) -> Reference {
     )
 }
 
-/// CityHash64 of the UTF-16LE text with A to Z lowered; the name is ASCII (question 23), so a unit is a byte and 0.
+/// CityHash64 of the name in UTF-16LE, lowered.
 fn package_id(name: &[u8]) -> u64 {
-    let units = name.iter().flat_map(|byte| match byte {
-        b'A'..=b'Z' => [byte + 32, 0],
-        _ => [*byte, 0],
-    });
-    city_hash64(&units.collect::<Vec<u8>>())
+    let name = str::from_utf8(name).expect("texts are UTF-8");
+    let mut bytes = Vec::new();
+    for c in name.chars() {
+        let units = &mut [0; 2];
+        for unit in lower(c).encode_utf16(units) {
+            bytes.extend(unit.to_le_bytes());
+        }
+    }
+    city_hash64(&bytes)
 }
 
 impl Reference {

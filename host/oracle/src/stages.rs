@@ -35,14 +35,11 @@ pub fn script_count(parts: &Parts) -> usize {
     cursor.count(32).expect("read before")
 }
 
-/// Questions 3 to 7, 10 and 14 to 22, and 23, which the reference doesn't ask.
+/// Questions 3 to 7, 10 and 14 to 22.
 pub fn headers(parts: &Parts) -> Result<Vec<PackageHeader>, Refusal> {
     let mut headers = Vec::with_capacity(parts.packages.len());
     for (block, (_, bytes)) in (FIRST_PACKAGE..).zip(&parts.packages) {
         let header = parse_package_header(bytes).map_err(|error| refusal(&error, block))?;
-        if !header.imported_package_names.iter().all(|n| n.is_ascii()) {
-            return Err((23, block));
-        }
         headers.push(header);
     }
     Ok(headers)

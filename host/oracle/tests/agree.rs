@@ -6,7 +6,7 @@ use both::both;
 use corpus::census::census;
 use corpus::damage::{cuts, damage_block, faults, sound};
 use corpus::draft::Draft;
-use corpus::generate::{LARGE, Random, dense, dense_described, generate, ladder};
+use corpus::generate::{LARGE, Random, dense, dense_described, generate, ladder, spelt};
 use corpus::tally::Tally;
 
 const ROOM: u64 = 1 << 40;
@@ -54,12 +54,12 @@ impl Asked {
 
 fn generated(asked: &mut Asked) {
     let small = (0..12_000).map(dense);
+    let spelt = (0..2_000).map(|seed| spelt(seed).bytes());
     let medium = (0..40).map(|seed| generate(seed, 50_000));
     let large = (0..2).map(|seed| generate(seed, 3 * LARGE));
-    let lines = ladder::all().map(|line| line.bytes());
-    for corpus in small.chain(medium).chain(large).chain(lines) {
-        asked.ask_closely(&corpus);
-    }
+    let lines = ladder::all(1).map(|line| line.bytes());
+    let all = small.chain(spelt).chain(medium).chain(large).chain(lines);
+    all.for_each(|corpus| asked.ask_closely(&corpus));
 }
 
 /// Damage in larger corpora, with buffers that are sometimes too short, and in small ones.
@@ -73,7 +73,10 @@ fn damaged(asked: &mut Asked) {
         let length = |r: &mut Random, most| if r.chance(90) { ROOM } else { r.below(most) };
         let (work, buffer) = (length(&mut random, 12_000), length(&mut random, 6_000));
         asked.ask(&corpus, work, buffer);
-        let small = dense(i as u64);
+        let small = match i % 4 {
+            0 => spelt(i as u64).bytes(),
+            _ => dense(i as u64),
+        };
         asked.ask(&damage_block(&mut random, &small), ROOM, ROOM);
     }
 }

@@ -3,7 +3,7 @@ mod both;
 
 use both::both;
 use corpus::census::census;
-use corpus::generate::{LARGE, Random, dense, generate};
+use corpus::generate::{LARGE, Random, dense, generate, ladder, spelt};
 use corpus::passed::KINDS;
 use corpus::rearrange::rearrange;
 use corpus::rows::sections;
@@ -26,6 +26,20 @@ fn hold(corpus: &[u8], random: &mut Random, changed: &mut [u64; KINDS.len()]) ->
         *sum += n;
     }
     true
+}
+
+/// Names beyond ASCII, wide and of Latin-1, that are imported by other spellings.
+#[test]
+fn sections_with_accents_stay() {
+    let mut random = Random(9);
+    let mut changed = [0; KINDS.len()];
+    let small = (0..2_000).map(|seed| spelt(seed).bytes());
+    let whole = ladder::lowered(1).bytes();
+    for corpus in small.chain([whole]) {
+        assert!(hold(&corpus, &mut random, &mut changed), "accepted");
+    }
+    let other_names = changed[1] > 0 && changed[2] > 0;
+    assert!(other_names, "{} and {} changed", KINDS[1], KINDS[2]);
 }
 
 #[test]

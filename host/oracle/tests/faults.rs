@@ -2,7 +2,7 @@
 mod both;
 
 use both::both;
-use corpus::damage::{Fault, faults, sound};
+use corpus::damage::{Fault, accents, faults, sound};
 use corpus::draft::Draft;
 
 const SEEDS: u64 = 4;
@@ -34,6 +34,22 @@ fn each_alone_on(base: &Draft) {
 #[test]
 fn each_alone() {
     (0..SEEDS).for_each(|seed| each_alone_on(&sound(seed)));
+}
+
+/// Imported names beyond ASCII are accepted, and whatever fault is beside them decides.
+#[test]
+fn accents_are_no_fault() {
+    let base = sound(0);
+    let all = accents(&base);
+    println!("{} accents", all.len());
+    for accent in all {
+        let mut draft = base.clone();
+        accent.apply(&mut draft);
+        assert_ne!(draft.bytes(), base.bytes(), "{}", accent.name);
+        let answer = answer(&draft, &[]);
+        assert!(answer.is_ok(), "{}: {answer:?}", accent.name);
+        each_alone_on(&draft);
+    }
 }
 
 /// A fault together with every one asked about later.

@@ -2,9 +2,9 @@
 use crate::Question;
 use corpus::Described;
 use corpus::census::census;
-use corpus::damage::{Fault, damage_block, faults, sound};
+use corpus::damage::{Accent, Fault, accents, damage_block, faults, sound};
 use corpus::draft::Draft;
-use corpus::generate::{Random, dense, generate, ladder};
+use corpus::generate::{Random, dense, generate, ladder, spelt};
 use corpus::rearrange::rearrange;
 use oracle::report::class_report;
 use std::collections::BTreeSet;
@@ -19,7 +19,9 @@ pub fn questions() -> Vec<Question> {
     out.extend(single_faults());
     out.extend(close_faults());
     out.extend(pairs_of_faults(10));
-    out.extend(accepted(0..).take(40).map(|c| with_slack(&c)));
+    out.extend(accented());
+    out.extend((0..4).flat_map(|seed| before_and_after(&spelt(seed).bytes())));
+    out.extend(accepted(0..).take(30).map(|c| with_slack(&c)));
     out.extend(
         accepted(500..)
             .filter(|c| imports_a_class(c))
@@ -76,7 +78,18 @@ fn examples() -> Vec<Question> {
 
 /// Paths, chains and rings around their limits.
 fn ladders() -> Vec<Question> {
-    ladder::all().map(|line| with_room(line.bytes())).into()
+    ladder::all(32).map(|line| with_room(line.bytes())).into()
+}
+
+/// Imported names beyond ASCII, one at a time.
+fn accented() -> Vec<Question> {
+    let base = sound(2);
+    let with = |accent: &Accent| {
+        let mut draft = base.clone();
+        accent.apply(&mut draft);
+        of_draft(&draft)
+    };
+    accents(&base).iter().step_by(7).map(with).collect()
 }
 
 /// The refusal and the block.

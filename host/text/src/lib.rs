@@ -7,6 +7,7 @@
 // SAFETY: as crates/textapi declares them. A slice of Rattle's is a pointer and then a length; a `bool` is Rust's.
 unsafe extern "C" {
     fn text_city_hash64(s: *const u8, len: usize) -> u64;
+    fn text_lower(c: u32) -> u32;
     fn text_name_id(part: *const u8, len: usize, wide: bool, number: u32) -> u64;
     fn text_put_name(
         out: *mut u8,
@@ -22,6 +23,12 @@ unsafe extern "C" {
 pub fn city_hash64(s: &[u8]) -> u64 {
     // SAFETY: pointer and length are those of a live slice, which the call only reads and does not keep.
     unsafe { text_city_hash64(s.as_ptr(), s.len()) }
+}
+
+/// A character lowered one to one; a number that is no scalar value stays.
+pub fn lower(c: u32) -> u32 {
+    // SAFETY: the call takes and gives numbers alone.
+    unsafe { text_lower(c) }
 }
 
 /// The id of a name: 0 where the part is no text.

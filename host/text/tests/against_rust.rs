@@ -1,4 +1,6 @@
 //! Layer 1 against Rust's own text and the stand-in's CityHash64.
+use std::sync::LazyLock;
+
 use corpus::generate::Random;
 use corpus::name;
 use text::{city_hash64, name_id, put_name};
@@ -25,12 +27,19 @@ fn city_hash_of_every_length() {
     }
 }
 
+/// Every character that lowering changes, and those that it makes.
+static LETTERS: LazyLock<Vec<u32>> = LazyLock::new(|| {
+    let both = name::pairs().flat_map(|(capital, small)| [capital, small]);
+    both.map(u32::from).collect()
+});
+
 /// A part of a block: mostly letters, some of Latin-1 above 0x7F, wide ones with surrogates that mostly pair.
 fn part(r: &mut Random, units: usize, wide: bool) -> Vec<u8> {
     let mut out = Vec::new();
     while out.len() < units * if wide { 2 } else { 1 } {
         let c: u32 = match r.below(12) {
-            0..6 => u32::from(b'A') + r.below(26) as u32,
+            0..3 => *r.pick(&LETTERS),
+            3..6 => u32::from(b'A') + r.below(26) as u32,
             6..9 => u32::from(b'a') + r.below(26) as u32,
             9 => r.below(256) as u32,
             10 => *r.pick(&[

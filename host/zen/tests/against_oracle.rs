@@ -2,7 +2,7 @@
 use std::collections::BTreeSet;
 
 use corpus::damage::damage;
-use corpus::generate::{Random, dense, generate};
+use corpus::generate::{Random, dense, generate, spelt};
 use corpus::{Export, Package, Text, list};
 use oracle::cityhash::hash_package_name;
 use oracle::frame::parts;
@@ -32,11 +32,9 @@ fn entries(block: &[u8]) -> Result<Vec<[u64; 4]>, Error> {
     (0..count).map(|_| entry()).collect()
 }
 
-/// What the reference says of a package, and 23, which it doesn't ask.
+/// What the reference says of a package.
 fn header(block: &[u8]) -> Result<PackageHeader, u64> {
-    let header = parse_package_header(block).map_err(|error| number(&error))?;
-    let ascii = header.imported_package_names.iter().all(|n| n.is_ascii());
-    if ascii { Ok(header) } else { Err(23) }
+    parse_package_header(block).map_err(|error| number(&error))
 }
 
 /// Each text with room for it and a little more, and with a byte too little; and none past the last.
@@ -152,8 +150,9 @@ fn recorded(seen: &mut Seen) {
 fn damaged(seen: &mut Seen, blocks: u64) {
     let mut random = Random(4);
     let small = (0..500).map(dense);
+    let spelt = (0..200).map(|seed| spelt(seed).bytes());
     let large = (0..10).map(|seed| generate(seed, 5_000));
-    let bases: Vec<Vec<u8>> = small.chain(large).collect();
+    let bases: Vec<Vec<u8>> = small.chain(spelt).chain(large).collect();
     for _ in 0..blocks {
         let base = random.pick(&bases);
         let parts = parts(base).expect("sound");
@@ -198,7 +197,7 @@ fn every_block_as_the_reference() {
     );
     assert!(scripts.1 > 0 && packages.1 > 0, "none was accepted");
     assert_eq!(scripts.2, (3..=13).collect());
-    assert_eq!(packages.2, (3..=7).chain([10]).chain(14..=23).collect());
+    assert_eq!(packages.2, (3..=7).chain([10]).chain(14..=22).collect());
 }
 
 /// Where a package's bases end. The reference doesn't say where a text stands, so the package is described.

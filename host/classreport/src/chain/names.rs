@@ -74,9 +74,15 @@ pub(super) fn rendered(base: &str, number: u32) -> String {
     }
 }
 
-/// The id of a package's name: CityHash64 of its UTF-16LE text with A to Z lowered.
+/// The id of a package's name: CityHash64 of its UTF-16LE text, each character lowered to one.
 pub(super) fn id(name: &str) -> u64 {
-    let lowered = name.to_ascii_lowercase();
+    let lowered: String = name.chars().map(lower).collect();
     let units: Vec<[u8; 2]> = lowered.encode_utf16().map(u16::to_le_bytes).collect();
     cityhasher::hash(units.as_flattened())
+}
+
+/// The lowercase mapping, where that is one character.
+fn lower(c: char) -> char {
+    let mut mapped = c.to_lowercase();
+    mapped.next().filter(|_| mapped.len() == 0).unwrap_or(c)
 }

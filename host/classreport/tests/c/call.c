@@ -51,8 +51,10 @@ static void unpacked(void) {
     expect(classreport_package(UINT64_C(0x8000000800000001)) == 0, "the script block is no package");
     expect(classreport_length(CLASSREPORT_LONGEST) == CLASSREPORT_LONGEST, "the longest report");
     expect(classreport_work_enough(21) == 42 && classreport_work_enough(SIZE_MAX) == SIZE_MAX, "work");
+    expect(strcmp(classreport_failed(23), classreport_failed(27)) == 0, "23 is no question");
     for (unsigned question = 1; question <= 26; question++)
-        printf("%u %s\n", question, classreport_failed(question));
+        if (question != 23)
+            printf("%u %s\n", question, classreport_failed(question));
 }
 
 /* The whole of a file, in memory that the caller frees. */

@@ -4,7 +4,7 @@ use crate::decode::{Export, Package};
 use crate::kind;
 use std::collections::HashSet;
 
-pub const FEATURES: [&str; 46] = [
+pub const FEATURES: [&str; 70] = [
     "empty batch",
     "Latin-1 above 0x7F",
     "UTF-16",
@@ -51,6 +51,30 @@ pub const FEATURES: [&str; 46] = [
     "export outside the exports",
     "null reference",
     "chain in a ring",
+    "package name beyond ASCII",
+    "Latin-1 imported name beyond ASCII",
+    "UTF-16 imported name beyond ASCII",
+    "accents: Latin-1 here and there",
+    "accents: Latin-1 here, UTF-16 there",
+    "accents: UTF-16 here, Latin-1 there",
+    "accents: UTF-16 here and there",
+    "accents: capital here, small there",
+    "accents: small here, capital there",
+    "accents: numbered here",
+    "accents: numbered here, written out there",
+    "accents: a surrogate pair lowered",
+    "accents: found with U+00C9",
+    "accents: found with U+0130",
+    "accents: found with U+0152",
+    "accents: found with U+01C5",
+    "accents: found with U+03A9",
+    "accents: found with U+03C2",
+    "accents: found with U+0414",
+    "accents: found with U+1E9E",
+    "accents: found with U+212A",
+    "accents: found with U+10400",
+    "accents: missed, i for U+0130",
+    "accents: missed, U+03C3 for U+03C2",
 ];
 
 pub fn count(census: &mut Census, tables: &Tables) {
@@ -88,6 +112,13 @@ fn of_package(census: &mut Census, p: &Package) {
     let numbered = p.numbers.iter().filter(|n| **n != 0).count();
     let region = |k: usize| p.regions[k + 1] - p.regions[k];
     census.note("numbered package name", p.name.1 != 0);
+    let name = &p.batch.names[p.name.0];
+    census.note("package name beyond ASCII", !name.text.is_ascii());
+    for name in &p.imported.names {
+        let accents = !name.text.is_ascii();
+        census.note("Latin-1 imported name beyond ASCII", accents && !name.wide);
+        census.note("UTF-16 imported name beyond ASCII", accents && name.wide);
+    }
     census.add("numbered imported name", numbered as u64);
     census.note("empty package", p.exports.is_empty());
     census.note(

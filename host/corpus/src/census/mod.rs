@@ -1,5 +1,6 @@
 //! A census of an accepted corpus: how often each feature of document 01 occurs in it. It reads for itself what a path,
 //! a class and a chain are, plainly and without limits.
+mod accents;
 mod chains;
 mod features;
 mod texts;
@@ -34,6 +35,8 @@ struct Tables<'a> {
     objects: HashMap<u64, usize>,
     /// classes by key, with their package's number
     classes: HashMap<(u64, u64), (usize, Export)>,
+    /// the names of packages, by what they could be mistaken for
+    mistaken: HashMap<String, String>,
 }
 
 pub fn census(bytes: &[u8]) -> Census {
@@ -52,6 +55,7 @@ pub fn census(bytes: &[u8]) -> Census {
     for (i, export) in candidates(&corpus) {
         census.candidates += 1;
         chains::count(&mut census, &tables, i, export.class);
+        accents::count(&mut census, &tables, i, export.class);
     }
     census
 }
@@ -153,7 +157,12 @@ impl<'a> Tables<'a> {
             corpus,
             objects: entries.map(|(i, e)| (e.global, i)).collect(),
             classes: HashMap::new(),
+            mistaken: HashMap::new(),
         };
+        for package in &corpus.packages {
+            let name = package.batch.rendered(package.name);
+            (tables.mistaken).insert(accents::mistaken(&name), name);
+        }
         for (i, export) in exports(corpus) {
             if tables.is_class(export) {
                 let key = (corpus.packages[i].id, export.hash);

@@ -1,5 +1,6 @@
 //! Damage: named faults in document 01's order of questions, each an edit of a sound draft, and damage to bytes by
-//! chance.
+//! chance; beside them edits that are no faults.
+mod accents;
 mod batch;
 mod block;
 mod bytes;
@@ -8,6 +9,7 @@ mod package;
 mod script;
 mod sound;
 
+pub use accents::{Accent, accents};
 pub use block::cuts;
 pub use bytes::{damage, damage_block};
 pub use sound::sound;

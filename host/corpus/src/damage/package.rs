@@ -181,11 +181,5 @@ fn of_imported(of: Of, package: &PackageDraft) -> Vec<Fault> {
     out.push(of.fault("no name", 10, |p| {
         p.name.0 = p.batch.headers.len() as u32 | 3 << 30;
     }));
-    out.push(of.fault("a wide imported name beyond ASCII", 23, |p| {
-        p.imported.strings[1] = 1;
-    }));
-    out.push(of.fault("an imported name of Latin-1", 23, |p| {
-        *p.imported.strings.last_mut().expect("a byte") = 0x80;
-    }));
     out
 }

@@ -1,7 +1,8 @@
 //! Small corpora in which everything meets: few names, indices, hashes and ids, so that rings, long chains, keys that
 //! come twice, names that are empty, `?` or hold separators, and references of every kind are all common.
 use super::Random;
-use crate::name::id;
+use super::spelling::mixed;
+use crate::name::{id, rendered};
 use crate::{Described, Export, NULL, Package, ScriptEntry, Text, import_index, script_index};
 
 const POOL: [&str; 20] = [
@@ -27,11 +28,24 @@ const POOL: [&str; 20] = [
     "\u{feff}Class",
 ];
 
-const IMPORTED: [&str; 4] = [
-    "/Q",
-    "/q",
-    "",
-    "/Game/LONGER_name_that_is_past_sixteen_units",
+/// The names that packages are imported by: a corpus has one row of these, so that imports are found across spellings.
+const IMPORTED: [[&str; 4]; 6] = [
+    [
+        "/Q",
+        "/q",
+        "",
+        "/Game/LONGER_name_that_is_past_sixteen_units",
+    ],
+    ["/École", "/éCOLE", "/ÿk", "/Ÿ\u{212a}"],
+    ["/Œuvre", "/œUVRE", "/ΑΣ", "/ας"],
+    ["/İ", "/i", "/\u{1c5}x", "/\u{1c6}X"],
+    ["/𐐀𞤀", "/𐐨𞤢", "/Straße", "/STRAẞE"],
+    [
+        "/Game/à_côté_past_sixteen_units",
+        "/GAME/À_CÔTÉ_PAST_SIXTEEN_UNITS",
+        "/Ω",
+        "/\u{2126}",
+    ],
 ];
 
 /// What a corpus's blocks share.
@@ -45,6 +59,8 @@ struct Dense {
     chain: bool,
     /// a hash that no export has
     fresh: u64,
+    /// names that packages are imported by
+    imported: &'static [&'static str],
 }
 
 pub fn dense(seed: u64) -> Vec<u8> {
@@ -62,22 +78,24 @@ pub fn dense_described(seed: u64) -> Described {
     } else {
         1 + random.below(8)
     };
+    let imported = if random.chance(50) {
+        &IMPORTED[0]
+    } else {
+        random.pick(&IMPORTED[1..])
+    };
     let mut dense = Dense {
         random,
         objects,
         line,
         chain,
         fresh: 10,
+        imported,
     };
     let mut corpus = dense.script();
     for _ in 0..dense.random.below(5) {
-        let package = dense.package();
-        let name = if dense.random.chance(5) {
-            "/q_0"
-        } else {
-            *dense.random.pick(&IMPORTED)
-        };
-        corpus.packages.push((id(name), package));
+        let mut package = dense.package();
+        let id = dense.known_by(&mut package);
+        corpus.packages.push((id, package));
     }
     corpus
 }
@@ -85,6 +103,10 @@ pub fn dense_described(seed: u64) -> Described {
 impl Dense {
     fn text(&mut self, from: &[&str]) -> Text {
         let s = *self.random.pick(from);
+        self.wide_or_not(s)
+    }
+
+    fn wide_or_not(&mut self, s: &str) -> Text {
         if self.random.chance(20) {
             Text::wide(s)
         } else {
@@ -182,13 +204,29 @@ impl Dense {
         p.hashes = (0..self.random.below(5)).map(|_| self.hash()).collect();
         p.imports = vec![7; self.random.below(3) as usize];
         for _ in 0..self.random.below(5) {
-            let name = self.text(&IMPORTED);
+            let name = self.text(self.imported);
             p.imported.push((name, u32::from(self.random.chance(15))));
         }
         self.exports(&mut p);
         p.skipped = std::array::from_fn(|_| self.bytes());
         p.tail = self.bytes();
         p
+    }
+
+    /// An id for a package by one of the imported names; often the package has that name too, perhaps spelt otherwise.
+    fn known_by(&mut self, p: &mut Package) -> u64 {
+        let name = *self.random.pick(self.imported);
+        let number = u32::from(self.random.chance(10));
+        if self.random.chance(50) {
+            let own = mixed(&mut self.random, name);
+            let (own, number) = if self.random.chance(50) {
+                (rendered(&own, number), 0)
+            } else {
+                (own, number)
+            };
+            p.name = (p.add_name(self.wide_or_not(&own)), number);
+        }
+        id(&rendered(name, number))
     }
 
     /// A few bytes that nobody reads.

@@ -13,7 +13,7 @@ const LONGEST: usize = 32_767;
 /// A name, and a corpus with so much of it.
 pub type Shape = (&'static str, fn(u32) -> Described);
 
-pub const SHAPES: [Shape; 14] = [
+pub const SHAPES: [Shape; 15] = [
     ("objects in one bucket", one_bucket),
     ("class keys that agree in 88 turns", alike),
     ("chains of 64 classes", |n| chains(n, 1)),
@@ -26,7 +26,12 @@ pub const SHAPES: [Shape; 14] = [
     ("the last of many names, thrice", |n| last_name(n, "", 0)),
     ("long names", |n| long_names(n, &"N".repeat(LONGEST))),
     ("long wide names", |n| long_names(n, &"音".repeat(LONGEST))),
-    ("long imported names", long_imports),
+    ("long imported names", |n| {
+        long_imports(n, &"N".repeat(LONGEST))
+    }),
+    ("long imported names beyond ASCII", |n| {
+        long_imports(n, &"Ω".repeat(LONGEST))
+    }),
     ("two packages of one id", one_id),
     ("tiny packages", tiny),
     ("names beyond ASCII", beyond_ascii),
@@ -221,10 +226,9 @@ fn long_names(n: u32, name: &str) -> Described {
 }
 
 /// One row in a hundred of n, each of a class of one package that has a long name.
-fn long_imports(n: u32) -> Described {
-    let name = "N".repeat(LONGEST);
+fn long_imports(n: u32, name: &str) -> Described {
     let mut package = named(&[ROW]);
-    package.imported.push((Text::of(&name), 0));
+    package.imported.push((Text::of(name), 0));
     package.hashes.push(1);
     let rows = (0..n.div_ceil(100)).map(|i| row(i, import_index(0, 0)));
     package.exports.extend(rows);

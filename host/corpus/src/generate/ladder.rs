@@ -1,7 +1,8 @@
-//! Corpora that go step by step to a limit and past it.
+//! Corpora that go step by step to a limit and past it, or through the whole of lowering.
 use super::names::ODD;
-use crate::name::id;
+use crate::name::{id, pairs, rendered};
 use crate::{Described, Export, NULL, Package, Text, import_index, script_index};
+use std::collections::HashSet;
 
 /// A package of this name, and beside it the names `Own` (1) and `Row_GEN_VARIABLE` (2).
 fn package(name: &str) -> Package {
@@ -109,7 +110,35 @@ pub fn ring(packages: u64) -> Described {
     corpus
 }
 
-/// All of them, the rings of one package and of three.
-pub fn all() -> [Described; 4] {
-    [paths(), chains(), ring(1), ring(3)]
+/// Of the characters that lowering changes one in so many, each in the name of a package with a class, spelt as it is or
+/// lowered, with an instance number or none. The first package has a row for either spelling, one of them wide.
+pub fn lowered(one_in: usize) -> Described {
+    let mut corpus = natives();
+    let mut rows = package("/Rows");
+    rows.hashes.push(1);
+    let mut ids = HashSet::new();
+    for (i, (capital, small)) in pairs().step_by(one_in).enumerate() {
+        let (names, number) = ([capital, small].map(|c| format!("/{c}")), i as u32 % 3);
+        let texts = [Text::of(&names[0]), Text::wide(&names[1])];
+        for text in texts {
+            let k = rows.imported.len() as u32;
+            rows.imported.push((text, number));
+            rows.exports.push(row(k, import_index(k, 0)));
+        }
+        // Two capitals have one small letter: U+212A and K.
+        let id = id(&rendered(&names[0], number));
+        if ids.insert(id) {
+            let mut own = package(&names[i % 2]);
+            own.name.1 = number;
+            own.exports.push(class(script_index(2)));
+            corpus.packages.push((id, own));
+        }
+    }
+    corpus.packages.insert(0, (id("/Rows"), rows));
+    corpus
+}
+
+/// All of them: the rings of one package and of three, and one in so many of the characters that lowering changes.
+pub fn all(one_in: usize) -> [Described; 5] {
+    [paths(), chains(), ring(1), ring(3), lowered(one_in)]
 }

@@ -1,6 +1,6 @@
 //! Corpora from a seed. `generate` makes large ones like a game's build, `dense` small ones in which everything meets,
-//! `ladder` those that go step by step to a limit, `hostile` those that are meant to be slow; `sized` one whose report has
-//! a wanted length.
+//! `spelt` small ones about the spelling of names, `ladder` those that go step by step to a limit, `hostile` those that are
+//! meant to be slow; `sized` one whose report has a wanted length.
 mod dense;
 pub mod hostile;
 pub mod ladder;
@@ -9,10 +9,13 @@ mod objects;
 mod packages;
 mod parts;
 mod sized;
+mod spelling;
+mod spelt;
 
 pub use crate::random::Random;
 pub use dense::{dense, dense_described};
 pub use sized::{sized, sized_edges};
+pub use spelt::spelt;
 
 use crate::corpus;
 use objects::Objects;

@@ -1,5 +1,6 @@
 //! Words and package names.
 use super::Random;
+use super::spelling::ACCENTED;
 
 #[rustfmt::skip]
 const WORDS: [&str; 40] = [
@@ -20,6 +21,9 @@ pub fn words(random: &mut Random, n: u64) -> String {
     (0..n).map(|_| *random.pick(&WORDS)).collect()
 }
 
+/// Of so many packages one has a name beyond ASCII.
+const ACCENTS: u64 = 8;
+
 /// Package i's name without its last part, the number i as an instance number has it: any package can import any
 /// other, written or not.
 pub fn package_base(seed: u64, i: u64) -> String {
@@ -29,7 +33,11 @@ pub fn package_base(seed: u64, i: u64) -> String {
         words(&mut random, 2),
         words(&mut random, 2),
     );
-    format!("/Game/{folder}/{group}/BP_{leaf}")
+    let accent = match i % ACCENTS {
+        5 => ACCENTED[(i / ACCENTS) as usize % ACCENTED.len()],
+        _ => "",
+    };
+    format!("/Game/{folder}/{group}/BP_{leaf}{accent}")
 }
 
 /// Package i's name, rendered.

@@ -58,6 +58,7 @@ impl Plan<'_> {
         }
         maker.components();
         maker.others();
+        maker.accented();
         maker.rest();
         maker.package
     }

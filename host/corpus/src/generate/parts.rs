@@ -2,6 +2,7 @@
 use super::Random;
 use super::names::{ODD, WIDE, class_hash, package_base, package_name, words};
 use super::packages::Plan;
+use super::spelling::{capitals, mistaken, mixed, spelled};
 use crate::{Export, NULL, Package, Text, import_index, script_index};
 
 /// A package in the making.
@@ -18,12 +19,18 @@ impl<'a> Maker<'a> {
     pub fn new(random: &'a mut Random, plan: &'a Plan, number: u64) -> Maker<'a> {
         let mut package = Package::default();
         // The same rendered name, with and without an instance number.
-        if random.chance(10) {
-            package.add_name(Text::of(&package_base(plan.seed, number)));
-            package.name = (0, number as u32 + 1);
+        let base = random.chance(10);
+        let name = if base {
+            package.name.1 = number as u32 + 1;
+            package_base(plan.seed, number)
         } else {
-            package.add_name(Text::of(&package_name(plan.seed, number)));
-        }
+            package_name(plan.seed, number)
+        };
+        package.add_name(if name.is_ascii() {
+            Text::of(&name)
+        } else {
+            spelled(random, &name)
+        });
         let counts = [10, 6, 12].map(|most| random.below(most));
         Maker {
             random,
@@ -63,16 +70,34 @@ impl<'a> Maker<'a> {
 
     /// Imports package i's class, or hash 0 of it.
     fn import(&mut self, i: u64, no_hash: bool) {
-        let seed = self.plan.seed;
-        let name = match self.random.below(20) {
-            0 => (Text::of(&package_base(seed, i)), i as u32 + 1),
-            1 => (Text::wide(&package_name(seed, i)), 0),
-            2 => (Text::of(&package_name(seed, i).to_uppercase()), 0),
-            _ => (Text::of(&package_name(seed, i)), 0),
-        };
+        let name = self.imported_name(i);
         self.package.imported.push(name);
-        let hash = if no_hash { 0 } else { class_hash(seed, i) };
+        let hash = if no_hash {
+            0
+        } else {
+            class_hash(self.plan.seed, i)
+        };
         self.package.hashes.push(hash);
+    }
+
+    /// Package i's name, perhaps spelt otherwise or with its number apart; beyond ASCII sometimes mistaken for another.
+    fn imported_name(&mut self, i: u64) -> (Text, u32) {
+        let name = package_name(self.plan.seed, i);
+        let base = package_base(self.plan.seed, i);
+        let number = i as u32 + 1;
+        match (name.is_ascii(), self.random.below(20)) {
+            (false, 0..7) => match mistaken(&name) {
+                Some(other) => (Text::of(&other), 0),
+                None => (spelled(self.random, &name), 0),
+            },
+            (false, 7..12) => (spelled(self.random, &base), number),
+            (false, _) => (spelled(self.random, &name), 0),
+            (true, 0) => (Text::of(&base), number),
+            (true, 1) => (Text::wide(&name), 0),
+            (true, 2) => (Text::of(&capitals(&name)), 0),
+            (true, 3) => (Text::of(&mixed(self.random, &name)), 0),
+            (true, _) => (Text::of(&name), 0),
+        }
     }
 
     /// A class index of some kind.
@@ -148,6 +173,16 @@ impl<'a> Maker<'a> {
         self.push(name, number, outer, class);
     }
 
+    /// A candidate of each class that is imported by a name beyond ASCII.
+    pub fn accented(&mut self) {
+        for k in 0..self.package.imported.len() {
+            if beyond_ascii(&self.package.imported[k].0) {
+                let name = self.text("_GEN_VARIABLE");
+                self.push(name, 0, 0, import_index(k as u32, k as u32));
+            }
+        }
+    }
+
     /// Other exports, some of them classes, some of those candidates too; outers nested and missing.
     pub fn others(&mut self) {
         for _ in 0..self.counts[2] {
@@ -184,5 +219,12 @@ impl<'a> Maker<'a> {
             vec![0xd1; 4 * self.random.below(20) as usize],
         ];
         self.package.tail = vec![0x7a; self.random.below(64) as usize];
+    }
+}
+
+fn beyond_ascii(text: &Text) -> bool {
+    match text {
+        Text::Latin1(bytes) => !bytes.is_ascii(),
+        Text::Utf16(units) => units.iter().any(|unit| *unit > 0x7f),
     }
 }

@@ -1,4 +1,5 @@
 //! Document 01's table of examples and its mistaken readings, on the oracle and on the model.
+mod accents;
 mod cases;
 mod questions;
 mod references;

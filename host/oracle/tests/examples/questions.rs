@@ -190,9 +190,30 @@ fn the_imported_names() {
     run(&[
         second(3, with(one, 4, &le(end - 1))),
         changed(3, 48, &le(91)),
-        second(23, importing(&["/Q", "/é"]).bytes()),
         second(10, unnamed.bytes()),
     ]);
+}
+
+/// Halves of surrogate pairs that lowering would change are as ill-formed as others; 6 is asked before the name of the
+/// package.
+#[test]
+fn ill_formed_imported_names() {
+    let importing = |units: &[u16]| Package {
+        imported: vec![(Text::of("/É"), 0), (Text::Utf16(units.to_vec()), 1)],
+        name: (1, 0),
+        ..empty_a()
+    };
+    let ill_formed: [&[u16]; 7] = [
+        &[0xd801],
+        &[0xdc00],
+        &[0xd801, 0x0041],
+        &[0xdc00, 0xd801],
+        &[0xd801, 0xd801, 0xdc00],
+        &[0xd801, 0xdc00, 0xdc00],
+        &[0x00c9, 0x0152, 0xd801, 0xdc00, 0xd83a],
+    ];
+    run(&ill_formed.map(|units| second(6, importing(units).bytes())));
+    run(&[second(10, importing(&[0xd801, 0xdc00]).bytes())]);
 }
 
 #[test]

@@ -2,7 +2,7 @@
 //! never answered fails the test.
 use corpus::damage::{cuts, damage_block, faults, sound};
 use corpus::draft::Draft;
-use corpus::generate::{LARGE, Random, dense, dense_described, generate, ladder};
+use corpus::generate::{LARGE, Random, dense, dense_described, generate, ladder, spelt};
 use corpus::rearrange::rearrange;
 
 use crate::asked::Asked;
@@ -18,10 +18,21 @@ fn small(asked: &mut Asked) {
     }
 }
 
+/// Packages that import one another by names beyond ASCII, as they are and rearranged.
+fn accented(asked: &mut Asked) {
+    let mut random = Random(10);
+    for seed in 100_000..102_000 {
+        let corpus = spelt(seed).bytes();
+        let other = rearrange(&corpus, &mut random).corpus;
+        assert!(asked.ask_closely(&corpus), "accepted");
+        assert!(asked.ask_closely(&other), "accepted as before");
+    }
+}
+
 fn larger(asked: &mut Asked) {
     let medium = (100..140).map(|seed| generate(seed, 50_000));
     let large = (100..102).map(|seed| generate(seed, LARGE));
-    let lines = ladder::all().map(|line| line.bytes());
+    let lines = ladder::all(1).map(|line| line.bytes());
     for corpus in medium.chain(large).chain(lines) {
         assert!(asked.ask_closely(&corpus), "accepted");
     }
@@ -35,7 +46,11 @@ fn damaged(asked: &mut Asked) {
         .collect();
     for i in 0..30_000 {
         asked.ask_closely(&damage_block(&mut random, &bases[i % bases.len()]));
-        let small = dense(200_000 + i as u64);
+        let seed = 200_000 + i as u64;
+        let small = match i % 4 {
+            0 => spelt(seed).bytes(),
+            _ => dense(seed),
+        };
         asked.ask_closely(&damage_block(&mut random, &small));
     }
 }
@@ -63,6 +78,7 @@ fn cut_short(asked: &mut Asked, draft: &Draft) {
 fn call_oracle_and_model_agree() {
     let mut all = Asked::new(1);
     small(&mut all);
+    accented(&mut all);
     larger(&mut all);
     damaged(&mut all);
     (20..30).for_each(|seed| faulty(&mut all, &sound(seed)));

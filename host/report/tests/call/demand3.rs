@@ -1,6 +1,6 @@
 //! Demand 3 by running the call: reordering and rewriting change no section of a report.
 use corpus::census::census;
-use corpus::generate::{LARGE, Random, dense, generate};
+use corpus::generate::{LARGE, Random, dense, generate, ladder, spelt};
 use corpus::passed::KINDS;
 use corpus::rearrange::rearrange;
 use corpus::rows::sections;
@@ -41,6 +41,22 @@ impl Held {
             *sum += n;
         }
     }
+}
+
+/// Names beyond ASCII, wide and of Latin-1, that are imported by other spellings.
+#[test]
+fn sections_with_accents_stay() {
+    let mut random = Random(9);
+    let mut asked = Asked::new(7);
+    let mut held = Held::default();
+    let small = (300_000..302_000).map(|seed| spelt(seed).bytes());
+    let whole = ladder::lowered(1).bytes();
+    for corpus in small.chain([whole]) {
+        held.hold(&mut asked, &corpus, &mut random);
+    }
+    let (corpora, reordered) = (held.corpora, held.reordered);
+    println!("{corpora} corpora with accents rearranged, {reordered} of them reordered");
+    assert!(corpora == 2_001 && reordered > 1_000);
 }
 
 #[test]

@@ -1,103 +1,68 @@
--- `id::put_units`: after i turns the buffer's front has the bytes of the first i units, 2 * i of them. Assumes nothing.
-use mathlib.Core.Path.{_≡_, sym, _∙_}
+-- `id::put_units`: the units with A to Z lowered are the name's where they are ASCII, and the name's are written over them where not. Assumes
+-- nothing.
 use mathlib.Core.List.{List}
-use Prim.Native.Nat.{ℕ, _*_, _-_, _≤_}
+use Prim.Native.Nat.{ℕ, _+_, _^_, _<_}
 use native.Mathlib.Omega.{arith}
 use borrow.Author.Needs.{needs}
-use lib.ListN.{length, take, drop, getD, length-set, length-drop}
-use lib.Seq.{getD-drop}
+use lib.ListN.{take, drop}
 use Rattle.text.specs.NumberLaws.{Bytes}
 use Rattle.text.specs.Output.{Wrote}
-use Rattle.text.specs.OutputLaws.{wrote-none}
 use Rattle.text.specs.Utf16.{unitBytes}
 use Rattle.text.specs.Name.{base}
 use Rattle.text.specs.Units.{nameUnits}
 use Rattle.text.specs.UnitsLaws.{unitsOf-bound}
-use Rattle.text.proofs.NameUnits.{name-length, wrote-unit}
+use Rattle.text.proofs.NameUnits.{name-length}
+use Rattle.text.proofs.AsciiUnits.{ascii-count, ascii-wrote, ascii-then}
 use Rattle.text.proofs.id.put_units.Statement.{statement}
 use Rattle.text.proofs.id.put_units.Tie as tie
 
-abbrev Inv-loop : tie.InvT-loop
-Inv-loop out₀ part wide suffix from n at₀ i₀ out at i =
-    (i ≤ n) × (at ≡ 2 * i) × Wrote out₀ (unitBytes (take i (drop from (nameUnits (base wide part) suffix)))) out at × (length out ≡ length out₀)
+-- the part is bytes, and its units with those of the suffix are fewer than 2 ^ 64
+module _ (k : tie.After-shared-slice-known) where
+  bytes : Bytes (k .before .before .args .part .now)
+  bytes j = k .shared-slice-known .given j .fits
 
-abbrev μ-loop : tie.MeasureT-loop
-μ-loop out₀ part wide suffix from n at₀ i₀ out at i = n - i
+  few : k .before .before .args .from + k .before .before .args .n < 2 ^ 64
+  few =
+      let a = k .before .before .args in
+      omega (arith, name-length (a .wide) (a .part .now) (a .suffix .now) bytes (k .before .before .pre .0), unitsOf-bound (a .wide) (a .part .now))
 
-loop-holds : tie.Need-loop-holds Inv-loop μ-loop
-loop-holds c = (search needs, search needs, wrote-none _, search needs)
-
-add-name-unit : tie.Need-add-name-unit Inv-loop μ-loop
-add-name-unit c =
+-- the name's units, written over those with A to Z lowered
+again : (c : tie.After-put-ascii) {o : List ℕ} {r : ℕ}
+    → let a = c .before .before .before .before .before .args in
+    Wrote (c .put-ascii .last .0) (unitBytes (take (a .n) (drop (a .from) (nameUnits (base (a .wide) (a .part .now)) (a .suffix .now))))) o r
+    → Wrote (a .out .now) (unitBytes (take (a .n) (drop (a .from) (nameUnits (base (a .wide) (a .part .now)) (a .suffix .now))))) o r
+again c w =
     let k = c .before .before .before in
     let a = k .before .before .args in
-    let b : Bytes (a .part .now) = λ j. k .shared-slice-known .given j .fits in
-    omega (arith, name-length (a .wide) (a .part .now) (a .suffix .now) b (k .before .before .pre .0), unitsOf-bound (a .wide) (a .part .now))
+    ascii-then (a .wide) (a .part .now) (a .suffix .now) (bytes k) (k .before .before .pre .0) (a .from) (a .n) (c .put-ascii .ensures .1) w
 
-name-unit-requires : tie.Need-name-unit-requires Inv-loop μ-loop
-name-unit-requires c κs = (search needs, omega arith)
+put-ascii-requires : tie.Need-put-ascii-requires
+put-ascii-requires c κs =
+    let k = c .before .before in
+    let a = k .before .before .args in
+    (rw (ascii-count (a .wide) (a .part .now) (a .suffix .now) (bytes k) (k .before .before .pre .0)) (search needs), few k, search needs)
 
-cast-out : tie.Need-cast-out Inv-loop μ-loop
-cast-out c = omega arith
+mul-result : tie.Need-mul-result
+mul-result c = search needs
 
-slice-write-out : tie.Need-slice-write-out Inv-loop μ-loop
-slice-write-out c = omega arith
+same-length : tie.Need-same-length
+same-length c = search needs
 
-cast-out-2 : tie.Need-cast-out-2 Inv-loop μ-loop
-cast-out-2 c = omega arith
-
-add-out : tie.Need-add-out Inv-loop μ-loop
-add-out c = omega arith
-
-slice-write-out-2 : tie.Need-slice-write-out-2 Inv-loop μ-loop
-slice-write-out-2 c = simp length-set (omega arith)
-
-add-at : tie.Need-add-at Inv-loop μ-loop
-add-at c = omega arith
-
-add-i : tie.Need-add-i Inv-loop μ-loop
-add-i c = omega arith
-
-loop-less : tie.Need-loop-less Inv-loop μ-loop
-loop-less c = omega arith
-
-loop-again : tie.Need-loop-again Inv-loop μ-loop
-loop-again c =
-    let a = c .before .before .before .before .before .before .args in
-    let us : List ℕ = nameUnits (base (a .wide) (a .part .now)) (a .suffix .now) in
-    let i : ℕ = c .before .before .loop .i in
-    let e : c .name-unit .result ≡ getD (drop (a .from) us) i 0 = c .name-unit .ensures .0 ∙ sym (getD-drop (a .from) us i 0) in (
-      omega arith,
-      omega arith,
-      rw e (wrote-unit (drop (a .from) us) i (c .before .before .loop .inv .2) (simp length-drop (omega arith)) (omega arith)),
-      simp length-set (omega arith),
-    )
-
-same-length : tie.Need-same-length Inv-loop μ-loop
-same-length c = omega arith
-
-returns : tie.Need-returns Inv-loop μ-loop
+returns : tie.Need-returns
 returns c =
-    let e : c .before .before .before .before .before .args .n ≡ c .before .loop .i = omega arith in
-    rw e (c .before .loop .inv .2)
+    let k = c .before .before .before .before .before .before in
+    let a = k .before .before .args in
+    let p = c .before .before .before .put-ascii .ensures in
+    ascii-wrote (a .wide) (a .part .now) (a .suffix .now) (bytes k) (k .before .before .pre .0) (a .from) (a .n) (p .0) (c .if1 .taken) (p .1)
+
+put-beyond-requires : tie.Need-put-beyond-requires
+put-beyond-requires c κs = search needs
+
+same-length-2 : tie.Need-same-length-2
+same-length-2 c = search needs
+
+returns-2 : tie.Need-returns-2
+returns-2 c = again (c .before .before .before .before .before .before .before) (c .before .before .put-beyond .ensures)
 
 pub put-units-spec : {M : Type 1} → statement M
-put-units-spec =
-    tie.close
-    (tie.spec
-    Inv-loop
-    μ-loop
-    loop-holds
-    add-name-unit
-    name-unit-requires
-    cast-out
-    slice-write-out
-    cast-out-2
-    add-out
-    slice-write-out-2
-    add-at
-    add-i
-    loop-less
-    loop-again
-    same-length
-    returns)
+put-units-spec = tie.close (tie.spec put-ascii-requires mul-result same-length returns put-beyond-requires same-length-2 returns-2)

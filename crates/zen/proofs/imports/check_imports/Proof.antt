@@ -1,6 +1,5 @@
 -- `check_imports` meets its contract: each answer is the reading's, question by question.
 use mathlib.Core.Path.{_≡_, sym, _∙_}
-use mathlib.Core.Bool.{true, false}
 use mathlib.Core.List.{List}
 use Prim.Native.Nat.{ℕ, _+_, _*_, _-_, _≤_, _<_}
 use native.Mathlib.Omega.{arith}
@@ -8,10 +7,9 @@ use borrow.Author.Needs.{needs}
 use borrow.Author.Tests.{lt-ltb, le-ltb, eq-eqb, ne-eqb}
 use lib.ListN.{length}
 use Rattle.text.specs.Reading.{walk}
-use Rattle.zen.specs.Zen.{imports, asciis}
+use Rattle.zen.specs.Zen.{imports}
 use Rattle.zen.specs.Answers.{imported}
-use Rattle.zen.specs.Places.{textsAt}
-use Rattle.zen.specs.FoundBatch.{FoundAt, found-at, found-held}
+use Rattle.zen.specs.FoundBatch.{FoundAt, found-at}
 use Rattle.zen.specs.ImportLaws.{imports-refused, imports-short, imports-is}
 use Rattle.zen.specs.declared.names.Names.{Names}
 use Rattle.zen.specs.declared.names.NameBatch.the-variants.{Found, Refused}
@@ -32,28 +30,9 @@ module _ (s : List ℕ) (at index count : ℕ) (n : Names) (f : FoundAt s at n) 
     unfolding imported
     out i = rw (imports-is s at index count n f (omega (arith, f .inside)), eq-eqb (length s - (n .«end» + 4 * n .count)) 0 (omega arith), le-ltb index count i)
 
-    module _ (i : index < count) where
-      found : asciis (textsAt s (n .headers) (n .strings) (n .count)) ≡ true → Found n ≡ imported (walk (imports index count) s at)
-      unfolding imported
-      found q =
-          rw (
-            imports-is s at index count n f (omega (arith, f .inside)),
-            eq-eqb (length s - (n .«end» + 4 * n .count)) 0 (omega arith),
-            lt-ltb index count i,
-            f .same,
-            q,
-          )
-
-      foreign : asciis (textsAt s (n .headers) (n .strings) (n .count)) ≡ false → Refused 23 ≡ imported (walk (imports index count) s at)
-      unfolding imported
-      foreign q =
-          rw (
-            imports-is s at index count n f (omega (arith, f .inside)),
-            eq-eqb (length s - (n .«end» + 4 * n .count)) 0 (omega arith),
-            lt-ltb index count i,
-            f .same,
-            q,
-          )
+    found : index < count → Found n ≡ imported (walk (imports index count) s at)
+    unfolding imported
+    found i = rw (imports-is s at index count n f (omega (arith, f .inside)), eq-eqb (length s - (n .«end» + 4 * n .count)) 0 (omega arith), lt-ltb index count i)
 
 -- the batch that was found, where the code goes on with it
 abbrev entry : tie.After-n → tie.Start
@@ -97,30 +76,17 @@ returns-3 c =
     out (entry d .args .s .now) (entry d .args .at) (entry d .args .index) (entry d .args .count) _ (batch-at d)
     (c .before .before .before .if1 .left) (c .before .if2 .left) (c .if3 .taken)
 
-all-ascii-requires : tie.Need-all-ascii-requires
-all-ascii-requires c κs =
-    let d = c .before .before .before .before .before .before .before in
-    found-held (entry d .args .s .now) (entry d .args .at) _ (λ i. d .before .before .before .shared-slice-known .given i .fits) (batch-at d)
-
 returns-4 : tie.Need-returns-4
-returns-4 c =
-    let d = c .before .before .before .before .before .before .before .before .before in
-    found (entry d .args .s .now) (entry d .args .at) (entry d .args .index) (entry d .args .count) _ (batch-at d)
-    (c .before .before .before .before .before .if1 .left) (c .before .before .before .if2 .left) (c .before .before .if3 .left)
-    (sym (c .before .all-ascii .ensures) ∙ c .if4 .taken)
-
-returns-5 : tie.Need-returns-5
 unfolding imported
-returns-5 c =
+returns-4 c =
     let a = c .before .before .before .before .before .args in
     rw (imports-refused (a .s .now) (a .at) (a .index) (a .count) (sym (c .before .before .before .read-batch .ensures) ∙ c .before .r .given .1))
 
-returns-6 : tie.Need-returns-6
-returns-6 c =
-    let d = c .before .before .before .before .before .before .before .before .before in
-    foreign (entry d .args .s .now) (entry d .args .at) (entry d .args .index) (entry d .args .count) _ (batch-at d)
-    (c .before .before .before .before .before .if1 .left) (c .before .before .before .if2 .left) (c .before .before .if3 .left)
-    (sym (c .before .all-ascii .ensures) ∙ c .if4 .left)
+returns-5 : tie.Need-returns-5
+returns-5 c =
+    let d = c .before .before .before .before .before .before .before in
+    found (entry d .args .s .now) (entry d .args .at) (entry d .args .index) (entry d .args .count) _ (batch-at d)
+    (c .before .before .before .if1 .left) (c .before .if2 .left) (c .if3 .left)
 
 pub check-imports-spec : {M : Type 1} → statement M
 check-imports-spec =
@@ -135,7 +101,5 @@ check-imports-spec =
     mul-if2
     returns-2
     returns-3
-    all-ascii-requires
     returns-4
-    returns-5
-    returns-6)
+    returns-5)

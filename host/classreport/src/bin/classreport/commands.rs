@@ -166,7 +166,7 @@ Examples:
         flags: &[],
         about: "what a refusal means and what usually causes it",
         help: "\
-NUMBER is a question, 1 to 26, or the number that the call returned. Without it all questions are listed.
+NUMBER is a question, 1 to 22 and 24 to 26, or the number that the call returned. Without it all questions are listed.
 
 Examples:
   classreport explain 17

@@ -15,7 +15,7 @@ pub fn run(words: &Words) -> Result<u8, Failure> {
             let word = word.to_string_lossy();
             let (question, place) = asked(&word).ok_or_else(|| {
                 Failure::usage(format!(
-                    "'{word}' is neither a question (1 to 26) nor a number that the call returned"
+                    "'{word}' is neither a question (1 to 22, 24 to 26) nor a number that the call returned"
                 ))
             })?;
             told(question, place, look)

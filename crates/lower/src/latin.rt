@@ -1,0 +1,59 @@
+// Lowering below U+0180, with no table at hand: ASCII, Latin-1, Latin Extended-A.
+ghost use mathlib.Core.Path.{_≡_};
+ghost use Prim.Native.Nat.{_≤_, _<_};
+ghost use Rattle.lower.specs.Lower.{lower};
+use super::ascii::lower_ascii;
+
+// The letters of Latin-1: C0 to DE are capitals, but for the multiplication sign D7.
+fn lower_letter(c: u32) -> u32
+    requires { ⌜ (0xC0 ≤ c) × (c < 0x100) ⌝ }
+    ensures { λ r. ⌜ r ≡ lower c ⌝ }
+{
+    if 0xDE < c {
+        return c;
+    }
+    if c == 0xD7 {
+        return c;
+    }
+    c + 32
+}
+
+// Latin Extended-A: a capital comes before its small letter, but for the dotted I, which stays, and Y with diaeresis.
+fn lower_extended(c: u32) -> u32
+    requires { ⌜ (0x100 ≤ c) × (c < 0x180) ⌝ }
+    ensures { λ r. ⌜ r ≡ lower c ⌝ }
+{
+    if c == 0x130 {
+        return c;
+    }
+    if c < 0x138 {
+        return c + (c + 1) % 2;
+    }
+    if c < 0x149 {
+        return c + c % 2;
+    }
+    if c < 0x178 {
+        return c + (c + 1) % 2;
+    }
+    if c == 0x178 {
+        return 0xFF;
+    }
+    if c == 0x17F {
+        return c;
+    }
+    c + c % 2
+}
+
+// The lower-case form of a character below U+0180.
+pub fn lower_latin(c: u32) -> u32
+    requires { ⌜ c < 0x180 ⌝ }
+    ensures { λ r. ⌜ r ≡ lower c ⌝ }
+{
+    if c < 0xC0 {
+        return lower_ascii(c);
+    }
+    if c < 0x100 {
+        return lower_letter(c);
+    }
+    lower_extended(c)
+}
