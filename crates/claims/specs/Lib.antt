@@ -4,3 +4,5 @@ pub mod Claims
 pub mod Examples
 -- Two limits on one corpus: what is known stays known.
 pub mod Limits
+-- The build's own hashes.
+pub mod Verify

@@ -48,7 +48,7 @@ module _ {A B : Type 0} where
   bind-accepted (accepted a) k b h = (a, refl, h)
 
 module _ {B : Type 0} where
-  need-accepted : (t : Bool) (q j : ℕ) (n : Answer B) (b : B) → (need t q j >> n) ≡ accepted b → (t ≡ true) × (n ≡ accepted b)
+  pub need-accepted : (t : Bool) (q j : ℕ) (n : Answer B) (b : B) → (need t q j >> n) ≡ accepted b → (t ≡ true) × (n ≡ accepted b)
   need-accepted true q j n b h = (refl, h)
   need-accepted false q j n b h = never (cc)
 
@@ -122,20 +122,33 @@ pub record Accepted (m : Limits) (c : Corpus) (work room : ℕ) (report : List �
   pub fits : leb (length report) longestOutput && leb (length report) room ≡ true
   pub is : report ≡ reportOf m (opens .objects) (packagesIn c)
 
+-- the bytes of a corpus that is opened are framed, and their blocks pass
+module _ (m : Limits) (s : List ℕ) where
+  pub from-corpus : (d : Opened) → opened m s ≡ accepted d
+      → (c : Corpus) × (framed s ≡ gives c) × (a : Opens m c) × (d ≡ holding m (a .objects) (packagesIn c))
+  unfolding opened
+  from-corpus d h =
+      let (c, hc, h₁) = bind-accepted (inBlock 0 (framed s)) _ d h in
+      let (a, e) = from-opened m c d h₁ in
+      (c, in-accepted 0 (framed s) c hc, a, e)
+
+  pub to-corpus : (c : Corpus) → framed s ≡ gives c → (a : Opens m c) → opened m s ≡ accepted (holding m (a .objects) (packagesIn c))
+  unfolding opened
+  to-corpus c f a = rw (f, to-opened m c a)
+
 module _ (m : Limits) (s : List ℕ) (work room : ℕ) where
   pub from-answer : (report : List ℕ) → answer m s work room ≡ accepted report → (c : Corpus) × (framed s ≡ gives c) × Accepted m c work room report
-  unfolding answer opened weighed holding
+  unfolding answer weighed holding
   from-answer report h =
       let (d, hd, h₁) = bind-accepted (opened m s) _ report h in
-      let (c, hc, h₂) = bind-accepted (inBlock 0 (framed s)) _ d hd in
-      let (a, e) = from-opened m c d h₂ in
+      let (c, f, a, e) = from-corpus m s d hd in
       let h₃ = rw e at h₁ in
       let (w, h₄) = need-accepted (leb (workBytes (holding m (a .objects) (packagesIn c))) work) 25 0 _ report h₃ in
       let r = reportOf m (a .objects) (packagesIn c) in
-      let (f, h₅) = need-accepted (leb (length r) longestOutput && leb (length r) room) 26 0 _ report h₄ in
+      let (t, h₅) = need-accepted (leb (length r) longestOutput && leb (length r) room) 26 0 _ report h₄ in
       let is : report ≡ r = cc in
-      (c, in-accepted 0 (framed s) c hc, record { opens = a; works = w; fits = rw is f; is = is })
+      (c, f, record { opens = a; works = w; fits = rw is t; is = is })
 
   pub to-answer : (c : Corpus) (report : List ℕ) → framed s ≡ gives c → Accepted m c work room report → answer m s work room ≡ accepted report
-  unfolding answer opened weighed holding
-  to-answer c report f a = rw (f, to-opened m c (a .opens), a .works, ← a .is, a .fits)
+  unfolding answer weighed holding
+  to-answer c report f a = rw (to-corpus m s c f (a .opens), a .works, ← a .is, a .fits)

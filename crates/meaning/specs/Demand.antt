@@ -6,20 +6,21 @@ use Prim.Native.Nat.{ℕ, _+_, _^_, _<_}
 use lib.ListN.{length}
 use Rattle.text.specs.Find.{flat}
 use Rattle.text.specs.Output.{over}
-use Rattle.text.specs.Perm.{All, perm-all, perm-flat, perm-length, each-map, flat-map}
+use Rattle.text.specs.Perm.{perm-flat, perm-length, each-map, flat-map}
 use Rattle.text.specs.Reading.{gives}
-use Rattle.meaning.specs.Frame.{Part, Corpus, framed}
+use Rattle.meaning.specs.Frame.{framed}
 use Rattle.meaning.specs.Resolve.{Limits}
 use Rattle.meaning.specs.Call.{accepted, answer, numberOf, bufferAfter, outcome}
-use Rattle.meaning.specs.Bytes.{partBytes, corpusRest, corpusBytes, IdFits}
+use Rattle.meaning.specs.Bytes.{partBytes, corpusRest, corpusBytes}
 use Rattle.meaning.specs.BytesLaws.{length-rest, frame-bytes, frame-fits}
 use Rattle.meaning.specs.Rearranged.{Rearranged}
 use Rattle.meaning.specs.Accepted.{Accepted, from-answer, to-answer}
 use Rattle.meaning.specs.Sections.{sectionIn, frontOf, length-front, report-is}
 use Rattle.meaning.specs.Rows.{ReportAs, native-in-report}
-use Rattle.meaning.specs.Rewriting.{SamePart, Same, listed-script, listed-parts, section-same}
+use Rattle.meaning.specs.Rewriting.{SamePart, section-same}
 use Rattle.meaning.specs.RearrangedLaws.{rewritten-length, rewritten-ids, rewritten-same}
-use Rattle.meaning.specs.Reordering.{inOrder, new-length, reordered-accepted, reordered-section}
+use Rattle.meaning.specs.RearrangedOpens.{turned, turned-same, turned-ids}
+use Rattle.meaning.specs.Reordering.{new-length, reordered-accepted, reordered-section}
 
 -- what holds of the corpus s, accepted with the report `old` and buffers of these lengths, and of the new one, t
 pub record Unchanged (m : Limits) (s t : List ℕ) (w : Rearranged s t) (work room : ℕ) (old : List ℕ) : Type 0 where
@@ -55,10 +56,6 @@ module _ (m : Limits) (s : List ℕ) (work room : ℕ) (report : List ℕ) (h : 
   accepted-buffer w b p q = rw (p, q, h)
 
 module _ (m : Limits) (s t : List ℕ) (work room : ℕ) (old : List ℕ) (h : answer m s work room ≡ accepted old) (w : Rearranged s t) where
-  -- the old corpus with its packages in the new order
-  abbrev turned : Corpus
-  turned = inOrder (w .old) (w .how .order)
-
   was-fits : length (corpusRest (w .old)) < 2 ^ 32
   was-fits = let (c, f, a) = from-answer m s work room old h in frame-fits (w .old) {d = c} (ap framed (sym (w .was)) ∙ f)
 
@@ -69,17 +66,8 @@ module _ (m : Limits) (s t : List ℕ) (work room : ℕ) (old : List ℕ) (h : a
       let e : c ≡ w .old = let g : gives c ≡ gives (w .old) = sym f ∙ framed-is in cc in
       rw e at a
 
-  same : Same turned (w .new)
-  same = record {
-    scripts = listed-script (w .old .script) (w .new .script) (w .how .script-rewritten);
-    parts = listed-parts (w .how .order) (w .new .parts) (w .how .parts-rewritten);
-  }
-
-  turned-ids : All IdFits (w .how .order)
-  turned-ids = perm-all IdFits (w .how .moved) (w .ids)
-
-  turned-fits : length (corpusRest turned) < 2 ^ 32
-  turned-fits = rw (length-rest turned, ← perm-length (perm-flat partBytes (w .how .moved)), ← length-rest (w .old)) was-fits
+  turned-fits : length (corpusRest (turned w)) < 2 ^ 32
+  turned-fits = rw (length-rest (turned w), ← perm-length (perm-flat partBytes (w .how .moved)), ← length-rest (w .old)) was-fits
 
   abbrev front : List ℕ
   front = frontOf (length (flat (sectionIn m (w .old)) (w .old .parts))) (length (w .old .parts))
@@ -87,27 +75,27 @@ module _ (m : Limits) (s t : List ℕ) (work room : ℕ) (old : List ℕ) (h : a
   abbrev turned-report : List ℕ
   turned-report = front ++ flat (sectionIn m (w .old)) (w .how .order)
 
-  turned-accepted : Accepted m turned work room turned-report
+  turned-accepted : Accepted m (turned w) work room turned-report
   turned-accepted = reordered-accepted m (w .old) work room old was-accepted (w .how .order) (w .how .moved)
 
   accepted-too : answer m t work room ≡ accepted turned-report
   accepted-too =
-      rw (w .is, rewritten-same turned (w .new) same turned-ids m work room)
-      (to-answer m (corpusBytes turned) work room turned turned-report (frame-bytes turned turned-ids turned-fits) turned-accepted)
+      rw (w .is, rewritten-same (turned w) (w .new) (turned-same w) (turned-ids w) m work room)
+      (to-answer m (corpusBytes (turned w)) work room (turned w) turned-report (frame-bytes (turned w) (turned-ids w) turned-fits) turned-accepted)
 
   new-accepted : Accepted m (w .new) work room turned-report
   new-accepted =
       let (c, f, a) = from-answer m t work room turned-report accepted-too in
-      let fits : length (corpusRest (w .new)) < 2 ^ 32 = rw (rewritten-length turned (w .new) same) turned-fits in
-      let framed-is : framed t ≡ gives (w .new) = rw (w .is) (frame-bytes (w .new) (rewritten-ids turned (w .new) same turned-ids) fits) in
+      let fits : length (corpusRest (w .new)) < 2 ^ 32 = rw (rewritten-length (turned w) (w .new) (turned-same w)) turned-fits in
+      let framed-is : framed t ≡ gives (w .new) = rw (w .is) (frame-bytes (w .new) (rewritten-ids (turned w) (w .new) (turned-same w) (turned-ids w)) fits) in
       let e : c ≡ w .new = let g : gives c ≡ gives (w .new) = sym f ∙ framed-is in cc in
       rw e at a
 
   same-sections : map (sectionIn m (w .new)) (w .new .parts) ≡ map (sectionIn m (w .old)) (w .how .order)
   same-sections =
       each-map SamePart (sectionIn m (w .old)) (sectionIn m (w .new))
-      (λ p q b. section-same m turned (w .new) same p q b ∙ reordered-section m (w .old) (w .how .order) (w .how .moved) (was-accepted .opens) p)
-      (w .how .order) (w .new .parts) (same .parts)
+      (λ p q b. section-same m (turned w) (w .new) (turned-same w) p q b ∙ reordered-section m (w .old) (w .how .order) (w .how .moved) (was-accepted .opens) p)
+      (w .how .order) (w .new .parts) (turned-same w .parts)
 
   -- THE THEOREM
   pub demand-3 : Unchanged m s t w work room old

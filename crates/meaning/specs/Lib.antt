@@ -9,6 +9,8 @@ pub mod Scan
 pub mod Resolve
 pub mod Report
 pub mod Call
+-- document 02's calls: the build's own hashes
+pub mod Verify
 -- a corpus from the writing side, and demand 3's relation of two corpora
 pub mod Bytes
 pub mod Rearranged
@@ -25,6 +27,7 @@ pub mod CallExamples
 pub mod RowExamples
 pub mod LimitExamples
 pub mod RoomExamples
+pub mod VerifyExamples
 -- the own chain, the native class, rows in the report's bytes
 pub mod OwnChain
 pub mod Native
@@ -41,6 +44,13 @@ pub mod Demand
 pub mod Rearrange
 -- two limits on one corpus: what is known stays known
 pub mod Monotone
+-- the build's own hashes: counts and output
+pub mod VerifyLaws
+pub mod PathUnits
+pub mod VerifyObjects
+pub mod VerifyFits
+pub mod VerifyRefusals
+pub mod VerifyRearranged
 -- theorems that shut out wrong readings
 pub mod ClassTest
 pub mod Lengths
@@ -48,6 +58,7 @@ pub mod Bounds
 pub mod Sanity
 pub mod Shut
 -- ==== Laws and lemmas
+pub mod Answered
 pub mod KeyLaws
 pub mod Table
 pub mod Repeats
@@ -58,5 +69,6 @@ pub mod Sections
 pub mod Rewriting
 pub mod Reordering
 pub mod RearrangedLaws
+pub mod RearrangedOpens
 pub mod LimitsTable
 pub mod LimitsChain

@@ -59,7 +59,7 @@ module _ (m : Limits) (s : List ℕ) (work room : ℕ) where
 -- ---- the binds of a refused answer
 
 module _ {A B : Type 0} where
-  bind-fails : {P : Type 0} (n : Answer A) (k : A → Answer B) {q j : ℕ} → (n >>= k) ≡ refusedIn q j
+  pub bind-fails : {P : Type 0} (n : Answer A) (k : A → Answer B) {q j : ℕ} → (n >>= k) ≡ refusedIn q j
       → (n ≡ refusedIn q j → P) → ((a : A) → n ≡ accepted a → k a ≡ refusedIn q j → P) → P
   bind-fails (refusedIn r i) k {q} {j} e f g =
       let h : r ≡ q = cc in
@@ -71,7 +71,7 @@ in-fails : {A : Type 0} (i : ℕ) (o : Out A) {q j : ℕ} → inBlock i o ≡ re
 in-fails i (refused r) e = (cc, cc)
 in-fails i (gives a) e = never (cc)
 
-need-fails : (t : Bool) (q j : ℕ) {r i : ℕ} → need t q j ≡ refusedIn r i → (t ≡ false) × (r ≡ q) × (i ≡ j)
+pub need-fails : (t : Bool) (q j : ℕ) {r i : ℕ} → need t q j ≡ refusedIn r i → (t ≡ false) × (r ≡ q) × (i ≡ j)
 need-fails true q j e = never (cc)
 need-fails false q j e = (refl, cc, cc)
 

@@ -5,63 +5,59 @@ use mathlib.Core.Bool.{false}
 use mathlib.Core.List.{List}
 use Prim.Native.Nat.{ℕ}
 use lib.ListN.{length, take, drop}
-use Rattle.text.specs.Answer.{refusal, isRefusal, refusal-is}
-use Rattle.text.specs.Never.{never}
-use Rattle.text.specs.Output.{over}
-use Rattle.text.specs.OutputLaws.{take-over, drop-over, wrote-length}
+use Rattle.text.specs.Answer.{refusal, isRefusal}
 use Rattle.meaning.specs.Resolve.{Limits}
-use Rattle.meaning.specs.Call.{Answer, refusedIn, accepted, answer, numberOf, bufferAfter, outcome}
+use Rattle.meaning.specs.Call.{Answer, refusedIn, accepted, answer, bufferAfter, outcome}
+use Rattle.meaning.specs.Answered as Answered
 use Rattle.meaning.specs.Fits.{report-short}
 
 module _ (m : Limits) (corpus work buffer : List ℕ) where
+  abbrev given : Answer (List ℕ)
+  given = answer m corpus (length work) (length buffer)
+
   -- accepted: the report's length, its bytes in front, and behind them what stood there
   module _ (report : List ℕ) (h : answer m corpus (length work) (length buffer) ≡ accepted report) where
     pub accepted-number : outcome m corpus work buffer .number ≡ length report
-    unfolding outcome numberOf
-    accepted-number = rw h
-
-    accepted-over : outcome m corpus work buffer .report ≡ over buffer report
-    unfolding outcome bufferAfter
-    accepted-over = rw h
+    unfolding outcome
+    accepted-number = Answered.accepted-number given report h
 
     pub accepted-front : take (length report) (outcome m corpus work buffer .report) ≡ report
-    accepted-front = rw accepted-over (take-over buffer report (length report) refl)
+    unfolding outcome
+    accepted-front = Answered.accepted-front given report h buffer
 
     pub accepted-behind : drop (length report) (outcome m corpus work buffer .report) ≡ drop (length report) buffer
-    accepted-behind = rw accepted-over (drop-over buffer report (length report) refl)
+    unfolding outcome
+    accepted-behind = Answered.accepted-behind given report h buffer
 
     -- so the report is the buffer's first bytes, as many as the number says
     pub accepted-report : take (outcome m corpus work buffer .number) (outcome m corpus work buffer .report) ≡ report
-    accepted-report = rw accepted-number accepted-front
+    unfolding outcome
+    accepted-report = Answered.accepted-output given report h buffer
 
   -- refused: question and block, and the buffer as it was
   module _ (q j : ℕ) (h : answer m corpus (length work) (length buffer) ≡ refusedIn q j) where
     pub refused-number : outcome m corpus work buffer .number ≡ refusal q j
-    unfolding outcome numberOf
-    refused-number = rw h
+    unfolding outcome
+    refused-number = Answered.refused-number given q j h
 
     pub refused-buffer : outcome m corpus work buffer .report ≡ buffer
-    unfolding outcome bufferAfter
-    refused-buffer = rw h
+    unfolding outcome
+    refused-buffer = Answered.refused-buffer given q j h buffer
 
   -- a number without bit 63 is an accepted corpus's
   pub accepted-by : isRefusal (outcome m corpus work buffer .number) ≡ false
       → (report : List ℕ) × (answer m corpus (length work) (length buffer) ≡ accepted report)
-  accepted-by h = go (answer m corpus (length work) (length buffer)) refl
-    where
-      go : (a : Answer (List ℕ)) → answer m corpus (length work) (length buffer) ≡ a
-          → (report : List ℕ) × (answer m corpus (length work) (length buffer) ≡ accepted report)
-      go (refusedIn q j) e = let r : isRefusal (refusal q j) ≡ false = rw (refused-number q j e) at h in never (cc (refusal-is q j))
-      go (accepted report) e = (report, e)
+  unfolding outcome
+  accepted-by h = Answered.accepted-by given h
 
   -- the report buffer keeps its length
   pub buffer-length : length (outcome m corpus work buffer .report) ≡ length buffer
-  buffer-length = go (answer m corpus (length work) (length buffer)) refl
+  unfolding outcome
+  buffer-length = go given refl
     where
-      go : (a : Answer (List ℕ)) → answer m corpus (length work) (length buffer) ≡ a → length (outcome m corpus work buffer .report) ≡ length buffer
-      go (refusedIn q j) e = ap length (refused-buffer q j e)
-      go (accepted report) e =
-          wrote-length (record { size = refl; fits = report-short m corpus (length work) (length buffer) report e .1; is = accepted-over report e })
+      go : (a : Answer (List ℕ)) → given ≡ a → length (bufferAfter given buffer) ≡ length buffer
+      go (refusedIn q j) e = ap length (Answered.refused-buffer given q j e buffer)
+      go (accepted report) e = Answered.accepted-length given report e buffer (report-short m corpus (length work) (length buffer) report e .1)
 
 -- of the work buffer only the length counts
 pub work-whatever : (m : Limits) (corpus w₁ w₂ buffer : List ℕ) → length w₁ ≡ length w₂ → outcome m corpus w₁ buffer ≡ outcome m corpus w₂ buffer

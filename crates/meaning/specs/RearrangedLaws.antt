@@ -25,13 +25,18 @@ module _ (c d : Corpus) (a : Same c d) where
   pub rewritten-ids : All IdFits (c .parts) → All IdFits (d .parts)
   rewritten-ids i = each-all SamePart IdFits IdFits (λ p q b h. rw (part-id p q b) h) (c .parts) (d .parts) (a .parts) i
 
-  -- the answer stays: the report byte for byte, or the question and its block
-  pub rewritten-same : All IdFits (c .parts) → (m : Limits) (work room : ℕ) → answer m (corpusBytes d) work room ≡ answer m (corpusBytes c) work room
-  unfolding answer opened
-  rewritten-same i m work room = go (decLe (2 ^ 32) (length (corpusRest c)))
+  -- what is read stays, or the question and its block
+  pub rewritten-opens : All IdFits (c .parts) → (m : Limits) → opened m (corpusBytes d) ≡ opened m (corpusBytes c)
+  unfolding opened
+  rewritten-opens i m = go (decLe (2 ^ 32) (length (corpusRest c)))
     where
-      go : Dec (2 ^ 32 ≤ length (corpusRest c)) → answer m (corpusBytes d) work room ≡ answer m (corpusBytes c) work room
+      go : Dec (2 ^ 32 ≤ length (corpusRest c)) → opened m (corpusBytes d) ≡ opened m (corpusBytes c)
       go (yes h) = rw (frame-long c h, frame-long d (rw rewritten-length h))
       go (no h) =
           let h : length (corpusRest c) < 2 ^ 32 = omega arith in
           rw (frame-bytes c i h, frame-bytes d (rewritten-ids i) (rw rewritten-length h), rewritten-opened m c d a)
+
+  -- so the answer stays: the report byte for byte, or the question and its block
+  pub rewritten-same : All IdFits (c .parts) → (m : Limits) (work room : ℕ) → answer m (corpusBytes d) work room ≡ answer m (corpusBytes c) work room
+  unfolding answer
+  rewritten-same i m work room = rw (rewritten-opens i m)

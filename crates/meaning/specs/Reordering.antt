@@ -10,7 +10,7 @@ use Rattle.meaning.specs.Reference.{Package}
 use Rattle.meaning.specs.Scan.{classesOf, candidates, table}
 use Rattle.meaning.specs.Resolve.{Limits, look}
 use Rattle.meaning.specs.Report.{reportOf}
-use Rattle.meaning.specs.Call.{holding, workBytes}
+use Rattle.meaning.specs.Call.{accepted, holding, openedIn, workBytes}
 use Rattle.meaning.specs.Table.{repeats-perm, look-perm}
 use Rattle.meaning.specs.Accepted.{Good, readOf, packagesIn, good-length, Opens, to-opened, Accepted}
 use Rattle.meaning.specs.Sections.{sectionIn, frontOf, front-is, sections-are, report-is}
@@ -31,6 +31,11 @@ module _ (m : Limits) (c : Corpus) (order : List Part) (d : Perm (c .parts) orde
 
   pub reordered-opens : Opens m (inOrder c order)
   reordered-opens = record { objects = a .objects; script-is = a .script-is; good = good-order; once = sym (repeats-perm [] table-order) ∙ a .once }
+
+  -- what it holds: the packages in the new order
+  pub reordered-holds : openedIn m (inOrder c order) ≡ accepted (holding m (a .objects) (flat readOf order))
+  unfolding reordered-opens
+  reordered-holds = to-opened m (inOrder c order) reordered-opens
 
   look-same : look (table (m .objects) (a .objects) (flat readOf order)) ≡ look (table (m .objects) (a .objects) (packagesIn c))
   look-same = look-perm (a .once) table-order

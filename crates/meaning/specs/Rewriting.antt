@@ -47,7 +47,7 @@ pub script-length : (s t : List ℕ) → SameScript s t → length t ≡ length 
 unfolding SameScript
 script-length s t a = sym (agree-length (marks script 0 s) s t a)
 
-part-same : (p q : Part) → SamePart p q → runBlock packageBlock (q .block) ≡ runBlock packageBlock (p .block)
+pub part-same : (p q : Part) → SamePart p q → runBlock packageBlock (q .block) ≡ runBlock packageBlock (p .block)
 unfolding SamePart
 part-same p q a = Passed.package-same (p .block) (q .block) (a .1)
 
