@@ -138,6 +138,10 @@ read-one c s k = go (sized c)
         (first-4 _ (c / 262144) (omega arith) ∙ next _ 1 0x10000 (c / 262144) (c / 4096 % 64) (omega arith)
         ∙ next _ 0 0x10000 _ (c / 64 % 64) (omega arith) ∙ last s 0x10000 _ (c % 64) c (omega arith) (omega arith) l k)
 
+pub utf8-read : (c : ℕ) (s : List ℕ) → Scalar c → fromUtf8 (utf8One c ++ s) ≡ more c (fromUtf8 s)
+unfolding fromUtf8
+utf8-read c s k = read-one c s k
+
 -- RFC 3629: decoding gives back the scalar values
 pub utf8-decode : (t : List ℕ) → Scalars t → fromUtf8 (utf8 t) ≡ well t
 unfolding fromUtf8 fromUtf8On

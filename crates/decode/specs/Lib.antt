@@ -1,0 +1,18 @@
+-- UTF-8 read: definitions, each with its laws beside it. What bytes mean is `fromUtf8` of text.
+
+-- ---- Decoding and encoding are inverse
+pub mod ReadLaws
+-- ---- One character at a time, by the table of RFC 3629; its grammar
+pub mod Chars
+pub mod TableLaws
+pub mod CharLaws
+pub mod Grammar
+pub mod GrammarLaws
+-- ---- A text measured, written, read back
+pub mod Measure
+pub mod TurnLaws
+pub mod MeasureLaws
+pub mod WriteLaws
+pub mod BackLaws
+-- ---- All of it computed at its edges
+pub mod Examples
