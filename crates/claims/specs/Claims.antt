@@ -12,19 +12,19 @@ use mathlib.Core.List.{List, [], _∷_, _++_, map, reverse, List·Memᴰ}
 use mathlib.Core.Option.{some}
 use Prim.Native.Nat.{ℕ, _+_, _*_, _^_, _≤_, _<_}
 use lib.ListN.{length, take, drop}
-use Rattle.text.specs.Answer.{isRefusal}
-use Rattle.text.specs.City.{cityHash64}
-use Rattle.text.specs.Find.{flat, get}
-use Rattle.text.specs.House.{lengthFirst}
+use Rattle.base.specs.Answer.{isRefusal}
+use Rattle.city.specs.City.{cityHash64}
+use Rattle.base.specs.Find.{flat, get}
+use Rattle.base.specs.House.{lengthFirst}
 use Rattle.text.specs.Id.{idOf}
-use Rattle.text.specs.Index.{kind, importName, importHash}
-use Rattle.text.specs.Literal.{quoted}
+use Rattle.base.specs.Index.{kind, importName, importHash}
+use Rattle.base.specs.Literal.{quoted}
 use Rattle.lower.specs.Lower.{lowered}
 use Rattle.text.specs.Name.{textBytes}
-use Rattle.text.specs.Number.{beBytes}
-use Rattle.text.specs.NumberLaws.{Bytes}
-use Rattle.text.specs.Perm.{Perm, Each}
-use Rattle.text.specs.Reading.{gives, run, runBlock}
+use Rattle.base.specs.Number.{beBytes}
+use Rattle.base.specs.NumberLaws.{Bytes}
+use Rattle.base.specs.Perm.{Perm, Each}
+use Rattle.base.specs.Reading.{gives, run, runBlock}
 use Rattle.text.specs.Utf16.{Scalars, isWell, scalars, well, ill, utf16, encode16, utf16le}
 use Rattle.text.specs.Utf16Cases.{Words}
 use Rattle.text.specs.Utf16Laws.{decode-encode, encode-decode, ill-formed, no-encoding}

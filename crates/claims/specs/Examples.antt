@@ -5,10 +5,10 @@ use mathlib.Core.List.{List, [], _∷_, _++_}
 use Prim.Native.Nat.{ℕ, zero, suc, _+_}
 use Prim.Native.String.{String, _++_ as _then_}
 use lib.ListN.{length, replicate}
-use Rattle.text.specs.City.{k2}
-use Rattle.text.specs.House.{lengthFirst}
+use Rattle.city.specs.City.{k2}
+use Rattle.base.specs.House.{lengthFirst}
 use Rattle.text.specs.Id.{idOf}
-use Rattle.text.specs.Literal.{quoted}
+use Rattle.base.specs.Literal.{quoted}
 use Rattle.text.specs.Name.{suffix}
 use Rattle.zen.specs.Written.{le4, le8, scriptIndex, nullIndex, object, scriptBytes, packageWith, packageBytes}
 use Rattle.zen.specs.declared.tables.Export.{Export}

@@ -8,14 +8,14 @@ use mathlib.Core.Option.{Option, none, some}
 use Prim.Native.Nat.{ℕ, _≤_}
 use native.Mathlib.Omega.{arith}
 use lib.ListN.{length, take}
-use Rattle.text.specs.Answer.{isRefusal}
-use Rattle.text.specs.Find.{flat}
-use Rattle.text.specs.House.{lengthFirst}
+use Rattle.base.specs.Answer.{isRefusal}
+use Rattle.base.specs.Find.{flat}
+use Rattle.base.specs.House.{lengthFirst}
 use Rattle.text.specs.Name.{textBytes}
-use Rattle.text.specs.Number.{beBytes}
-use Rattle.text.specs.NumberLaws.{Bytes}
-use Rattle.text.specs.Perm.{Each}
-use Rattle.text.specs.Reading.{gives, run, runBlock}
+use Rattle.base.specs.Number.{beBytes}
+use Rattle.base.specs.NumberLaws.{Bytes}
+use Rattle.base.specs.Perm.{Each}
+use Rattle.base.specs.Reading.{gives, run, runBlock}
 use Rattle.zen.specs.Script.{Objects, script}
 use Rattle.zen.specs.Zen.{packageBlock, packageName}
 use Rattle.zen.specs.declared.tables.Export.{Export}

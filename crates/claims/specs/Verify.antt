@@ -11,14 +11,14 @@ use borrow.Author.Tests.{ne-eqb, eqb-true, eqb-false}
 use lib.Dec.{eqb}
 use lib.ListN.{length, take, drop, replicate, length-map, length-drop}
 use lib.Seq.{take-append-le, drop-append-le}
-use Rattle.text.specs.Answer.{isRefusal}
-use Rattle.text.specs.City.{cityHash64}
-use Rattle.text.specs.Find.{sum}
+use Rattle.base.specs.Answer.{isRefusal}
+use Rattle.city.specs.City.{cityHash64}
+use Rattle.base.specs.Find.{sum}
 use Rattle.text.specs.Id.{idOf}
-use Rattle.text.specs.Number.{be}
-use Rattle.text.specs.NumberLaws.{Bytes}
-use Rattle.text.specs.Perm.{Each}
-use Rattle.text.specs.Reading.{gives, run, runBlock}
+use Rattle.base.specs.Number.{be}
+use Rattle.base.specs.NumberLaws.{Bytes}
+use Rattle.base.specs.Perm.{Each}
+use Rattle.base.specs.Reading.{gives, run, runBlock}
 use Rattle.text.specs.Utf16.{utf16le}
 use Rattle.lower.specs.Lower.{lowered}
 use Rattle.zen.specs.Script.{Objects, script}

@@ -6,8 +6,8 @@ use Prim.Native.Nat.{ℕ, zero, suc, _+_, _*_, _/_, _%_}
 use native.Mathlib.Omega.{arith}
 use borrow.Author.Tests.{ltb-true}
 use lib.Dec.{ltb}
-use Rattle.text.specs.Never.{never}
-use Rattle.text.specs.NumberLaws.{Bytes}
+use Rattle.base.specs.Never.{never}
+use Rattle.base.specs.NumberLaws.{Bytes}
 use Rattle.text.specs.Utf16.{Decoded, well, ill, isWell, scalars, utf16, units, unitBytes, utf16le, encode16}
 use Rattle.text.specs.UnitsLaws.{decode-encode}
 use Rattle.text.specs.Utf8.{fromUtf8}

@@ -8,8 +8,8 @@ use native.Mathlib.Omega.{arith}
 use borrow.Author.Tests.{leb-true}
 use lib.Dec.{leb}
 use lib.ListN.{length, getD, drop}
-use Rattle.text.specs.Never.{never}
-use Rattle.text.specs.Choose.{choose, lt-or-le}
+use Rattle.base.specs.Never.{never}
+use Rattle.base.specs.Choose.{choose, lt-or-le}
 use Rattle.text.specs.Utf16.{ill, more, Scalar}
 use Rattle.text.specs.Utf8.{utf8One, fromUtf8}
 use Rattle.text.specs.Utf8Laws.{utf8-1, utf8-2, utf8-3, utf8-4, Sized, one, two, three, four, sized, utf8-read}

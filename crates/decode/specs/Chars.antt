@@ -4,7 +4,7 @@ use mathlib.Core.List.{List, [], _∷_}
 use Prim.Native.Nat.{ℕ, _+_, _*_, _-_, _≤_}
 use lib.Dec.{leb, eqb}
 use lib.ListN.{getD}
-use Rattle.text.specs.Choose.{choose}
+use Rattle.base.specs.Choose.{choose}
 use Rattle.decode.specs.declared.chars.Char.{Char}
 use Rattle.decode.specs.declared.chars.Char.the-variants.{Of, Ill}
 

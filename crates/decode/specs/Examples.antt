@@ -3,7 +3,7 @@ use mathlib.Core.Path.{_≡_, refl}
 use mathlib.Core.Bool.{true, false}
 use mathlib.Core.List.{List, [], _∷_, map}
 use Prim.Native.Nat.{ℕ}
-use Rattle.text.specs.Literal.{quoted as text}
+use Rattle.base.specs.Literal.{quoted as text}
 use Rattle.text.specs.Utf16.{well, ill, encodeOne, encode16}
 use Rattle.text.specs.Utf8.{utf8One, utf8, fromUtf8, fromUtf8On}
 use Rattle.decode.specs.declared.chars.Char.the-variants.{Of, Ill}

@@ -7,8 +7,8 @@ use Prim.Native.Nat.{ℕ, zero, suc, _+_, _/_, _%_, _≤_, _<_}
 use native.Mathlib.Omega.{arith}
 use lib.ListN.{length, length-append, getD}
 use borrow.Author.Tests.{ne-eqb}
-use Rattle.text.specs.Never.{never}
-use Rattle.text.specs.Choose.{lt-or-le}
+use Rattle.base.specs.Never.{never}
+use Rattle.base.specs.Choose.{lt-or-le}
 use Rattle.text.specs.Utf16.{isWell, Scalar}
 use Rattle.text.specs.Utf16Cases.{isWell-more}
 use Rattle.text.specs.Utf8.{utf8One, fromUtf8, fromUtf8On}

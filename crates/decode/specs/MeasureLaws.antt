@@ -7,7 +7,7 @@ use native.Mathlib.Omega.{arith}
 use borrow.Author.Tests.{ltb-true}
 use lib.Dec.{ltb}
 use lib.ListN.{length, length-append}
-use Rattle.text.specs.Never.{never}
+use Rattle.base.specs.Never.{never}
 use Rattle.text.specs.Utf16.{Decoded, well, ill, isWell, scalars, more, encodeOne, encode16, utf16le}
 use Rattle.text.specs.IdLaws.{unitBytes-length}
 use Rattle.text.specs.Utf8.{utf8One, utf8, fromUtf8}

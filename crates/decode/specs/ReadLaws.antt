@@ -9,8 +9,8 @@ use native.Mathlib.Omega.{arith}
 use borrow.Author.Tests.{lt-ltb, le-ltb, ltb-true, leb-true}
 use lib.Dec.{leb, ltb}
 use lib.ListN.{length, length-append}
-use Rattle.text.specs.Never.{never}
-use Rattle.text.specs.Choose.{lt-or-le}
+use Rattle.base.specs.Never.{never}
+use Rattle.base.specs.Choose.{lt-or-le}
 use Rattle.text.specs.Utf16.{Decoded, well, ill, isWell, scalars, more, Scalar, Scalars}
 use Rattle.text.specs.Utf8.{utf8One, utf8, fromUtf8On, fromUtf8}
 use Rattle.text.specs.Utf8Laws.{utf8-1, utf8-2, utf8-3, utf8-4, Sized, one, two, three, four, sized, utf8-read, utf8-decode}

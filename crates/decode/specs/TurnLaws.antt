@@ -8,7 +8,7 @@ use native.Mathlib.Omega.{arith}
 use borrow.Author.Tests.{lt-ltb, le-ltb}
 use lib.ListN.{length, drop, length-append, length-drop, drop-of-length-le}
 use lib.Seq.{drop-drop}
-use Rattle.text.specs.Choose.{lt-or-le}
+use Rattle.base.specs.Choose.{lt-or-le}
 use Rattle.text.specs.Utf16.{Decoded, well, ill, isWell, scalars, more, encodeOne}
 use Rattle.text.specs.UnitsLaws.{isWell-more, scalars-more}
 use Rattle.text.specs.Utf8.{utf8One, fromUtf8, fromUtf8On}

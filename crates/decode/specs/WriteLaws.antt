@@ -7,8 +7,8 @@ use native.Mathlib.Omega.{arith}
 use borrow.Author.Tests.{le-ltb, ltb-true}
 use lib.Dec.{ltb}
 use lib.ListN.{length, set, take, drop, length-append}
-use Rattle.text.specs.Output.{Wrote}
-use Rattle.text.specs.OutputLaws.{wrote-none, wrote-as, wrote-byte, wrote-rest, wrote-room}
+use Rattle.base.specs.Output.{Wrote}
+use Rattle.base.specs.OutputLaws.{wrote-none, wrote-as, wrote-byte, wrote-rest, wrote-room}
 use Rattle.text.specs.IdLaws.{unitBytes-append}
 use Rattle.text.specs.Utf16.{isWell, encodeOne, encode16, unitBytes, utf16le}
 use Rattle.decode.specs.Measure.{fitsLatin1}

@@ -4,7 +4,7 @@ ghost use mathlib.Core.Bool.{_&&_};
 ghost use Prim.Native.Nat.{_-_, _≤_};
 ghost use lib.ListN.{length, getD, drop};
 ghost use Rattle.decode.specs.Chars.{Range, within, second, isTwo, isThree, isFour, joined, charOf};
-use text::number::wide;
+use base::number::wide;
 
 // A scalar value and how many bytes it takes, or bytes that start with none.
 pub enum Char {

@@ -4,7 +4,7 @@ ghost use mathlib.Core.Path.{_≡_};
 ghost use mathlib.Core.Bool.{true};
 ghost use Prim.Native.Nat.{_≤_, _<_};
 ghost use lib.ListN.{length};
-ghost use Rattle.text.specs.Output.{Wrote};
+ghost use Rattle.base.specs.Output.{Wrote};
 ghost use Rattle.text.specs.Utf16.{isWell, encodeOne, unitBytes, utf16le};
 ghost use Rattle.text.specs.Utf8.{fromUtf8};
 ghost use Rattle.decode.specs.Measure.{textOf, fitsLatin1};

@@ -5,12 +5,12 @@ use mathlib.Core.List.{List, [], _∷_, _++_}
 use Prim.Native.Nat.{ℕ, _+_, _*_}
 use Prim.Native.String.{String}
 use lib.ListN.{length, replicate, take}
-use Rattle.text.specs.Find.{flat}
-use Rattle.text.specs.House.{lengthFirst}
+use Rattle.base.specs.Find.{flat}
+use Rattle.base.specs.House.{lengthFirst}
 use Rattle.text.specs.Id.{idOf}
-use Rattle.text.specs.Literal.{quoted as text}
+use Rattle.base.specs.Literal.{quoted as text}
 use Rattle.text.specs.Name.{textBytes}
-use Rattle.text.specs.Number.{beBytes}
+use Rattle.base.specs.Number.{beBytes}
 use Rattle.text.specs.Utf16.{utf16le}
 use Rattle.zen.specs.Written.{Contents, le4, le8, scriptIndex, importIndex, nullIndex, nameBatch, packageWith, packageBytes}
 use Rattle.meaning.specs.Frame.{Part}

@@ -6,11 +6,11 @@ use mathlib.Core.List.{List, [], _∷_}
 use Prim.Native.Nat.{ℕ, _+_}
 use lib.Dec.{leb}
 use lib.ListN.{length}
-use Rattle.text.specs.Find.{flat}
-use Rattle.text.specs.House.{longestOutput}
-use Rattle.text.specs.Never.{never}
-use Rattle.text.specs.Perm.{All}
-use Rattle.text.specs.Reading.{Out, refused, gives, run, runBlock}
+use Rattle.base.specs.Find.{flat}
+use Rattle.base.specs.House.{longestOutput}
+use Rattle.base.specs.Never.{never}
+use Rattle.base.specs.Perm.{All}
+use Rattle.base.specs.Reading.{Out, refused, gives, run, runBlock}
 use Rattle.zen.specs.Script.{Objects, script}
 use Rattle.zen.specs.Zen.{Read, packageBlock}
 use Rattle.meaning.specs.Frame.{Part, Corpus, framed}

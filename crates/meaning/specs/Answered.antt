@@ -5,10 +5,10 @@ use mathlib.Core.Bool.{false}
 use mathlib.Core.List.{List}
 use Prim.Native.Nat.{ℕ, _≤_}
 use lib.ListN.{length, take, drop}
-use Rattle.text.specs.Answer.{refusal, isRefusal, refusal-is}
-use Rattle.text.specs.Never.{never}
-use Rattle.text.specs.Output.{over}
-use Rattle.text.specs.OutputLaws.{take-over, drop-over, wrote-length}
+use Rattle.base.specs.Answer.{refusal, isRefusal, refusal-is}
+use Rattle.base.specs.Never.{never}
+use Rattle.base.specs.Output.{over}
+use Rattle.base.specs.OutputLaws.{take-over, drop-over, wrote-length}
 use Rattle.meaning.specs.Call.{Answer, refusedIn, accepted, numberOf, bufferAfter}
 
 module _ (a : Answer (List ℕ)) where

@@ -6,7 +6,7 @@ use mathlib.Core.List.{List}
 use Prim.Native.Nat.{ℕ, _+_, _-_, _^_, _<_, _≤_}
 use borrow.Author.Tests.{le-leb, lt-leb}
 use lib.ListN.{length}
-use Rattle.text.specs.House.{longestOutput}
+use Rattle.base.specs.House.{longestOutput}
 use Rattle.meaning.specs.Resolve.{Limits}
 use Rattle.meaning.specs.Report.{reportOf}
 use Rattle.meaning.specs.Call.{Opened, refusedIn, accepted, workBytes, weighed}

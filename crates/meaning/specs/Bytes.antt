@@ -3,9 +3,9 @@
 use mathlib.Core.List.{List, _∷_, _++_}
 use Prim.Native.Nat.{ℕ, _^_, _<_}
 use lib.ListN.{length}
-use Rattle.text.specs.Find.{flat}
-use Rattle.text.specs.House.{lengthFirst}
-use Rattle.text.specs.Number.{beBytes}
+use Rattle.base.specs.Find.{flat}
+use Rattle.base.specs.House.{lengthFirst}
+use Rattle.base.specs.Number.{beBytes}
 use Rattle.meaning.specs.Frame.{Part, Corpus, corpusVersion}
 
 -- "an 8-byte id, a 4-byte length and bytes"

@@ -9,15 +9,15 @@ use native.Mathlib.Omega.{arith}
 use borrow.Author.Tests.{le-leb, eq-eqb, ne-eqb, eqb-true}
 use lib.Dec.{leb, eqb}
 use lib.ListN.{length, length-append}
-use Rattle.text.specs.Find.{flat}
-use Rattle.text.specs.House.{lengthFirst, beNumber}
-use Rattle.text.specs.HouseLaws.{length-first}
-use Rattle.text.specs.Never.{never}
-use Rattle.text.specs.Number.{be, beBytes}
-use Rattle.text.specs.NumberLaws.{Bytes, length-beBytes, be-beBytes}
-use Rattle.text.specs.Perm.{All}
-use Rattle.text.specs.Reading.{Reading, Out, refused, gives, give, run, _>>=_, _>>_, taken, bytesLeft, ask, onto, rowsOn, rows}
-use Rattle.text.specs.ReadingFront.{run-bytes, run-be, bytes-by, be-by, asked-by}
+use Rattle.base.specs.Find.{flat}
+use Rattle.base.specs.House.{lengthFirst, beNumber}
+use Rattle.base.specs.HouseLaws.{length-first}
+use Rattle.base.specs.Never.{never}
+use Rattle.base.specs.Number.{be, beBytes}
+use Rattle.base.specs.NumberLaws.{Bytes, length-beBytes, be-beBytes}
+use Rattle.base.specs.Perm.{All}
+use Rattle.base.specs.Reading.{Reading, Out, refused, gives, give, run, _>>=_, _>>_, taken, bytesLeft, ask, onto, rowsOn, rows}
+use Rattle.base.specs.ReadingFront.{run-bytes, run-be, bytes-by, be-by, asked-by}
 use Rattle.meaning.specs.Frame.{Part, Corpus, corpusVersion, part, packages, frame, frameAnswer, framed}
 use Rattle.meaning.specs.Bytes.{partBytes, packagesBytes, corpusRest, corpusBytes, IdFits}
 

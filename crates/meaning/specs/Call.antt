@@ -6,11 +6,11 @@ use mathlib.Core.Option.{Option, none, some}
 use Prim.Native.Nat.{ℕ, _+_, _*_}
 use lib.Dec.{leb}
 use lib.ListN.{length}
-use Rattle.text.specs.Answer.{refusal}
-use Rattle.text.specs.Find.{orElse, sum}
-use Rattle.text.specs.House.{longestOutput}
-use Rattle.text.specs.Output.{over}
-use Rattle.text.specs.Reading.{Out, refused, gives, run, runBlock}
+use Rattle.base.specs.Answer.{refusal}
+use Rattle.base.specs.Find.{orElse, sum}
+use Rattle.base.specs.House.{longestOutput}
+use Rattle.base.specs.Output.{over}
+use Rattle.base.specs.Reading.{Out, refused, gives, run, runBlock}
 use Rattle.zen.specs.Script.{Objects, script}
 use Rattle.zen.specs.Zen.{packageBlock}
 use Rattle.meaning.specs.Frame.{Part, Corpus, framed}

@@ -5,8 +5,8 @@ use mathlib.Core.List.{List, [], _∷_, _++_, map, reverse, List·Memᴰ}
 use mathlib.Core.Option.{some}
 use Prim.Native.Nat.{ℕ, _≤_}
 use lib.ListN.{length}
-use Rattle.text.specs.Index.{kind}
-use Rattle.text.specs.Literal.{quoted}
+use Rattle.base.specs.Index.{kind}
+use Rattle.base.specs.Literal.{quoted}
 use Rattle.zen.specs.Script.{Objects, objectName}
 use Rattle.zen.specs.declared.script.Entry.{Entry}
 use Rattle.meaning.specs.Path.{Path}

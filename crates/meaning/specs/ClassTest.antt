@@ -11,14 +11,14 @@ use lib.Dec.{eqb, eqb·suc-zero}
 use lib.ListN.{length, take, getD}
 use Rattle.text.specs.Affix.{endsWith}
 use Rattle.text.specs.AffixLaws.{ends-append, ends-true, rendered-ends, rendered-plain}
-use Rattle.text.specs.Index.{kind}
-use Rattle.text.specs.Literal.{quoted}
+use Rattle.base.specs.Index.{kind}
+use Rattle.base.specs.Literal.{quoted}
 use Rattle.text.specs.Name.{suffix}
-use Rattle.text.specs.Never.{never}
+use Rattle.base.specs.Never.{never}
 use Rattle.zen.specs.Script.{Objects, objectName}
 use Rattle.zen.specs.declared.script.Entry.{Entry}
 use Rattle.zen.specs.declared.tables.Export.{Export}
-use Rattle.text.specs.Find.{option}
+use Rattle.base.specs.Find.{option}
 use Rattle.meaning.specs.Path.{Path, objectAt, separator, added, beyond, through, pathOf}
 use Rattle.meaning.specs.Scan.{classEnd, oneOf, lastFrom, lastPart, isClass}
 

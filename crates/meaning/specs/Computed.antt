@@ -2,19 +2,19 @@
 use mathlib.Core.List.{List}
 use Prim.Native.Nat.{ℕ}
 use Rattle.text.specs.Affix.{endsWith}
-use Rattle.text.specs.City.{shiftMix, hashLen16Mul, hashLen16, mulOf, len1to3, len4to7, len8to16, len0to16, mix4, len17to32}
-use Rattle.text.specs.City.{swapMul, mixU, mixV, mixY, mixLast, mix8, len33to64}
-use Rattle.text.specs.City.{weak32, weakAt, nextX, nextY, nextZ, nextV, nextW, turn, turns, start, finish, longer, cityHash64}
+use Rattle.city.specs.City.{shiftMix, hashLen16Mul, hashLen16, mulOf, len1to3, len4to7, len8to16, len0to16, mix4, len17to32}
+use Rattle.city.specs.City.{swapMul, mixU, mixV, mixY, mixLast, mix8, len33to64}
+use Rattle.city.specs.City.{weak32, weakAt, nextX, nextY, nextZ, nextV, nextW, turn, turns, start, finish, longer, cityHash64}
 use Rattle.text.specs.Digits.{digits, decimal, hex}
 use Rattle.text.specs.Id.{idOf}
 use Rattle.lower.specs.Lower.{lower}
 use Rattle.text.specs.Name.{decoded, textBytes}
-use Rattle.text.specs.Number.{leAt, beBytes}
-use Rattle.text.specs.Reading.{rows, runBlock}
-use Rattle.text.specs.Signed.{twos}
+use Rattle.base.specs.Number.{leAt, beBytes}
+use Rattle.base.specs.Reading.{rows, runBlock}
+use Rattle.base.specs.Signed.{twos}
 use Rattle.text.specs.Utf16.{encodeOne, encode16, utf16, units}
 use Rattle.text.specs.Utf8.{utf8One}
-use Rattle.text.specs.Word.{addw, mulw, rotr, swap}
+use Rattle.city.specs.Word.{addw, mulw, rotr, swap}
 use Rattle.zen.specs.Batch.{headOf, head, strings, noNames, someNames, body, batch}
 use Rattle.zen.specs.Script.{entry, entries, opening, script}
 use Rattle.zen.specs.Zen.{offset, summary, ordered, bulk, export, tables, imports, content, header, lead}

@@ -8,12 +8,12 @@ use Prim.Native.Nat.{ℕ, _+_, _/_, _^_, _≤_, _<_}
 use native.Mathlib.Omega.{arith}
 use lib.Dec.{eqb}
 use lib.ListN.{length, length-append}
-use Rattle.text.specs.Answer.{isRefusal, questionOf, blockOf, refusal-is, refusal-question, refusal-block, length-is-none}
-use Rattle.text.specs.Choose.{pick}
-use Rattle.text.specs.Never.{never}
-use Rattle.text.specs.NumberLaws.{Bytes}
-use Rattle.text.specs.Reading.{Out, refused, gives, run}
-use Rattle.text.specs.ReadingRefusals.{Within}
+use Rattle.base.specs.Answer.{isRefusal, questionOf, blockOf, refusal-is, refusal-question, refusal-block, length-is-none}
+use Rattle.base.specs.Choose.{pick}
+use Rattle.base.specs.Never.{never}
+use Rattle.base.specs.NumberLaws.{Bytes}
+use Rattle.base.specs.Reading.{Out, refused, gives, run}
+use Rattle.base.specs.ReadingRefusals.{Within}
 use Rattle.zen.specs.Refusals.{script-refusal, package-refusal}
 use Rattle.zen.specs.Script.{Objects}
 use Rattle.meaning.specs.Frame.{Corpus, frame, frameAnswer, framed}

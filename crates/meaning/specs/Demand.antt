@@ -4,10 +4,10 @@ use mathlib.Core.Path.{_≡_, refl, sym, _∙_, ap}
 use mathlib.Core.List.{List, _++_, map}
 use Prim.Native.Nat.{ℕ, _+_, _^_, _<_}
 use lib.ListN.{length}
-use Rattle.text.specs.Find.{flat}
-use Rattle.text.specs.Output.{over}
-use Rattle.text.specs.Perm.{perm-flat, perm-length, each-map, flat-map}
-use Rattle.text.specs.Reading.{gives}
+use Rattle.base.specs.Find.{flat}
+use Rattle.base.specs.Output.{over}
+use Rattle.base.specs.Perm.{perm-flat, perm-length, each-map, flat-map}
+use Rattle.base.specs.Reading.{gives}
 use Rattle.meaning.specs.Frame.{framed}
 use Rattle.meaning.specs.Resolve.{Limits}
 use Rattle.meaning.specs.Call.{accepted, answer, numberOf, bufferAfter, outcome}

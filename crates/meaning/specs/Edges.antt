@@ -2,8 +2,8 @@
 use mathlib.Core.Path.{_≡_, refl}
 use mathlib.Core.List.{List, [], _∷_, map}
 use Prim.Native.Nat.{ℕ}
-use Rattle.text.specs.House.{lengthFirst}
-use Rattle.text.specs.Literal.{quoted as text}
+use Rattle.base.specs.House.{lengthFirst}
+use Rattle.base.specs.Literal.{quoted as text}
 use Rattle.text.specs.Id.{idOf}
 use Rattle.zen.specs.Written.{scriptIndex, importIndex, nullIndex, packageBytes}
 use Rattle.meaning.specs.Frame.{Part}

@@ -9,15 +9,15 @@ use native.Mathlib.Nat.{mod-eq-of-lt}
 use native.Mathlib.Omega.{arith}
 use lib.ListN.{length, take, drop, length-append}
 use lib.Seq.{take-at, drop-at}
-use Rattle.text.specs.Find.{flat, filter, kept}
-use Rattle.text.specs.FindLaws.{flat-member, flat-some}
-use Rattle.text.specs.House.{lengthFirst, longestOutput}
-use Rattle.text.specs.HouseLaws.{length-first, first-is}
+use Rattle.base.specs.Find.{flat, filter, kept}
+use Rattle.base.specs.FindLaws.{flat-member, flat-some}
+use Rattle.base.specs.House.{lengthFirst, longestOutput}
+use Rattle.base.specs.HouseLaws.{length-first, first-is}
 use Rattle.text.specs.Name.{textBytes}
-use Rattle.text.specs.Number.{be, beBytes}
-use Rattle.text.specs.NumberLaws.{Bytes, length-beBytes, be-beBytes}
-use Rattle.text.specs.Perm.{All}
-use Rattle.text.specs.Reading.{Out, gives, runBlock}
+use Rattle.base.specs.Number.{be, beBytes}
+use Rattle.base.specs.NumberLaws.{Bytes, length-beBytes, be-beBytes}
+use Rattle.base.specs.Perm.{All}
+use Rattle.base.specs.Reading.{Out, gives, runBlock}
 use Rattle.text.specs.Utf8.{utf8}
 use Rattle.zen.specs.Accepted.{Parts, read-parts}
 use Rattle.zen.specs.Answers.{exportsOf}

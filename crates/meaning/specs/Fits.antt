@@ -8,12 +8,12 @@ use native.Mathlib.Omega.{arith}
 use borrow.Author.Tests.{leb-true}
 use lib.Dec.{leb}
 use lib.ListN.{length, length-append}
-use Rattle.text.specs.Find.{flat}
-use Rattle.text.specs.FindLaws.{flat-member}
-use Rattle.text.specs.House.{longestOutput}
-use Rattle.text.specs.Never.{never}
-use Rattle.text.specs.NumberLaws.{Bytes}
-use Rattle.text.specs.Reading.{gives}
+use Rattle.base.specs.Find.{flat}
+use Rattle.base.specs.FindLaws.{flat-member}
+use Rattle.base.specs.House.{longestOutput}
+use Rattle.base.specs.Never.{never}
+use Rattle.base.specs.NumberLaws.{Bytes}
+use Rattle.base.specs.Reading.{gives}
 use Rattle.meaning.specs.Frame.{Part, Corpus, framed}
 use Rattle.meaning.specs.Resolve.{Limits}
 use Rattle.meaning.specs.Call.{accepted, answer}

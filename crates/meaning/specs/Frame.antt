@@ -3,8 +3,8 @@ use mathlib.Core.Bool.{cond, _&&_}
 use mathlib.Core.List.{List}
 use Prim.Native.Nat.{ℕ}
 use lib.Dec.{leb, eqb}
-use Rattle.text.specs.House.{beNumber}
-use Rattle.text.specs.Reading.{Reading, Out, refused, gives, give, _>>=_, _>>_, taken, bytesLeft, ask, rows, run}
+use Rattle.base.specs.House.{beNumber}
+use Rattle.base.specs.Reading.{Reading, Out, refused, gives, give, _>>=_, _>>_, taken, bytesLeft, ask, rows, run}
 
 -- a package of a corpus: its id and its block
 pub record Part : Type 0 where

@@ -5,11 +5,11 @@ use mathlib.Core.Option.{Option}
 use Prim.Native.Nat.{ℕ, _+_}
 use native.Mathlib.Omega.{arith}
 use lib.ListN.{length, length-append}
-use Rattle.text.specs.Find.{sum}
-use Rattle.text.specs.FindLaws.{length-flat, sum-same}
-use Rattle.text.specs.HouseLaws.{length-first}
+use Rattle.base.specs.Find.{sum}
+use Rattle.base.specs.FindLaws.{length-flat, sum-same}
+use Rattle.base.specs.HouseLaws.{length-first}
 use Rattle.text.specs.NameLaws.{textBytes-length}
-use Rattle.text.specs.NumberLaws.{length-beBytes}
+use Rattle.base.specs.NumberLaws.{length-beBytes}
 use Rattle.zen.specs.Script.{Objects}
 use Rattle.zen.specs.Zen.{packageName}
 use Rattle.zen.specs.declared.tables.Export.{Export}

@@ -5,7 +5,7 @@ use mathlib.Core.List.{List, List·Memᴰ}
 use mathlib.Core.Option.{Option, none, some}
 use Prim.Native.Nat.{ℕ, _≤_}
 use native.Mathlib.Nat.{le-trans}
-use Rattle.text.specs.FindLaws.{none-some, find-some}
+use Rattle.base.specs.FindLaws.{none-some, find-some}
 use Rattle.zen.specs.Script.{Objects}
 use Rattle.zen.specs.ScriptGood.{Good}
 use Rattle.meaning.specs.Key.{Key, sameKey}

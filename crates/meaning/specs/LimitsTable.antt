@@ -8,9 +8,9 @@ use mathlib.Core.Option.{Option, none, some}
 use Prim.Native.Nat.{ℕ, _+_, _≤_}
 use native.Mathlib.Nat.{le-trans}
 use lib.Dec.{eqb}
-use Rattle.text.specs.Find.{kept}
-use Rattle.text.specs.Index.{kind}
-use Rattle.text.specs.Never.{never}
+use Rattle.base.specs.Find.{kept}
+use Rattle.base.specs.Index.{kind}
+use Rattle.base.specs.Never.{never}
 use Rattle.zen.specs.Script.{Objects}
 use Rattle.zen.specs.ScriptGood.{Good}
 use Rattle.zen.specs.declared.tables.Export.{Export}

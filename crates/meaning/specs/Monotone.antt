@@ -7,8 +7,8 @@ use mathlib.Core.Bool.{false}
 use mathlib.Core.List.{List, []}
 use mathlib.Core.Option.{some}
 use Prim.Native.Nat.{ℕ}
-use Rattle.text.specs.Perm.{All}
-use Rattle.text.specs.Reading.{gives, run}
+use Rattle.base.specs.Perm.{All}
+use Rattle.base.specs.Reading.{gives, run}
 use Rattle.zen.specs.Script.{Objects, script}
 use Rattle.zen.specs.ScriptGood.{Good, script-good}
 use Rattle.zen.specs.declared.tables.Export.{Export}

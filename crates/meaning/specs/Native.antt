@@ -10,10 +10,10 @@ use native.Mathlib.Numerals.{add-one}
 use borrow.Author.Tests.{eqb-true}
 use lib.Dec.{eqb, eqb→eq, eqb-refl}
 use lib.ListN.{length, length-map, length-reverse}
-use Rattle.text.specs.Find.{option}
-use Rattle.text.specs.FindLaws.{none-some, find-some, find-member}
-use Rattle.text.specs.Index.{kind}
-use Rattle.text.specs.Literal.{quoted}
+use Rattle.base.specs.Find.{option}
+use Rattle.base.specs.FindLaws.{none-some, find-some, find-member}
+use Rattle.base.specs.Index.{kind}
+use Rattle.base.specs.Literal.{quoted}
 use Rattle.zen.specs.Script.{Objects, objectName}
 use Rattle.zen.specs.ScriptGood.{Good, apart-members}
 use Rattle.zen.specs.declared.script.Entry.{Entry}

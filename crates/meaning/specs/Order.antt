@@ -10,12 +10,12 @@ use native.Mathlib.Omega.{arith}
 use borrow.Author.Tests.{le-leb, lt-leb, leb-true, leb-false}
 use lib.Dec.{T, leb}
 use lib.ListN.{length}
-use Rattle.text.specs.Find.{orElse}
-use Rattle.text.specs.FindLaws.{none-some}
-use Rattle.text.specs.House.{longestOutput}
-use Rattle.text.specs.Never.{never}
-use Rattle.text.specs.Perm.{All}
-use Rattle.text.specs.Reading.{Out, refused, gives, run, runBlock}
+use Rattle.base.specs.Find.{orElse}
+use Rattle.base.specs.FindLaws.{none-some}
+use Rattle.base.specs.House.{longestOutput}
+use Rattle.base.specs.Never.{never}
+use Rattle.base.specs.Perm.{All}
+use Rattle.base.specs.Reading.{Out, refused, gives, run, runBlock}
 use Rattle.zen.specs.Script.{Objects, script}
 use Rattle.zen.specs.Zen.{packageBlock}
 use Rattle.meaning.specs.Frame.{Part, Corpus, framed}

@@ -5,7 +5,7 @@ use mathlib.Core.Bool.{false}
 use mathlib.Core.List.{List}
 use Prim.Native.Nat.{ℕ}
 use lib.ListN.{length, take, drop}
-use Rattle.text.specs.Answer.{refusal, isRefusal}
+use Rattle.base.specs.Answer.{refusal, isRefusal}
 use Rattle.meaning.specs.Resolve.{Limits}
 use Rattle.meaning.specs.Call.{Answer, refusedIn, accepted, answer, bufferAfter, outcome}
 use Rattle.meaning.specs.Answered as Answered

@@ -8,8 +8,8 @@ use Prim.Native.Nat.{ℕ, zero, suc, _+_, _≤_}
 use native.Mathlib.Omega.{arith}
 use lib.Dec.{T}
 use lib.ListN.{length, length-append}
-use Rattle.text.specs.Find.{option}
-use Rattle.text.specs.FindLaws.{none-some, find-some, find-member}
+use Rattle.base.specs.Find.{option}
+use Rattle.base.specs.FindLaws.{none-some, find-some, find-member}
 use Rattle.meaning.specs.Key.{Key, sameKey}
 use Rattle.meaning.specs.KeyLaws.{sameKey→eq, sameKey-refl}
 use Rattle.meaning.specs.Reference.{Ref, script, import, export, null, bad, meant}

@@ -4,9 +4,9 @@ use mathlib.Core.List.{List, [], _++_}
 use mathlib.Core.Option.{Option, none, some}
 use Prim.Native.Nat.{ℕ, zero, suc, _+_}
 use lib.Dec.{eqb}
-use Rattle.text.specs.Find.{find}
-use Rattle.text.specs.Index.{kind}
-use Rattle.text.specs.Literal.{quoted}
+use Rattle.base.specs.Find.{find}
+use Rattle.base.specs.Index.{kind}
+use Rattle.base.specs.Literal.{quoted}
 use Rattle.zen.specs.Script.{Objects, objectName}
 use Rattle.zen.specs.declared.script.Entry.{Entry}
 

@@ -9,7 +9,7 @@ use native.Mathlib.Decide.{decLt}
 use native.Mathlib.Omega.{arith}
 use borrow.Author.Tests.{lt-ltb, le-ltb, ne-eqb}
 use lib.Dec.{eqb}
-use Rattle.text.specs.City.{cityHash64}
+use Rattle.city.specs.City.{cityHash64}
 use Rattle.text.specs.Digits.{digits, decimal}
 use Rattle.text.specs.Id.{idOf}
 use Rattle.text.specs.IdLaws.{name-units}

@@ -2,11 +2,11 @@
 use mathlib.Core.Path.{_≡_, refl}
 use mathlib.Core.List.{List, [], _∷_}
 use Prim.Native.Nat.{ℕ, _+_}
-use Rattle.text.specs.NumberLaws.{Bytes}
-use Rattle.text.specs.Perm.{Perm, All, Each, perm-all}
-use Rattle.text.specs.Reading.{gives, run}
-use Rattle.text.specs.ReadingMarks.{marks, marks-length, marksBlock}
-use Rattle.text.specs.ReadingRewrite.{rewrite, rewrite-agrees, block-length}
+use Rattle.base.specs.NumberLaws.{Bytes}
+use Rattle.base.specs.Perm.{Perm, All, Each, perm-all}
+use Rattle.base.specs.Reading.{gives, run}
+use Rattle.base.specs.ReadingMarks.{marks, marks-length, marksBlock}
+use Rattle.base.specs.ReadingRewrite.{rewrite, rewrite-agrees, block-length}
 use Rattle.zen.specs.Script.{Objects, script}
 use Rattle.zen.specs.Zen.{packageBlock}
 use Rattle.zen.specs.PassedOver.{script-marks, package-marks}

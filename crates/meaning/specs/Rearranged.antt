@@ -5,9 +5,9 @@ use mathlib.Core.Path.{_≡_}
 use mathlib.Core.List.{List}
 use Prim.Native.Nat.{ℕ}
 use lib.ListN.{length}
-use Rattle.text.specs.Perm.{Perm, All, Each}
-use Rattle.text.specs.Reading.{gives, run, runBlock}
-use Rattle.text.specs.ReadingMarks.{Agree}
+use Rattle.base.specs.Perm.{Perm, All, Each}
+use Rattle.base.specs.Reading.{gives, run, runBlock}
+use Rattle.base.specs.ReadingMarks.{Agree}
 use Rattle.zen.specs.Script.{Objects, script}
 use Rattle.zen.specs.Zen.{Read, packageBlock}
 use Rattle.zen.specs.Listed.{scriptMarks, packageMarks}

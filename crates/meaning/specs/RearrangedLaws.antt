@@ -5,9 +5,9 @@ use Prim.Native.Nat.{ℕ, _+_, _^_, _≤_, _<_}
 use native.Mathlib.Decide.{decLe}
 use native.Mathlib.Omega.{arith}
 use lib.ListN.{length}
-use Rattle.text.specs.Find.{flat, sum}
-use Rattle.text.specs.FindLaws.{length-flat}
-use Rattle.text.specs.Perm.{All, each-all, each-sum}
+use Rattle.base.specs.Find.{flat, sum}
+use Rattle.base.specs.FindLaws.{length-flat}
+use Rattle.base.specs.Perm.{All, each-all, each-sum}
 use Rattle.meaning.specs.Frame.{Part, Corpus}
 use Rattle.meaning.specs.Resolve.{Limits}
 use Rattle.meaning.specs.Call.{opened, answer}

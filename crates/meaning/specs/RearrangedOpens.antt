@@ -4,9 +4,9 @@ use mathlib.Core.Path.{_≡_, sym, _∙_, ap}
 use mathlib.Core.List.{List}
 use Prim.Native.Nat.{ℕ, _^_, _<_}
 use lib.ListN.{length}
-use Rattle.text.specs.Find.{flat}
-use Rattle.text.specs.Perm.{All, perm-all, perm-flat, perm-length}
-use Rattle.text.specs.Reading.{gives}
+use Rattle.base.specs.Find.{flat}
+use Rattle.base.specs.Perm.{All, perm-all, perm-flat, perm-length}
+use Rattle.base.specs.Reading.{gives}
 use Rattle.meaning.specs.Frame.{Corpus, framed}
 use Rattle.meaning.specs.Resolve.{Limits}
 use Rattle.meaning.specs.Call.{accepted, Opened, holding, opened}

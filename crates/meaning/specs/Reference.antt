@@ -4,10 +4,10 @@ use mathlib.Core.Option.{Option, none, some}
 use Prim.Native.Nat.{ℕ, zero, suc}
 use lib.ListN.{length}
 use Rattle.text.specs.Digits.{decimal, hex}
-use Rattle.text.specs.Find.{get}
+use Rattle.base.specs.Find.{get}
 use Rattle.text.specs.Id.{idOf}
-use Rattle.text.specs.Index.{kind, importName, importHash}
-use Rattle.text.specs.Literal.{quoted}
+use Rattle.base.specs.Index.{kind, importName, importHash}
+use Rattle.base.specs.Literal.{quoted}
 use Rattle.zen.specs.Zen.{Read, exportName, importedName}
 use Rattle.zen.specs.declared.tables.Export.{Export}
 use Rattle.meaning.specs.Key.{Key, public}

@@ -3,8 +3,8 @@ use mathlib.Core.Path.{_≡_, refl, sym, _∙_, ap}
 use mathlib.Core.List.{List, [], _++_}
 use Prim.Native.Nat.{ℕ}
 use lib.ListN.{length, length-append}
-use Rattle.text.specs.Find.{flat}
-use Rattle.text.specs.Perm.{Perm, All, perm-length, perm-sum, perm-all, perm-flat}
+use Rattle.base.specs.Find.{flat}
+use Rattle.base.specs.Perm.{Perm, All, perm-length, perm-sum, perm-all, perm-flat}
 use Rattle.meaning.specs.Frame.{Part, Corpus}
 use Rattle.meaning.specs.Reference.{Package}
 use Rattle.meaning.specs.Scan.{classesOf, candidates, table}

@@ -7,8 +7,8 @@ use mathlib.Core.Option.{none, some}
 use Prim.Native.Nat.{ℕ, suc, _+_}
 use native.Mathlib.Omega.{arith}
 use lib.ListN.{length}
-use Rattle.text.specs.Find.{orElse}
-use Rattle.text.specs.Never.{never}
+use Rattle.base.specs.Find.{orElse}
+use Rattle.base.specs.Never.{never}
 use Rattle.zen.specs.Script.{Objects}
 use Rattle.meaning.specs.Key.{Key, sameKey}
 use Rattle.meaning.specs.Reference.{Package}

@@ -3,11 +3,11 @@ use mathlib.Core.List.{List, [], _∷_, _++_}
 use mathlib.Core.Option.{Option, none, some}
 use Prim.Native.Nat.{ℕ, _+_}
 use lib.ListN.{length}
-use Rattle.text.specs.Find.{flat, sum}
-use Rattle.text.specs.House.{lengthFirst}
-use Rattle.text.specs.Literal.{quoted}
+use Rattle.base.specs.Find.{flat, sum}
+use Rattle.base.specs.House.{lengthFirst}
+use Rattle.base.specs.Literal.{quoted}
 use Rattle.text.specs.Name.{textBytes}
-use Rattle.text.specs.Number.{beBytes}
+use Rattle.base.specs.Number.{beBytes}
 use Rattle.text.specs.Utf8.{utf8}
 use Rattle.zen.specs.Script.{Objects}
 use Rattle.zen.specs.Zen.{exportName, packageName}

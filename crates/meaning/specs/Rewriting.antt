@@ -4,9 +4,9 @@ use mathlib.Core.Path.{_≡_, refl, sym}
 use mathlib.Core.List.{List, [], _∷_}
 use Prim.Native.Nat.{ℕ, _+_}
 use lib.ListN.{length}
-use Rattle.text.specs.Perm.{Each, each-weaken}
-use Rattle.text.specs.Reading.{run, runBlock}
-use Rattle.text.specs.ReadingMarks.{Agree, marks, marksBlock, agree-length}
+use Rattle.base.specs.Perm.{Each, each-weaken}
+use Rattle.base.specs.Reading.{run, runBlock}
+use Rattle.base.specs.ReadingMarks.{Agree, marks, marksBlock, agree-length}
 use Rattle.zen.specs.Script.{script}
 use Rattle.zen.specs.Zen.{packageBlock}
 use Rattle.zen.specs.PassedOver as Passed

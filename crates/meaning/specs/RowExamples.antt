@@ -4,9 +4,9 @@ use mathlib.Core.Path.{_≡_, refl}
 use mathlib.Core.List.{List, [], _∷_}
 use Prim.Native.Nat.{ℕ}
 use Prim.Native.String.{String}
-use Rattle.text.specs.House.{lengthFirst}
+use Rattle.base.specs.House.{lengthFirst}
 use Rattle.text.specs.Id.{idOf}
-use Rattle.text.specs.Literal.{quoted as text}
+use Rattle.base.specs.Literal.{quoted as text}
 use Rattle.zen.specs.Written.{scriptIndex, importIndex, nullIndex, object, scriptBytes, packageBytes}
 use Rattle.zen.specs.declared.tables.Export.{Export}
 use Rattle.meaning.specs.Frame.{Part}

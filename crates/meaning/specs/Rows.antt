@@ -9,13 +9,13 @@ use mathlib.Core.Option.{Option, none, some}
 use Prim.Native.Nat.{ℕ}
 use native.Mathlib.Omega.{arith}
 use lib.ListN.{length}
-use Rattle.text.specs.Find.{flat}
-use Rattle.text.specs.FindLaws.{flat-member}
-use Rattle.text.specs.Literal.{quoted}
+use Rattle.base.specs.Find.{flat}
+use Rattle.base.specs.FindLaws.{flat-member}
+use Rattle.base.specs.Literal.{quoted}
 use Rattle.text.specs.Name.{textBytes}
-use Rattle.text.specs.Number.{beBytes}
-use Rattle.text.specs.Perm.{All, all-member}
-use Rattle.text.specs.Reading.{gives, runBlock}
+use Rattle.base.specs.Number.{beBytes}
+use Rattle.base.specs.Perm.{All, all-member}
+use Rattle.base.specs.Reading.{gives, runBlock}
 use Rattle.zen.specs.Script.{Objects}
 use Rattle.zen.specs.ScriptGood.{Good, script-good}
 use Rattle.zen.specs.Zen.{Read, packageBlock, packageName}

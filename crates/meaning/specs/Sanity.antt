@@ -9,10 +9,10 @@ use borrow.Author.Tests.{eq-eqb}
 use lib.Dec.{T, eqb}
 use Rattle.text.specs.Affix.{endsWith}
 use Rattle.text.specs.AffixLaws.{rendered-ends}
-use Rattle.text.specs.Find.{option, kept}
-use Rattle.text.specs.FindLaws.{find-none, flat-some}
-use Rattle.text.specs.Index.{kind}
-use Rattle.text.specs.Literal.{quoted}
+use Rattle.base.specs.Find.{option, kept}
+use Rattle.base.specs.FindLaws.{find-none, flat-some}
+use Rattle.base.specs.Index.{kind}
+use Rattle.base.specs.Literal.{quoted}
 use Rattle.zen.specs.Script.{Objects}
 use Rattle.zen.specs.Zen.{Read, baseOf, exportName}
 use Rattle.zen.specs.declared.script.Layout.{Layout}

@@ -6,9 +6,9 @@ use Prim.Native.Nat.{ℕ, zero, suc, _+_, _-_}
 use lib.Dec.{eqb}
 use lib.ListN.{length, take}
 use Rattle.text.specs.Affix.{startsWith, endsWith}
-use Rattle.text.specs.Find.{get, option, kept, filter, flat}
-use Rattle.text.specs.Index.{kind}
-use Rattle.text.specs.Literal.{quoted}
+use Rattle.base.specs.Find.{get, option, kept, filter, flat}
+use Rattle.base.specs.Index.{kind}
+use Rattle.base.specs.Literal.{quoted}
 use Rattle.text.specs.Name.{suffix}
 use Rattle.zen.specs.Script.{Objects}
 use Rattle.zen.specs.Zen.{Read, baseOf, exportName, packageName}

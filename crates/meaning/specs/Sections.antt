@@ -6,12 +6,12 @@ use mathlib.Core.Option.{Option}
 use Prim.Native.Nat.{ℕ, suc, _+_}
 use native.Mathlib.Omega.{arith}
 use lib.ListN.{length, length-append}
-use Rattle.text.specs.Find.{flat}
-use Rattle.text.specs.House.{lengthFirst}
-use Rattle.text.specs.Number.{beBytes}
-use Rattle.text.specs.NumberLaws.{length-beBytes}
-use Rattle.text.specs.Perm.{All}
-use Rattle.text.specs.Reading.{runBlock}
+use Rattle.base.specs.Find.{flat}
+use Rattle.base.specs.House.{lengthFirst}
+use Rattle.base.specs.Number.{beBytes}
+use Rattle.base.specs.NumberLaws.{length-beBytes}
+use Rattle.base.specs.Perm.{All}
+use Rattle.base.specs.Reading.{runBlock}
 use Rattle.zen.specs.Zen.{packageBlock}
 use Rattle.meaning.specs.Frame.{Part, Corpus}
 use Rattle.meaning.specs.Key.{Key}

@@ -10,10 +10,10 @@ use borrow.Author.Tests.{ltb-true}
 use lib.Dec.{T, ltb}
 use lib.ListN.{length, take, getD, replicate, length-replicate}
 use lib.Seq.{length-take-le}
-use Rattle.text.specs.Answer.{isRefusal}
-use Rattle.text.specs.House.{longestOutput}
-use Rattle.text.specs.Never.{never}
-use Rattle.text.specs.NumberLaws.{Bytes}
+use Rattle.base.specs.Answer.{isRefusal}
+use Rattle.base.specs.House.{longestOutput}
+use Rattle.base.specs.Never.{never}
+use Rattle.base.specs.NumberLaws.{Bytes}
 use Rattle.zen.specs.Refusals.{script-refusal, package-refusal}
 use Rattle.meaning.specs.Resolve.{Limits}
 use Rattle.meaning.specs.Report.{reportOf}

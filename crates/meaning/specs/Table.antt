@@ -5,9 +5,9 @@ use mathlib.Core.List.{List, [], _∷_, map, map-append}
 use mathlib.Core.Option.{Option}
 use Prim.Native.Nat.{ℕ, _+_}
 use lib.Dec.{T}
-use Rattle.text.specs.Find.{orElse}
-use Rattle.text.specs.Never.{never}
-use Rattle.text.specs.Perm.{Perm, same, keep, swap, then}
+use Rattle.base.specs.Find.{orElse}
+use Rattle.base.specs.Never.{never}
+use Rattle.base.specs.Perm.{Perm, same, keep, swap, then}
 use Rattle.zen.specs.Script.{Objects}
 use Rattle.meaning.specs.Key.{Key, sameKey}
 use Rattle.meaning.specs.KeyLaws.{sameKey→eq, sameKey-refl, sameKey-sym}

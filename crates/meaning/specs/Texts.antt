@@ -14,17 +14,17 @@ use lib.ListN.{length, take, getD, List·getD-eq-default}
 use Rattle.text.specs.Affix.{allAscii}
 use Rattle.text.specs.Digits.{decimal, hex}
 use Rattle.text.specs.DigitsLaws.{decimal-ascii, hex-ascii}
-use Rattle.text.specs.Find.{get, option, kept, flat}
-use Rattle.text.specs.FindLaws.{find-some, flat-member, flat-some}
-use Rattle.text.specs.House.{lengthFirst}
-use Rattle.text.specs.Index.{kind, importName, importHash}
-use Rattle.text.specs.Literal.{quoted}
+use Rattle.base.specs.Find.{get, option, kept, flat}
+use Rattle.base.specs.FindLaws.{find-some, flat-member, flat-some}
+use Rattle.base.specs.House.{lengthFirst}
+use Rattle.base.specs.Index.{kind, importName, importHash}
+use Rattle.base.specs.Literal.{quoted}
 use Rattle.text.specs.Name.{suffix}
 use Rattle.text.specs.NameLaws.{suffix-ascii}
-use Rattle.text.specs.Number.{beBytes}
-use Rattle.text.specs.NumberLaws.{Bytes}
-use Rattle.text.specs.Perm.{All}
-use Rattle.text.specs.Reading.{gives, run, runBlock}
+use Rattle.base.specs.Number.{beBytes}
+use Rattle.base.specs.NumberLaws.{Bytes}
+use Rattle.base.specs.Perm.{All}
+use Rattle.base.specs.Reading.{gives, run, runBlock}
 use Rattle.text.specs.Utf16.{Scalars}
 use Rattle.zen.specs.Answers.{answer}
 use Rattle.zen.specs.PackageFacts.{PackageFacts, read-facts}

@@ -5,11 +5,11 @@ use mathlib.Core.Option.{Option}
 use Prim.Native.Nat.{ℕ}
 use lib.Dec.{leb, eqb}
 use lib.ListN.{length}
-use Rattle.text.specs.Find.{option, sum}
-use Rattle.text.specs.House.{lengthFirst, longestOutput}
+use Rattle.base.specs.Find.{option, sum}
+use Rattle.base.specs.House.{lengthFirst, longestOutput}
 use Rattle.text.specs.Id.{idOf}
-use Rattle.text.specs.Index.{value}
-use Rattle.text.specs.Number.{beBytes}
+use Rattle.base.specs.Index.{value}
+use Rattle.base.specs.Number.{beBytes}
 use Rattle.zen.specs.Script.{Objects}
 use Rattle.zen.specs.Zen.{packageName}
 use Rattle.zen.specs.declared.script.Entry.{Entry}

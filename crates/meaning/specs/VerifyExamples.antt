@@ -5,8 +5,8 @@ use mathlib.Core.List.{List, [], _∷_, _++_}
 use Prim.Native.Nat.{ℕ}
 use lib.ListN.{replicate}
 use Rattle.text.specs.Id.{idOf}
-use Rattle.text.specs.Literal.{quoted as text}
-use Rattle.text.specs.Output.{over}
+use Rattle.base.specs.Literal.{quoted as text}
+use Rattle.base.specs.Output.{over}
 use Rattle.zen.specs.Written.{scriptIndex, nullIndex, object, scriptBytes, packageBytes}
 use Rattle.meaning.specs.Frame.{Part}
 use Rattle.meaning.specs.Call.{refusedIn, accepted, bufferAfter}

@@ -9,12 +9,12 @@ use borrow.Author.Tests.{le-leb}
 use lib.Dec.{leb}
 use lib.ListN.{length, take, drop, length-append}
 use lib.Seq.{take-at, drop-at, drop-drop}
-use Rattle.text.specs.Find.{flat}
-use Rattle.text.specs.House.{lengthFirst, longestOutput}
-use Rattle.text.specs.HouseLaws.{length-first, first-is}
-use Rattle.text.specs.Number.{be, beBytes}
-use Rattle.text.specs.NumberLaws.{Bytes, length-beBytes, be-beBytes}
-use Rattle.text.specs.Reading.{gives, run}
+use Rattle.base.specs.Find.{flat}
+use Rattle.base.specs.House.{lengthFirst, longestOutput}
+use Rattle.base.specs.HouseLaws.{length-first, first-is}
+use Rattle.base.specs.Number.{be, beBytes}
+use Rattle.base.specs.NumberLaws.{Bytes, length-beBytes, be-beBytes}
+use Rattle.base.specs.Reading.{gives, run}
 use Rattle.zen.specs.Script.{Objects, script}
 use Rattle.zen.specs.ScriptAccepted.{answer-of}
 use Rattle.zen.specs.ScriptFacts.{objects-facts}

@@ -9,10 +9,10 @@ use native.Mathlib.Numerals.{add-one}
 use native.Mathlib.Omega.{arith}
 use lib.ListN.{length, take, getD, length-append, length-map}
 use lib.Seq.{take-suc, take-length}
-use Rattle.text.specs.Find.{sum}
-use Rattle.text.specs.HouseLaws.{length-first}
-use Rattle.text.specs.LoopLaws.{sum-take}
-use Rattle.text.specs.NumberLaws.{length-beBytes}
+use Rattle.base.specs.Find.{sum}
+use Rattle.base.specs.HouseLaws.{length-first}
+use Rattle.base.specs.LoopLaws.{sum-take}
+use Rattle.base.specs.NumberLaws.{length-beBytes}
 use Rattle.zen.specs.Script.{Objects}
 use Rattle.zen.specs.ScriptAnswers.{noEntry}
 use Rattle.zen.specs.declared.script.Entry.{Entry}

@@ -10,8 +10,8 @@ use Prim.Native.Nat.{ℕ, _≤_}
 use native.Mathlib.Omega.{arith}
 use borrow.Author.Tests.{eq-eqb, ne-eqb, eqb-true, eqb-false}
 use lib.ListN.{length}
-use Rattle.text.specs.Index.{value}
-use Rattle.text.specs.Never.{never}
+use Rattle.base.specs.Index.{value}
+use Rattle.base.specs.Never.{never}
 use Rattle.zen.specs.Script.{Objects, objectName}
 use Rattle.zen.specs.ScriptGood.{Good}
 use Rattle.zen.specs.declared.script.Entry.{Entry}

@@ -6,11 +6,11 @@ use mathlib.Core.List.{List, [], _∷_, _++_, map, append-assoc}
 use Prim.Native.Nat.{ℕ, suc, _+_}
 use native.Mathlib.Omega.{arith}
 use lib.ListN.{length, length-append, length-map}
-use Rattle.text.specs.Find.{flat}
-use Rattle.text.specs.Number.{beBytes}
-use Rattle.text.specs.NumberLaws.{length-beBytes}
-use Rattle.text.specs.Perm.{All, perm-all, perm-length, each-map}
-use Rattle.text.specs.Reading.{Out, refused, gives, runBlock}
+use Rattle.base.specs.Find.{flat}
+use Rattle.base.specs.Number.{beBytes}
+use Rattle.base.specs.NumberLaws.{length-beBytes}
+use Rattle.base.specs.Perm.{All, perm-all, perm-length, each-map}
+use Rattle.base.specs.Reading.{Out, refused, gives, runBlock}
 use Rattle.zen.specs.Script.{Objects}
 use Rattle.zen.specs.Zen.{Read, packageBlock}
 use Rattle.meaning.specs.Frame.{Part, Corpus}

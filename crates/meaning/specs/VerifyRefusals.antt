@@ -8,8 +8,8 @@ use Prim.Native.Nat.{ℕ, _+_, _≤_, _<_}
 use native.Mathlib.Omega.{arith}
 use borrow.Author.Tests.{le-leb, lt-leb, leb-false}
 use lib.ListN.{length}
-use Rattle.text.specs.Never.{never}
-use Rattle.text.specs.NumberLaws.{Bytes}
+use Rattle.base.specs.Never.{never}
+use Rattle.base.specs.NumberLaws.{Bytes}
 use Rattle.zen.specs.Refusals.{script-refusal, package-refusal}
 use Rattle.meaning.specs.Resolve.{Limits}
 use Rattle.meaning.specs.Call.{refusedIn, accepted, need, Opened, opened, answer, limits}

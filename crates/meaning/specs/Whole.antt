@@ -5,14 +5,14 @@ use mathlib.Core.List.{List, [], _∷_, _++_, append-assoc, List·Memᴰ}
 use mathlib.Core.Option.{some}
 use Prim.Native.Nat.{ℕ}
 use lib.ListN.{length}
-use Rattle.text.specs.Find.{get, flat}
-use Rattle.text.specs.FindLaws.{flat-member}
-use Rattle.text.specs.House.{lengthFirst}
+use Rattle.base.specs.Find.{get, flat}
+use Rattle.base.specs.FindLaws.{flat-member}
+use Rattle.base.specs.House.{lengthFirst}
 use Rattle.text.specs.Id.{idOf}
-use Rattle.text.specs.Index.{kind, importName, importHash}
-use Rattle.text.specs.Number.{beBytes}
-use Rattle.text.specs.Perm.{All, Each}
-use Rattle.text.specs.Reading.{gives, runBlock}
+use Rattle.base.specs.Index.{kind, importName, importHash}
+use Rattle.base.specs.Number.{beBytes}
+use Rattle.base.specs.Perm.{All, Each}
+use Rattle.base.specs.Reading.{gives, runBlock}
 use Rattle.zen.specs.Zen.{packageBlock, importedName}
 use Rattle.zen.specs.declared.tables.Export.{Export}
 use Rattle.meaning.specs.Frame.{Part}

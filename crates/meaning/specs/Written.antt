@@ -3,10 +3,10 @@ use mathlib.Core.List.{List, [], _∷_, _++_}
 use Prim.Native.Nat.{ℕ, _-_, _*_}
 use Prim.Native.String.{String}
 use lib.ListN.{length, take, drop}
-use Rattle.text.specs.Find.{flat}
-use Rattle.text.specs.House.{lengthFirst}
-use Rattle.text.specs.Literal.{quoted as text}
-use Rattle.text.specs.Number.{beBytes}
+use Rattle.base.specs.Find.{flat}
+use Rattle.base.specs.House.{lengthFirst}
+use Rattle.base.specs.Literal.{quoted as text}
+use Rattle.base.specs.Number.{beBytes}
 use Rattle.zen.specs.Written.{le4}
 use Rattle.meaning.specs.Frame.{Part}
 use Rattle.meaning.specs.Report.{reportVersion}

@@ -5,9 +5,9 @@ use mathlib.Core.List.{List}
 use Prim.Native.Nat.{ℕ, _+_, _-_, _*_, _^_, _≤_, _<_}
 use native.Mathlib.Omega.{arith}
 use lib.ListN.{length}
-use Rattle.text.specs.Never.{never}
-use Rattle.text.specs.NumberLaws.{Bytes, leAt-lt}
-use Rattle.text.specs.Reading.{Got, bad, got, walk}
+use Rattle.base.specs.Never.{never}
+use Rattle.base.specs.NumberLaws.{Bytes, leAt-lt}
+use Rattle.base.specs.Reading.{Got, bad, got, walk}
 use Rattle.text.specs.Utf8.{utf8}
 use Rattle.zen.specs.Script.{Start, opening}
 use Rattle.zen.specs.ScriptAnswers.{openedBy, opened, entryAt, freshAt}

@@ -6,8 +6,8 @@ use Prim.Native.Nat.{ℕ, _+_, _*_, _/_, _^_, _<_}
 use native.Mathlib.Decide.{ℕ-discrete}
 use native.Mathlib.Omega.{arith}
 use lib.ListN.{length}
-use Rattle.text.specs.Number.{leAt}
-use Rattle.text.specs.Reading.{gives, run}
+use Rattle.base.specs.Number.{leAt}
+use Rattle.base.specs.Reading.{gives, run}
 use Rattle.zen.specs.Script.{Objects, script}
 use Rattle.zen.specs.ScriptAnswers.{entryAt, scriptAnswer}
 use Rattle.zen.specs.ScriptAccepted.{script-parts, accepted-objects, answer-of}

@@ -9,8 +9,8 @@ use native.Mathlib.Numerals.{add-one}
 use borrow.Author.Tests.{eqb-true, eqb-false, ne-eqb}
 use lib.Dec.{eqb}
 use lib.ListN.{length, getD}
-use Rattle.text.specs.Find.{find}
-use Rattle.text.specs.Index.{kind}
+use Rattle.base.specs.Find.{find}
+use Rattle.base.specs.Index.{kind}
 use Rattle.zen.specs.Script.{Objects, objectName}
 use Rattle.zen.specs.ScriptAnswers.{noEntry}
 use Rattle.zen.specs.ScriptGood.{Good}

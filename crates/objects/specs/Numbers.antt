@@ -6,7 +6,7 @@ use mathlib.Core.Option.{Option, none, some}
 use Prim.Native.Nat.{ℕ, zero, suc}
 use lib.Dec.{eqb}
 use lib.ListN.{getD}
-use Rattle.text.specs.Index.{kind}
+use Rattle.base.specs.Index.{kind}
 use Rattle.zen.specs.Script.{Objects, objectName}
 use Rattle.zen.specs.ScriptAnswers.{noEntry}
 use Rattle.zen.specs.declared.script.Entry.{Entry}

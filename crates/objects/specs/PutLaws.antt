@@ -5,8 +5,8 @@ use mathlib.Core.Option.{none, some}
 use Prim.Native.Nat.{ℕ, _+_, _-_, _*_, _≤_, _<_}
 use native.Mathlib.Omega.{arith}
 use lib.ListN.{length, take, drop}
-use Rattle.text.specs.NumberLaws.{Bytes}
-use Rattle.text.specs.Output.{Wrote}
+use Rattle.base.specs.NumberLaws.{Bytes}
+use Rattle.base.specs.Output.{Wrote}
 use Rattle.text.specs.Utf8.{utf8}
 use Rattle.zen.specs.Script.{Objects, objectName}
 use Rattle.zen.specs.Places.{placeAt}

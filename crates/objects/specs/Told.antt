@@ -4,7 +4,7 @@ use mathlib.Core.List.{List, []}
 use mathlib.Core.Option.{Option, none, some}
 use Prim.Native.Nat.{ℕ, _≤_}
 use lib.ListN.{length}
-use Rattle.text.specs.Output.{over}
+use Rattle.base.specs.Output.{over}
 use Rattle.text.specs.Utf8.{utf8}
 use Rattle.zen.specs.Script.{Objects}
 use Rattle.meaning.specs.Path.{Path}

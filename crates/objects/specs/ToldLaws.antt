@@ -5,11 +5,11 @@ use mathlib.Core.Option.{Option, none, some}
 use Prim.Native.Nat.{ℕ, zero, suc, _+_, _-_, _*_, _/_, _≤_, _<_}
 use native.Mathlib.Omega.{arith}
 use lib.ListN.{length, take, drop, set, length-append}
-use Rattle.text.specs.Never.{never}
-use Rattle.text.specs.FindLaws.{none-some}
-use Rattle.text.specs.Number.{leAt}
-use Rattle.text.specs.Output.{over, Wrote}
-use Rattle.text.specs.OutputLaws.{wrote-none, wrote-byte, wrote-rest, wrote-room, wrote-as, next-room}
+use Rattle.base.specs.Never.{never}
+use Rattle.base.specs.FindLaws.{none-some}
+use Rattle.base.specs.Number.{leAt}
+use Rattle.base.specs.Output.{over, Wrote}
+use Rattle.base.specs.OutputLaws.{wrote-none, wrote-byte, wrote-rest, wrote-room, wrote-as, next-room}
 use Rattle.text.specs.Utf8.{utf8One, utf8}
 use Rattle.text.specs.Utf8Laws.{utf8-append}
 use Rattle.zen.specs.Script.{Objects, objectName}

@@ -8,8 +8,8 @@ use mathlib.Core.List.{List}
 use Prim.Native.Nat.{ℕ, _+_, _*_, _/_, _%_, _^_, _<_}
 use lib.Dec.{eqb}
 use lib.ListN.{length}
-use Rattle.text.specs.Number.{leAt}
-use Rattle.text.specs.Reading.{gives, run}
+use Rattle.base.specs.Number.{leAt}
+use Rattle.base.specs.Reading.{gives, run}
 use Rattle.text.specs.Utf8.{utf8}
 use Rattle.zen.specs.Script.{Objects, script}
 use Rattle.zen.specs.ScriptFaults.{entryOf}

@@ -3,7 +3,7 @@ ghost use mathlib.Core.List.{List, [], _∷_, _++_};
 ghost use mathlib.Core.Path.{_≡_};
 ghost use Prim.Native.Nat.{ℕ, _*_, _^_, _≤_, _<_};
 ghost use lib.ListN.{length};
-ghost use Rattle.text.specs.Output.{Wrote};
+ghost use Rattle.base.specs.Output.{Wrote};
 ghost use Rattle.text.specs.Utf8.{utf8};
 ghost use Rattle.zen.specs.Holds.{textAt, nameAt, Holds};
 ghost use Rattle.zen.specs.Script.{Objects};

@@ -5,9 +5,9 @@ use mathlib.Core.List.{List, [], _++_, append-assoc, append-nil}
 use Prim.Native.Nat.{ℕ, _<_}
 use lib.ListN.{length, getD}
 use Rattle.text.specs.Affix.{allAscii}
-use Rattle.text.specs.Choose.{pick}
-use Rattle.text.specs.Literal.{quoted}
-use Rattle.text.specs.NumberLaws.{Bytes}
+use Rattle.base.specs.Choose.{pick}
+use Rattle.base.specs.Literal.{quoted}
+use Rattle.base.specs.NumberLaws.{Bytes}
 use Rattle.text.specs.Utf8.{utf8}
 use Rattle.text.specs.Utf8Laws.{utf8-append, utf8-ascii}
 use Rattle.zen.specs.Holds.{Holds, holds-own}

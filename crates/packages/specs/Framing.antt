@@ -5,10 +5,10 @@ use mathlib.Core.List.{List, [], _∷_}
 use Prim.Native.Nat.{ℕ, zero, suc, _+_, _*_}
 use lib.Dec.{leb, eqb}
 use lib.ListN.{length, take, drop}
-use Rattle.text.specs.House.{beNumber}
-use Rattle.text.specs.Number.{beAt}
-use Rattle.text.specs.Reading.{Out, refused, gives, walk, _>>=_}
-use Rattle.text.specs.ReadingLaws.{out}
+use Rattle.base.specs.House.{beNumber}
+use Rattle.base.specs.Number.{beAt}
+use Rattle.base.specs.Reading.{Out, refused, gives, walk, _>>=_}
+use Rattle.base.specs.ReadingLaws.{out}
 use Rattle.meaning.specs.Frame.{Part, Corpus, frameAnswer}
 use Rattle.meaning.specs.BytesLaws.{sized}
 use Rattle.packages.specs.declared.frame.Frame.{Frame}

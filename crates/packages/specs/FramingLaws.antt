@@ -9,14 +9,14 @@ use borrow.Author.Tests.{le-leb, lt-leb, leb-true, eqb-true, eq-eqb, ne-eqb}
 use lib.Dec.{leb, eqb}
 use lib.ListN.{length, take, drop, getD, length-take, length-drop}
 use lib.Seq.{length-take-le}
-use Rattle.text.specs.Choose.{pick}
-use Rattle.text.specs.House.{beNumber}
-use Rattle.text.specs.Never.{never}
-use Rattle.text.specs.Number.{beAt}
-use Rattle.text.specs.NumberLaws.{beAt-one}
-use Rattle.text.specs.Reading.{Out, refused, gives, Got, bad, got, Reading, run, walk, _>>=_, _>>_, taken, bytesLeft, ask, rows}
-use Rattle.text.specs.ReadingLaws.{out, chain, walk-bind, run-walk, pick-cong, pick-by, ask-is}
-use Rattle.text.specs.ReadingRows.{mapGot, map-pick, rows-zero, rows-suc}
+use Rattle.base.specs.Choose.{pick}
+use Rattle.base.specs.House.{beNumber}
+use Rattle.base.specs.Never.{never}
+use Rattle.base.specs.Number.{beAt}
+use Rattle.base.specs.NumberLaws.{beAt-one}
+use Rattle.base.specs.Reading.{Out, refused, gives, Got, bad, got, Reading, run, walk, _>>=_, _>>_, taken, bytesLeft, ask, rows}
+use Rattle.base.specs.ReadingLaws.{out, chain, walk-bind, run-walk, pick-cong, pick-by, ask-is}
+use Rattle.base.specs.ReadingRows.{mapGot, map-pick, rows-zero, rows-suc}
 use Rattle.meaning.specs.Frame.{Part, Corpus, corpusVersion, part, packages, frame, frameAnswer, framed}
 use Rattle.meaning.specs.BytesLaws.{ended, sized, versioned, begun, frame-is}
 use Rattle.packages.specs.Framing.{partAt, nextAt, partsAt, inside, packageEnd, packagesEnd, frameOf, framedAs, partsAnswer}

@@ -2,7 +2,7 @@
 use mathlib.Core.Bool.{Bool, cond, _&&_}
 use Prim.Native.Nat.{ℕ, zero, suc}
 use lib.Dec.{ltb, eqb}
-use Rattle.text.specs.Index.{kind, importName, importHash}
+use Rattle.base.specs.Index.{kind, importName, importHash}
 use Rattle.meaning.specs.Key.{Key, public}
 use Rattle.meaning.specs.Reference.{Ref, script, import, export, null, bad}
 use Rattle.packages.specs.declared.package.Parts.{Parts}

@@ -10,10 +10,10 @@ use native.Mathlib.Decide.{ℕ-discrete}
 use borrow.Author.Tests.{ltb-true, ltb-false, eqb-true, eqb-false, lt-ltb, le-ltb, eq-eqb, ne-eqb}
 use lib.Dec.{ltb, eqb}
 use lib.ListN.{length, getD}
-use Rattle.text.specs.Find.{get}
+use Rattle.base.specs.Find.{get}
 use Rattle.text.specs.Id.{idOf}
-use Rattle.text.specs.Index.{kind, importName, importHash}
-use Rattle.text.specs.Never.{never}
+use Rattle.base.specs.Index.{kind, importName, importHash}
+use Rattle.base.specs.Never.{never}
 use Rattle.zen.specs.Zen.{noExport, exportName, importedName}
 use Rattle.zen.specs.declared.tables.Export.{Export}
 use Rattle.meaning.specs.Key.{Key, public}

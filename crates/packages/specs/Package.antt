@@ -3,7 +3,7 @@ use mathlib.Core.Path.{_≡_}
 use mathlib.Core.List.{List, []}
 use Prim.Native.Nat.{ℕ}
 use lib.ListN.{length}
-use Rattle.text.specs.Reading.{Out, refused, gives, runBlock}
+use Rattle.base.specs.Reading.{Out, refused, gives, runBlock}
 use Rattle.zen.specs.Answers.{exportCount, hashCount}
 use Rattle.zen.specs.Zen.{Read, packageBlock}
 use Rattle.zen.specs.declared.names.Names.{Names}

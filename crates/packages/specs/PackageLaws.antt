@@ -5,9 +5,9 @@ use Prim.Native.Nat.{ℕ, _+_, _*_, _^_, _≤_, _<_}
 use native.Mathlib.Omega.{arith}
 use lib.ListN.{length, take, getD}
 use lib.Seq.{length-take-le}
-use Rattle.text.specs.Number.{leAt}
-use Rattle.text.specs.NumberLaws.{Bytes}
-use Rattle.text.specs.Reading.{gives, runBlock}
+use Rattle.base.specs.Number.{leAt}
+use Rattle.base.specs.NumberLaws.{Bytes}
+use Rattle.base.specs.Reading.{gives, runBlock}
 use Rattle.zen.specs.Accepted.{Parts as Zen, read-parts, hash-there, hash-is, export-there, export-is, number-there, number-is}
 use Rattle.zen.specs.Answers.{answer, exportsOf, hashesOf}
 use Rattle.zen.specs.AnswersLaws.{accepted-got}

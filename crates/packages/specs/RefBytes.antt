@@ -5,8 +5,8 @@ use Prim.Native.Nat.{ℕ}
 use lib.Dec.{eqb}
 use lib.ListN.{getD}
 use Rattle.text.specs.Digits.{decimal, hex}
-use Rattle.text.specs.Index.{kind, importName, importHash}
-use Rattle.text.specs.Literal.{quoted}
+use Rattle.base.specs.Index.{kind, importName, importHash}
+use Rattle.base.specs.Literal.{quoted}
 use Rattle.text.specs.Utf8.{utf8}
 use Rattle.zen.specs.Zen.{Read, noExport, exportName, importedName}
 use Rattle.meaning.specs.Reference.{refIn, refText}

@@ -10,9 +10,9 @@ use lib.ListN.{length, getD}
 use Rattle.text.specs.Affix.{allAscii}
 use Rattle.text.specs.Digits.{decimal, hex}
 use Rattle.text.specs.DigitsLaws.{ascii-append, decimal-ascii, hex-ascii}
-use Rattle.text.specs.Find.{get}
-use Rattle.text.specs.Index.{kind, importName, importHash}
-use Rattle.text.specs.Literal.{quoted}
+use Rattle.base.specs.Find.{get}
+use Rattle.base.specs.Index.{kind, importName, importHash}
+use Rattle.base.specs.Literal.{quoted}
 use Rattle.text.specs.Utf8.{utf8}
 use Rattle.text.specs.Utf8Laws.{utf8-append, utf8-ascii}
 use Rattle.zen.specs.Zen.{Read, noExport, exportName, importedName}

@@ -9,8 +9,8 @@ use lib.Dec.{ltb, eqb}
 use lib.ListN.{length, take, getD}
 use Rattle.text.specs.Affix.{endsWith}
 use Rattle.text.specs.AffixLaws.{unitSize}
-use Rattle.text.specs.Choose.{pick}
-use Rattle.text.specs.Index.{kind}
+use Rattle.base.specs.Choose.{pick}
+use Rattle.base.specs.Index.{kind}
 use Rattle.text.specs.Name.{suffix, textBytes}
 use Rattle.text.specs.Utf8.{utf8}
 use Rattle.zen.specs.Holds.{Holds, textAt, nameAt}

@@ -11,11 +11,11 @@ use lib.ListN.{length, take, drop, getD, length-append, length-take, length-drop
 use lib.Seq.{length-take-le, take-take}
 use Rattle.text.specs.Affix.{startsWith, endsWith, allAscii}
 use Rattle.text.specs.AffixLaws.{unitSize, ends-true, base-rest}
-use Rattle.text.specs.Find.{get, option}
-use Rattle.text.specs.Index.{kind}
+use Rattle.base.specs.Find.{get, option}
+use Rattle.base.specs.Index.{kind}
 use Rattle.text.specs.Name.{decoded, base, suffix, textBytes}
-use Rattle.text.specs.Never.{never}
-use Rattle.text.specs.NumberLaws.{Bytes, bytes-part}
+use Rattle.base.specs.Never.{never}
+use Rattle.base.specs.NumberLaws.{Bytes, bytes-part}
 use Rattle.text.specs.Units.{unitsOf}
 use Rattle.text.specs.UnitsLaws.{base-length, unitsOf-narrow, unitsOf-length}
 use Rattle.text.specs.Utf8.{utf8}

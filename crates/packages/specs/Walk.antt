@@ -3,8 +3,8 @@ use mathlib.Core.Path.{_≡_}
 use mathlib.Core.List.{List, [], _∷_, _++_}
 use Prim.Native.Nat.{ℕ, zero, suc, _+_, _^_, _≤_, _<_}
 use lib.ListN.{length, take, drop}
-use Rattle.text.specs.Number.{beAt}
-use Rattle.text.specs.Reading.{gives, runBlock}
+use Rattle.base.specs.Number.{beAt}
+use Rattle.base.specs.Reading.{gives, runBlock}
 use Rattle.zen.specs.Zen.{packageBlock}
 use Rattle.meaning.specs.Reference.{Package}
 use Rattle.packages.specs.Framing.{nextAt}

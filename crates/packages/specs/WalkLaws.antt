@@ -7,9 +7,9 @@ use native.Mathlib.Numerals.{add-one}
 use native.Mathlib.Omega.{arith}
 use lib.ListN.{length, take, drop, getD, length-append, length-drop, List·getD-append}
 use lib.Seq.{length-take-le, getD-at}
-use Rattle.text.specs.Number.{beAt}
-use Rattle.text.specs.NumberLaws.{Bytes, bytes-part, beAt-lt}
-use Rattle.text.specs.Reading.{refused, gives, runBlock}
+use Rattle.base.specs.Number.{beAt}
+use Rattle.base.specs.NumberLaws.{Bytes, bytes-part, beAt-lt}
+use Rattle.base.specs.Reading.{refused, gives, runBlock}
 use Rattle.zen.specs.Answers.{answer}
 use Rattle.zen.specs.AnswersLaws.{accepted-got}
 use Rattle.zen.specs.Zen.{Read, packageBlock}

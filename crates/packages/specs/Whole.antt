@@ -8,8 +8,8 @@ use native.Mathlib.Omega.{arith}
 use lib.ListN.{length, take, drop, getD}
 use lib.Seq.{length-take-le, take-take, getD-take}
 use Rattle.text.specs.Name.{decoded}
-use Rattle.text.specs.Number.{leAt}
-use Rattle.text.specs.NumberLaws.{leAt-part, drop-take}
+use Rattle.base.specs.Number.{leAt}
+use Rattle.base.specs.NumberLaws.{leAt-part, drop-take}
 use Rattle.text.specs.Utf16.{isWell}
 use Rattle.zen.specs.Batch.{headAt}
 use Rattle.zen.specs.Field.{low30}

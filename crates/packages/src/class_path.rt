@@ -2,7 +2,7 @@
 ghost use mathlib.Core.Path.{_≡_};
 ghost use Prim.Native.Nat.{_≤_};
 ghost use lib.ListN.{length};
-ghost use Rattle.text.specs.Output.{Wrote};
+ghost use Rattle.base.specs.Output.{Wrote};
 ghost use Rattle.zen.specs.Holds.{Holds};
 ghost use Rattle.packages.specs.ClassPath.{pathBytes};
 ghost use Rattle.packages.specs.Row.{baseAt, RowHolds};

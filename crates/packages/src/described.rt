@@ -68,6 +68,6 @@ pub fn home_from(b: &[u8], p: Parts, start: usize) -> Name
     let place = place_from(b, p, u30_le(b, 8), start);
     Name {
         place,
-        number: text::number::le32(b, 12),
+        number: base::number::le32(b, 12),
     }
 }

@@ -2,12 +2,12 @@
 ghost use mathlib.Core.Path.{_≡_};
 ghost use Prim.Native.Nat.{_+_, _≤_, _<_};
 ghost use lib.ListN.{length};
-ghost use Rattle.text.specs.Number.{beAt};
+ghost use Rattle.base.specs.Number.{beAt};
 ghost use Rattle.meaning.specs.Frame.{framed};
 ghost use Rattle.packages.specs.Framing.{packageEnd, packagesEnd, nextAt, partsAnswer, framedAs};
 ghost use Rattle.packages.specs.Walk.{blockAt};
-use text::number::be32;
-use text::number::be64;
+use base::number::be32;
+use base::number::be64;
 
 // Where the script block ends, which starts at 9; the package count stands there, the first package behind it.
 pub struct Frame {

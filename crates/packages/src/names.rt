@@ -4,11 +4,11 @@ ghost use mathlib.Core.List.{_++_};
 ghost use Prim.Native.Nat.{_≤_};
 ghost use lib.ListN.{length};
 ghost use Rattle.text.specs.Digits.{decimal};
-ghost use Rattle.text.specs.Output.{Wrote};
+ghost use Rattle.base.specs.Output.{Wrote};
 ghost use Rattle.text.specs.Utf8.{utf8};
 ghost use Rattle.zen.specs.Holds.{Holds, textAt, nameAt};
+use base::output::put_bytes;
 use text::digits::put_decimal;
-use text::output::put_bytes;
 use zen::places::Place;
 use zen::texts::put_place;
 

@@ -5,7 +5,7 @@ ghost use mathlib.Core.Bool.{_&&_};
 ghost use Prim.Native.Nat.{_+_, _*_, _<_};
 ghost use lib.Dec.{ltb};
 ghost use lib.ListN.{getD};
-ghost use Rattle.text.specs.Index.{importName, importHash};
+ghost use Rattle.base.specs.Index.{importName, importHash};
 ghost use Rattle.text.specs.Id.{idOf};
 ghost use Rattle.zen.specs.Holds.{Holds};
 ghost use Rattle.zen.specs.Notes.{Noted};
@@ -16,9 +16,9 @@ ghost use Rattle.packages.specs.Package.{partsAt, readIn, packageIn, Pac
 ghost use Rattle.packages.specs.Row.{homeIn};
 ghost use Rattle.packages.specs.Meaning.{isImport, kindBy, keyed, wordsOf};
 use super::names::Name;
-use text::index::import_hash;
-use text::index::import_name;
-use text::index::index_kind;
+use base::index::import_hash;
+use base::index::import_name;
+use base::index::index_kind;
 use zen::names::Names;
 use zen::notes::NOTES;
 use zen::notes::place_at;
@@ -67,7 +67,7 @@ pub fn hash_at(b: &[u8], p: Parts, i: usize) -> u64
     requires { ⌜ PackageIn (now b) p × (i < p .publics) ⌝ }
     ensures { λ r. ⌜ r ≡ getD (readIn (now (b .entry)) .hashes) i 0 ⌝ }
 {
-    text::number::le64(b, p.hashes + 8 * i)
+    base::number::le64(b, p.hashes + 8 * i)
 }
 
 // The number of imported name i.
@@ -75,7 +75,7 @@ pub fn imported_number(b: &[u8], p: Parts, i: usize) -> u32
     requires { ⌜ PackageIn (now b) p × (i < p .imported .count) ⌝ }
     ensures { λ r. ⌜ r ≡ getD (readIn (now (b .entry)) .numbers) i 0 ⌝ }
 {
-    text::number::le32(b, p.imported.end + 4 * i)
+    base::number::le32(b, p.imported.end + 4 * i)
 }
 
 // Where name i is.
@@ -185,6 +185,6 @@ pub fn home_at(b: &[u8], p: Parts, names: &[u32; NOTES]) -> Name
     let place = place_at(b, p.names, names, index);
     Name {
         place,
-        number: text::number::le32(b, 12),
+        number: base::number::le32(b, 12),
     }
 }

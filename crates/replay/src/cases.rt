@@ -3,10 +3,10 @@ ghost use Prim.Native.Nat.{_≤_};
 ghost use lib.ListN.{length};
 use super::list::part_at;
 use super::room;
+use base::number::be32;
+use base::number::be64;
 use check::same;
 use libc::STDOUT_FILENO;
-use text::number::be32;
-use text::number::be64;
 
 // Whether the call answers so: the number, the report, and past it, or where it refuses, the buffer as it was.
 fn answers(

@@ -1,7 +1,7 @@
 // The recorded list taken apart: data/README.md has its layout.
 ghost use Prim.Native.Nat.{_≤_};
 ghost use lib.ListN.{length};
-use text::number::be32;
+use base::number::be32;
 
 // A part of the list: a corpus or a report. Where the list is cut short, nothing at its end.
 pub struct Part {

@@ -8,7 +8,7 @@ mod cases; // replayed
 
 fn tell(list: &[u8]) {
     io::write_all(STDOUT_FILENO, b"list ");
-    io::print_hex(STDOUT_FILENO, text::city::city_hash64(list), 16);
+    io::print_hex(STDOUT_FILENO, city::city::city_hash64(list), 16);
     io::write_all(STDOUT_FILENO, b"\n");
     let mut work = room::work();
     let t = cases::replay(list, &mut work);

@@ -4,20 +4,23 @@ use mathlib.Core.List.{List, []}
 use Prim.Native.Nat.{ℕ, _+_, _≤_, _<_}
 use native.Mathlib.Omega.{arith}
 use lib.ListN.{length, length-map}
-use Rattle.text.specs.Answer.{refusal}
-use Rattle.text.specs.Output.{Wrote}
+use Rattle.base.specs.Answer.{refusal}
+use Rattle.base.specs.Output.{Wrote}
 use Rattle.zen.specs.Script.{Objects}
-use Rattle.meaning.specs.Call.{Placed, accepted, firstRepeat, noneTwice}
+use Rattle.meaning.specs.Call.{Placed, accepted, firstRepeat, noneTwice, holding, opened}
 use Rattle.meaning.specs.Reference.{Ref}
 use Rattle.meaning.specs.Scan.{Class}
+use Rattle.packages.specs.Walk.{packagesAt}
 use Rattle.packages.specs.declared.frame.Frame.{Frame}
-use Rattle.report.specs.CallSteps.{Begun, Packages, foundBy, workNeeded, Gathered, Answered}
+use Rattle.walk.specs.OpenSteps.{Begun, Packages, foundBy}
+use Rattle.walk.specs.OpenLaws.{opened-is}
+use Rattle.report.specs.CallSteps.{workNeeded, Gathered, Answered}
 use Rattle.report.specs.CallLaws.{answer-beyond, answer-outside, answer-fits, refused-by, answered-refused, answered-report}
-use Rattle.report.specs.Found.{classesIn}
-use Rattle.report.specs.FoundLaws.{found-size, found-once}
+use Rattle.walk.specs.Found.{classesIn}
+use Rattle.walk.specs.FoundLaws.{found-size, found-once}
 use Rattle.resolve.specs.Rows.{Kept, SomeClasses, SomeKept, Resolution, limitsOf}
 use Rattle.report.specs.Written.{reportAt, Ready, ReportRoom}
-use Rattle.report.specs.declared.walk.Census.{Census}
+use Rattle.walk.specs.declared.walk.Census.{Census}
 
 -- classes were linked, and all is still kept
 abbrev pub Links : ℕ → ℕ → List ℕ → List ℕ → Type 0
@@ -95,20 +98,23 @@ module _ {lookups limit : ℕ} {c : List ℕ} {f : Frame} {s : List ℕ} {n : �
         found-size (limitsOf lookups limit) objects c (f .«end» + 4) (f .count),
       )
 
+  opens : opened (limitsOf lookups limit) c ≡ accepted (holding (limitsOf lookups limit) objects (packagesAt c (f .«end» + 4) (f .count)))
+  opens = opened-is (limitsOf lookups limit) c (z .begun) (z .gathered .read) (z .packages) (once (z .gathered))
+
   -- 26
   module _ {old : List ℕ} {r : ℕ} where
     pub finish-beyond : 4294967299 < t .size + total → r ≡ refusal 26 0 → Answered (limitsOf lookups limit) c (length w) old old r
     finish-beyond h e =
         answered-refused
         (refused-by
-        (answer-beyond (limitsOf lookups limit) c (length w) (length old) (z .begun) (z .gathered .read) (z .packages) (once (z .gathered)) (enough (z .gathered))
+        (answer-beyond (limitsOf lookups limit) c (length w) (length old) f objects s (z .gathered .read) opens (enough (z .gathered))
         (rw whole-size at h)) e)
 
     pub finish-outside : length old < t .size + total → r ≡ refusal 26 0 → Answered (limitsOf lookups limit) c (length w) old old r
     finish-outside h e =
         answered-refused
         (refused-by
-        (answer-outside (limitsOf lookups limit) c (length w) (length old) (z .begun) (z .gathered .read) (z .packages) (once (z .gathered)) (enough (z .gathered))
+        (answer-outside (limitsOf lookups limit) c (length w) (length old) f objects s (z .gathered .read) opens (enough (z .gathered))
         (rw whole-size at h)) e)
 
   -- the report fits
@@ -127,6 +133,6 @@ module _ {lookups limit : ℕ} {c : List ℕ} {f : Frame} {s : List ℕ} {n : �
       → Answered (limitsOf lookups limit) c (length w) old new r
   finish-report {old} small fits put =
       answered-report
-      (answer-fits (limitsOf lookups limit) c (length w) (length old) (z .begun) (z .gathered .read) (z .packages) (once (z .gathered)) (enough (z .gathered))
+      (answer-fits (limitsOf lookups limit) c (length w) (length old) f objects s (z .gathered .read) opens (enough (z .gathered))
       (rw whole-size at small) (rw whole-size at fits))
       (put objects lookups ready (rw whole-size at fits))

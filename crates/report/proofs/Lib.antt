@@ -1,4 +1,2 @@
 pub mod Finished
 pub mod Scanned
-pub mod Scans
-pub mod Tabled

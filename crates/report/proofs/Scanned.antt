@@ -5,23 +5,24 @@ use mathlib.Core.List.{List}
 use Prim.Native.Nat.{ℕ, _+_, _^_, _<_}
 use native.Mathlib.Omega.{arith}
 use lib.ListN.{length}
-use Rattle.text.specs.Answer.{refusal}
-use Rattle.text.specs.Reading.{gives, run}
+use Rattle.base.specs.Answer.{refusal}
+use Rattle.base.specs.Reading.{gives, run}
 use Rattle.zen.specs.Script.{Objects, script}
 use Rattle.meaning.specs.Call.{readFrom, refusedIn}
 use Rattle.packages.specs.Framing.{partsAt}
 use Rattle.packages.specs.declared.frame.Frame.{Frame}
-use Rattle.report.specs.CallSteps.{Begun, Packages, foundBy, workNeeded, Gathered, Refused, Answered}
-use Rattle.report.specs.CallLaws.{answer-package, answer-twice, refused-by, answered-refused}
-use Rattle.report.specs.Found.{Linked, State}
+use Rattle.walk.specs.OpenSteps.{Begun, Packages, foundBy}
+use Rattle.walk.specs.OpenLaws.{opened-package, opened-twice}
+use Rattle.report.specs.CallSteps.{workNeeded, Gathered, Refused, Answered}
+use Rattle.report.specs.CallLaws.{refused-opened, answered-refused}
+use Rattle.walk.specs.Found.{Linked, State}
 use Rattle.resolve.specs.Rows.{limitsOf}
-use Rattle.report.specs.declared.walk.Census.{Census}
+use Rattle.walk.specs.declared.walk.Census.{Census}
 
 -- a package is refused
 pub scanned-refused : {limit lookups : ℕ} {c : List ℕ} {f : Frame} {s : List ℕ} {n : ℕ} {w old : List ℕ} {q j r : ℕ} → Begun c f s → Linked s n w
     → readFrom 2 (partsAt c (f .«end» + 4) (f .count)) ≡ refusedIn q j → r ≡ refusal q j → Answered (limitsOf lookups limit) c (length w) old old r
-scanned-refused {limit} {lookups} {c} {w} {old} b k e h =
-    answered-refused (refused-by (answer-package (limitsOf lookups limit) c (length w) (length old) b (k .holds .all .read) e) h)
+scanned-refused {limit} {lookups} {c} b k e h = answered-refused (refused-opened (opened-package (limitsOf lookups limit) c b (k .holds .all .read) e) h)
 
 -- all are accepted, and t says what was entered: the work buffer was w and is now w′
 pub record Walked (limit : ℕ) (c : List ℕ) (f : Frame) (s : List ℕ) (n : ℕ) (t : Census) (w w′ : List ℕ) : Type 0 where
@@ -40,9 +41,7 @@ module _ {limit : ℕ} {c : List ℕ} {f : Frame} {s : List ℕ} {n : ℕ} {t : 
     -- a key stands twice
     pub scanned-twice : (t .repeat ≡ 0 → ⊥) → r ≡ refusal 24 (t .repeat) → Answered (limitsOf lookups limit) c (length w) old old r
     scanned-twice h e =
-        answered-refused
-        (refused-by
-        (answer-twice (limitsOf lookups limit) c (length w) (length old) (z .begun) read (z .packages) (z .state .twice (omega arith) .1)) e)
+        answered-refused (refused-opened (opened-twice (limitsOf lookups limit) c (z .begun) read (z .packages) (z .state .twice (omega arith) .1)) e)
 
     -- there is no room for all
     pub scanned-short : t .repeat ≡ 0 → t .open ≡ false

@@ -2,35 +2,17 @@
 use mathlib.Core.Path.{_≡_}
 use mathlib.Core.Bool.{true}
 use mathlib.Core.List.{List}
-use Prim.Native.Nat.{ℕ, _+_, _*_, _-_, _^_, _<_}
-use lib.ListN.{length, take, drop}
-use Rattle.text.specs.Answer.{refusal}
-use Rattle.text.specs.NumberLaws.{Bytes}
-use Rattle.text.specs.Reading.{gives, run}
+use Prim.Native.Nat.{ℕ, _+_, _*_, _^_, _<_}
+use lib.ListN.{length}
+use Rattle.base.specs.Answer.{refusal}
+use Rattle.base.specs.Reading.{gives, run}
 use Rattle.zen.specs.Script.{Objects, script}
 use Rattle.meaning.specs.Call.{refusedIn, answer, numberOf, bufferAfter}
-use Rattle.meaning.specs.Frame.{framed}
 use Rattle.meaning.specs.Resolve.{Limits}
-use Rattle.packages.specs.Framing.{framedAs}
-use Rattle.packages.specs.Walk.{AllRead}
 use Rattle.packages.specs.declared.frame.Frame.{Frame}
-use Rattle.packages.specs.declared.frame.Framed.the-variants.{Whole}
-use Rattle.report.specs.Found.{Found, foundIn, countOf, State}
-use Rattle.report.specs.declared.walk.Census.{Census}
-
--- the corpus c is framed, and s is its script block
-pub record Begun (c : List ℕ) (f : Frame) (s : List ℕ) : Type 0 where
-  pub bytes : Bytes c
-  pub frames : framedAs (framed c) ≡ Whole f
-  pub block : s ≡ take (f .«end» - 9) (drop 9 c)
-
--- its packages are accepted
-abbrev pub Packages : List ℕ → Frame → Type 0
-Packages c f = AllRead c (f .«end» + 4) (f .count)
-
--- what they hold
-abbrev pub foundBy : ℕ → Objects → List ℕ → Frame → Found
-foundBy limit o c f = foundIn limit o c (f .«end» + 4) (f .count)
+use Rattle.walk.specs.Found.{countOf, State}
+use Rattle.walk.specs.OpenSteps.{foundBy}
+use Rattle.walk.specs.declared.walk.Census.{Census}
 
 -- "64 × (script objects + classes + candidates) bytes"
 abbrev pub workNeeded : ℕ → Objects → List ℕ → Frame → ℕ

@@ -5,10 +5,10 @@ use mathlib.Core.List.{List, [], _∷_, _++_}
 use Prim.Native.Nat.{ℕ, _+_, _≤_, _<_}
 use lib.Dec.{leb, eqb}
 use lib.ListN.{length}
-use Rattle.text.specs.House.{lengthFirst}
+use Rattle.base.specs.House.{lengthFirst}
 use Rattle.text.specs.Name.{textBytes}
-use Rattle.text.specs.Number.{beBytes}
-use Rattle.text.specs.Output.{Wrote}
+use Rattle.base.specs.Number.{beBytes}
+use Rattle.base.specs.Output.{Wrote}
 use Rattle.zen.specs.Script.{Objects}
 use Rattle.meaning.specs.Reference.{refIn}
 use Rattle.meaning.specs.Scan.{Class, candidateKind}

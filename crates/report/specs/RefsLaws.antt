@@ -8,8 +8,8 @@ use native.Mathlib.Nat.{zero-add}
 use native.Mathlib.Omega.{arith}
 use lib.ListN.{length, take, drop, getD, length-append, length-map, List·getD-append}
 use lib.Seq.{split-at, getD-append-add}
-use Rattle.text.specs.Find.{kept, filter, flat}
-use Rattle.text.specs.LoopLaws.{flat-append, filter-fewer}
+use Rattle.base.specs.Find.{kept, filter, flat}
+use Rattle.base.specs.LoopLaws.{flat-append, filter-fewer}
 use Rattle.zen.specs.Zen.{Read}
 use Rattle.meaning.specs.Reference.{Package, Ref, null}
 use Rattle.meaning.specs.Report.{classRef}

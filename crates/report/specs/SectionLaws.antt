@@ -8,11 +8,11 @@ use native.Mathlib.Omega.{arith}
 use borrow.Author.Tests.{eq-eqb, ne-eqb}
 use lib.ListN.{length, take, drop, getD, length-append, length-drop}
 use lib.Seq.{take-length}
-use Rattle.text.specs.Find.{flat}
-use Rattle.text.specs.LoopLaws.{flat-take, flat-filter}
-use Rattle.text.specs.Number.{beBytes}
-use Rattle.text.specs.NumberLaws.{length-beBytes}
-use Rattle.text.specs.OutputLaws.{wrote-none, wrote-length, wrote-rest, wrote-as, next-room}
+use Rattle.base.specs.Find.{flat}
+use Rattle.base.specs.LoopLaws.{flat-take, flat-filter}
+use Rattle.base.specs.Number.{beBytes}
+use Rattle.base.specs.NumberLaws.{length-beBytes}
+use Rattle.base.specs.OutputLaws.{wrote-none, wrote-length, wrote-rest, wrote-as, next-room}
 use Rattle.zen.specs.Script.{Objects}
 use Rattle.zen.specs.Zen.{Read}
 use Rattle.zen.specs.declared.tables.Export.{Export}

@@ -4,10 +4,10 @@ use mathlib.Core.Bool.{cond}
 use mathlib.Core.List.{List, [], _∷_, _++_, map}
 use Prim.Native.Nat.{ℕ, _+_, _*_, _≤_, _<_}
 use lib.ListN.{length, drop, getD}
-use Rattle.text.specs.Find.{kept, flat}
+use Rattle.base.specs.Find.{kept, flat}
 use Rattle.text.specs.Name.{textBytes}
-use Rattle.text.specs.Number.{beBytes}
-use Rattle.text.specs.Output.{Wrote}
+use Rattle.base.specs.Number.{beBytes}
+use Rattle.base.specs.Output.{Wrote}
 use Rattle.zen.specs.Script.{Objects}
 use Rattle.zen.specs.Zen.{packageName}
 use Rattle.zen.specs.declared.tables.Export.{Export}

@@ -6,7 +6,7 @@ use mathlib.Core.Option.{Option, none, some}
 use Prim.Native.Nat.{ℕ, _*_, _≤_, _<_}
 use lib.ListN.{length, drop}
 use Rattle.text.specs.Name.{textBytes}
-use Rattle.text.specs.Output.{Wrote}
+use Rattle.base.specs.Output.{Wrote}
 use Rattle.zen.specs.Script.{Objects}
 use Rattle.meaning.specs.Reference.{Ref, refIn}
 use Rattle.meaning.specs.Resolve.{Limits, look, nativeOf, resolve, pathText}
@@ -19,7 +19,7 @@ use Rattle.packages.specs.declared.package.Parts.{Parts}
 use Rattle.packages.specs.declared.rows.Row.{Row}
 use Rattle.resolve.specs.Classes.{classNo, ClassesIn}
 use Rattle.resolve.specs.Rows.{classNumber, objectNumber, columnsOf, limitsOf, Tables, Resolved}
-use Rattle.report.specs.Found.{classesIn, foundIn}
+use Rattle.walk.specs.Found.{classesIn, foundIn}
 use Rattle.resolve.specs.declared.rows.Led.{Led}
 use Rattle.report.specs.declared.texts.Both.{Both}
 use Rattle.report.specs.declared.texts.Told.{Told}

@@ -7,15 +7,15 @@ use Prim.Native.Nat.{ℕ, zero, suc, _+_, _-_, _*_, _%_, _≤_, _<_}
 use native.Mathlib.Decide.{ℕ-discrete}
 use native.Mathlib.Omega.{arith}
 use lib.ListN.{length, take, drop, set, length-append, length-drop, take-append-drop, drop-of-length-le}
-use Rattle.text.specs.House.{lengthFirst}
-use Rattle.text.specs.Literal.{quoted}
+use Rattle.base.specs.House.{lengthFirst}
+use Rattle.base.specs.Literal.{quoted}
 use Rattle.text.specs.Name.{textBytes}
 use Rattle.text.specs.NameLaws.{textBytes-length}
-use Rattle.text.specs.Never.{never}
-use Rattle.text.specs.Number.{beBytes}
-use Rattle.text.specs.NumberLaws.{beBytes-mod, length-beBytes}
-use Rattle.text.specs.Output.{over, Wrote}
-use Rattle.text.specs.OutputLaws.{wrote-as, wrote-count, wrote-byte, wrote-front}
+use Rattle.base.specs.Never.{never}
+use Rattle.base.specs.Number.{beBytes}
+use Rattle.base.specs.NumberLaws.{beBytes-mod, length-beBytes}
+use Rattle.base.specs.Output.{over, Wrote}
+use Rattle.base.specs.OutputLaws.{wrote-as, wrote-count, wrote-byte, wrote-front}
 use Rattle.text.specs.Utf8.{utf8}
 use Rattle.text.specs.Utf8Laws.{utf8-ascii}
 use Rattle.zen.specs.Script.{Objects}

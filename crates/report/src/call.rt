@@ -2,23 +2,20 @@
 ghost use mathlib.Core.Path.{_≡_};
 ghost use Prim.Native.Nat.{ℕ, _*_, _≤_, _<_};
 ghost use lib.ListN.{length};
-ghost use Rattle.text.specs.Reading.{gives, run};
+ghost use Rattle.base.specs.Reading.{gives, run};
 ghost use Rattle.zen.specs.Notes.{noteCount};
 ghost use Rattle.zen.specs.Script.{Objects, script};
 ghost use Rattle.zen.specs.ScriptAnswers.{opened};
 ghost use Rattle.zen.specs.declared.script.Layout.{Layout};
 ghost use Rattle.zen.specs.declared.script.Opened.the-variants.{Open};
 ghost use Rattle.meaning.specs.Call.{outcome};
-ghost use Rattle.report.specs.CallSteps.{Begun, Packages, workNeeded, Gathered, Refused, Answered};
-ghost use Rattle.report.specs.Found.{Linked};
+ghost use Rattle.walk.specs.OpenSteps.{Begun, Packages};
+ghost use Rattle.report.specs.CallSteps.{workNeeded, Gathered, Refused, Answered};
+ghost use Rattle.walk.specs.Found.{Linked};
 ghost use Rattle.resolve.specs.Rows.{limitsOf};
 ghost use Rattle.scan.specs.Repeats.{NotedScript};
 use super::section::put_report;
-use super::walk::Census;
-use super::walk::Scanned;
-use super::walk::scan_packages;
-use objects::enter::enter;
-use objects::link::link;
+use base::answer::refuse;
 use packages::frame::Frame;
 use packages::frame::Framed;
 use packages::frame::read_frame;
@@ -27,7 +24,10 @@ use resolve::rows::resolve_all;
 use scan::check::Blocks;
 use scan::check::check_packages;
 use scan::repeats::repeat_block;
-use text::answer::refuse;
+use walk::script::enter_script;
+use walk::walk::Census;
+use walk::walk::Scanned;
+use walk::walk::scan_packages;
 use zen::notes::NOTES;
 use zen::notes::note_names;
 use zen::script::Layout;
@@ -177,15 +177,10 @@ fn with_table(
 {
     let mut notes = [0u32; NOTES];
     note_names(s, l.names, &mut notes);
-    let size = 48 * l.count;
-    let fault = enter(s, l, &notes, &mut w[..size]);
+    let fault = enter_script(s, l, &notes, w);
     if fault != 0 {
         return refuse(fault, 1);
     }
-    if l.entries + 32 * l.count < s.len() {
-        return refuse(13, 1);
-    }
-    link(s, l, &mut w[..size]);
     with_objects(c, f, s, l, &notes, w, report, lookups, objects)
 }
 

@@ -4,8 +4,8 @@ ghost use mathlib.Core.Option.{none};
 ghost use Prim.Native.Nat.{ℕ, _+_, _*_, _≤_, _<_};
 ghost use lib.ListN.{length, drop};
 ghost use Rattle.text.specs.Name.{textBytes};
-ghost use Rattle.text.specs.Number.{beBytes};
-ghost use Rattle.text.specs.Output.{Wrote};
+ghost use Rattle.base.specs.Number.{beBytes};
+ghost use Rattle.base.specs.Output.{Wrote};
 ghost use Rattle.zen.specs.Script.{Objects};
 ghost use Rattle.meaning.specs.Reference.{Ref};
 ghost use Rattle.meaning.specs.Report.{orUnknown};
@@ -13,11 +13,11 @@ ghost use Rattle.meaning.specs.Scan.{Class};
 ghost use Rattle.resolve.specs.Classes.{classNo, ClassesIn};
 ghost use Rattle.resolve.specs.Rows.{limitsOf};
 ghost use Rattle.report.specs.Written.{Put, Target, nativeText, bothTexts, BothPut, ClassRoom, NativeRoom, BothRoom};
+use base::output::put_be32;
 use objects::path::Path;
 use objects::path::put_path;
 use resolve::paths::put_class_path;
 use resolve::rows::Led;
-use text::output::put_be32;
 
 // A length or a count in 4 bytes: of a number beyond them its low bytes.
 pub fn put_length(out: &mut [u8], n: usize) -> usize

@@ -8,13 +8,13 @@ use native.Mathlib.Decide.{decLt}
 use native.Mathlib.Omega.{arith}
 use native.Mathlib.Numerals.{add-one}
 use lib.ListN.{length, length-drop}
-use Rattle.text.specs.Find.{option, get}
-use Rattle.text.specs.FindLaws.{none-some}
-use Rattle.text.specs.Index.{kind, importName, importHash}
-use Rattle.text.specs.Never.{never}
-use Rattle.text.specs.Number.{leAt}
-use Rattle.text.specs.NumberLaws.{leAt-drop}
-use Rattle.text.specs.Seek.{seek}
+use Rattle.base.specs.Find.{option, get}
+use Rattle.base.specs.FindLaws.{none-some}
+use Rattle.base.specs.Index.{kind, importName, importHash}
+use Rattle.base.specs.Never.{never}
+use Rattle.base.specs.Number.{leAt}
+use Rattle.base.specs.NumberLaws.{leAt-drop}
+use Rattle.base.specs.Seek.{seek}
 use Rattle.zen.specs.Script.{Objects}
 use Rattle.zen.specs.declared.tables.Export.{Export}
 use Rattle.meaning.specs.Key.{Key, public, sameKey}

@@ -7,8 +7,8 @@ use mathlib.Core.List.{List, [], _∷_, _++_}
 use mathlib.Core.Option.{some}
 use Prim.Native.Nat.{ℕ, _+_, _^_, _≤_, _<_}
 use lib.ListN.{length, getD}
-use Rattle.text.specs.Number.{leAt}
-use Rattle.text.specs.Reading.{gives, runBlock}
+use Rattle.base.specs.Number.{leAt}
+use Rattle.base.specs.Reading.{gives, runBlock}
 use Rattle.text.specs.Utf8.{utf8}
 use Rattle.zen.specs.Zen.{packageBlock}
 use Rattle.meaning.specs.Key.{public}

@@ -7,8 +7,8 @@ use native.Mathlib.Decide.{ℕ-discrete}
 use native.Mathlib.Omega.{arith}
 use lib.ListN.{length, getD, length-append, List·getD-append}
 use lib.Seq.{getD-at}
-use Rattle.text.specs.Number.{beAt, leAt}
-use Rattle.text.specs.NumberLaws.{Bytes}
+use Rattle.base.specs.Number.{beAt, leAt}
+use Rattle.base.specs.NumberLaws.{Bytes}
 use Rattle.text.specs.Utf8.{utf8}
 use Rattle.meaning.specs.Key.{public}
 use Rattle.meaning.specs.Reference.{Ref, refIn}

@@ -10,11 +10,11 @@ use native.Mathlib.Numerals.{add-one}
 use native.Mathlib.Omega.{arith}
 use borrow.Author.Tests.{ne-eqb}
 use lib.ListN.{length, getD}
-use Rattle.text.specs.Find.{find as first-of}
-use Rattle.text.specs.Number.{leAt}
-use Rattle.text.specs.NumberLaws.{Bytes}
-use Rattle.text.specs.Seek.{seek}
-use Rattle.text.specs.SeekLaws.{Never, First, never-seek, first-seek, seek-never, seek-first}
+use Rattle.base.specs.Find.{find as first-of}
+use Rattle.base.specs.Number.{leAt}
+use Rattle.base.specs.NumberLaws.{Bytes}
+use Rattle.base.specs.Seek.{seek}
+use Rattle.base.specs.SeekLaws.{Never, First, never-seek, first-seek, seek-never, seek-first}
 use Rattle.text.specs.Utf8.{utf8}
 use Rattle.meaning.specs.Key.{Key, public, sameKey}
 use Rattle.meaning.specs.KeyLaws.{sameKey→eq, sameKey-true, sameKey-false, public-hash}

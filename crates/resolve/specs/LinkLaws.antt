@@ -7,9 +7,9 @@ use Prim.Native.Nat.{ℕ, _+_, _-_, _*_, _^_, _≤_, _<_}
 use native.Mathlib.Decide.{ℕ-discrete, decLt}
 use native.Mathlib.Omega.{arith}
 use lib.ListN.{length, drop, length-drop}
-use Rattle.text.specs.Number.{leAt}
-use Rattle.text.specs.NumberLaws.{leAt-drop}
-use Rattle.text.specs.Seek.{seek}
+use Rattle.base.specs.Number.{leAt}
+use Rattle.base.specs.NumberLaws.{leAt-drop}
+use Rattle.base.specs.Seek.{seek}
 use Rattle.zen.specs.Script.{Objects}
 use Rattle.meaning.specs.Key.{Key, public, sameKey}
 use Rattle.meaning.specs.Reference.{Ref, meant}

@@ -8,9 +8,9 @@ use native.Mathlib.Decide.{decLt, ℕ-discrete}
 use native.Mathlib.Omega.{arith}
 use lib.ListN.{length, take, drop, getD, length-drop}
 use lib.Seq.{drop-drop}
-use Rattle.text.specs.Never.{never}
-use Rattle.text.specs.Number.{leAt}
-use Rattle.text.specs.NumberLaws.{Bytes, bytes-part, drop-take, leAt-drop, leAt-lt}
+use Rattle.base.specs.Never.{never}
+use Rattle.base.specs.Number.{leAt}
+use Rattle.base.specs.NumberLaws.{Bytes, bytes-part, drop-take, leAt-drop, leAt-lt}
 use Rattle.text.specs.Utf8.{utf8One, utf8}
 use Rattle.zen.specs.Script.{Objects}
 use Rattle.meaning.specs.Path.{Path}

@@ -7,10 +7,10 @@ use mathlib.Core.List.{List}
 use mathlib.Core.Option.{Option, none, some}
 use Prim.Native.Nat.{ℕ, zero, suc, _+_, _*_, _-_, _^_, _≤_, _<_}
 use lib.ListN.{length, take, drop, getD}
-use Rattle.text.specs.Find.{option, sum}
-use Rattle.text.specs.Number.{leAt}
-use Rattle.text.specs.NumberLaws.{Bytes}
-use Rattle.text.specs.Seek.{seek}
+use Rattle.base.specs.Find.{option, sum}
+use Rattle.base.specs.Number.{leAt}
+use Rattle.base.specs.NumberLaws.{Bytes}
+use Rattle.base.specs.Seek.{seek}
 use Rattle.zen.specs.Script.{Objects}
 use Rattle.meaning.specs.Key.{Key, sameKey}
 use Rattle.meaning.specs.Path.{Path}

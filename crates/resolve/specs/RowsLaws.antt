@@ -6,8 +6,8 @@ use Prim.Native.Nat.{ℕ, zero, suc, _+_, _≤_}
 use native.Mathlib.Omega.{arith}
 use native.Mathlib.Numerals.{add-one}
 use lib.ListN.{length}
-use Rattle.text.specs.Find.{option}
-use Rattle.text.specs.FindLaws.{none-some}
+use Rattle.base.specs.Find.{option}
+use Rattle.base.specs.FindLaws.{none-some}
 use Rattle.zen.specs.Script.{Objects}
 use Rattle.zen.specs.ScriptGood.{Good, script-good}
 use Rattle.meaning.specs.Key.{Key}

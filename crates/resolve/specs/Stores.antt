@@ -5,7 +5,7 @@ use mathlib.Core.List.{List, [], _∷_}
 use Prim.Native.Nat.{ℕ, zero, suc, _+_, _^_, _≤_, _<_}
 use native.Mathlib.Omega.{arith}
 use lib.ListN.{length, getD}
-use Rattle.text.specs.Number.{leAt}
+use Rattle.base.specs.Number.{leAt}
 use Rattle.table.specs.Words.{stored, Kept}
 use Rattle.table.specs.WordLaws.{kept-read, kept-none, kept-then, kept-wider, stored-kept, stored-read}
 

@@ -2,7 +2,7 @@
 ghost use mathlib.Core.List.{List};
 ghost use Prim.Native.Nat.{_<_};
 ghost use lib.ListN.{length};
-ghost use Rattle.text.specs.Output.{Wrote};
+ghost use Rattle.base.specs.Output.{Wrote};
 ghost use Rattle.text.specs.Utf8.{utf8};
 ghost use Rattle.meaning.specs.Scan.{Class};
 ghost use Rattle.resolve.specs.Classes.{classNo, ClassesIn, PathRoom};

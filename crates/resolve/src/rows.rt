@@ -13,6 +13,7 @@ ghost use Rattle.resolve.specs.Resolving.{SomeTarget, targeted, RowIn, S
 use super::chain::Target;
 use super::chain::target_of;
 use super::classes::class_len;
+use base::number::le32;
 use objects::object::Object;
 use objects::object::object_at;
 use objects::path::Path;
@@ -22,7 +23,6 @@ use table::words::get32;
 use table::words::get64;
 use table::words::set32;
 use table::words::set64;
-use text::number::le32;
 
 // Keeps what the class index of row r means.
 pub fn put_words(w: &mut [u8], r: usize, m: Words)

@@ -5,7 +5,7 @@ use mathlib.Core.Option.{none, some}
 use Prim.Native.Nat.{ℕ, _-_, _<_}
 use native.Mathlib.Omega.{arith}
 use lib.ListN.{length, getD}
-use Rattle.text.specs.Reading.{gives, run}
+use Rattle.base.specs.Reading.{gives, run}
 use Rattle.zen.specs.Objects.{entryNumber}
 use Rattle.zen.specs.Script.{Objects, script}
 use Rattle.zen.specs.ScriptAccepted.{entries-of}

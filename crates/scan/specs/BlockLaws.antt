@@ -3,8 +3,8 @@ use mathlib.Core.Path.{_≡_, refl}
 use mathlib.Core.List.{List}
 use Prim.Native.Nat.{ℕ, _+_, _<_}
 use native.Mathlib.Omega.{arith}
-use Rattle.text.specs.Never.{never}
-use Rattle.text.specs.Reading.{refused, runBlock}
+use Rattle.base.specs.Never.{never}
+use Rattle.base.specs.Reading.{refused, runBlock}
 use Rattle.zen.specs.Zen.{packageBlock}
 use Rattle.meaning.specs.Reference.{Package}
 use Rattle.meaning.specs.Call.{Answer, refusedIn, accepted, readFrom}

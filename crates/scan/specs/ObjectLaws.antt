@@ -9,9 +9,9 @@ use borrow.Author.Tests.{ne-eqb}
 use lib.Dec.{eqb}
 use lib.ListN.{length, getD}
 use Rattle.text.specs.Affix.{endsWith}
-use Rattle.text.specs.Find.{find}
-use Rattle.text.specs.Index.{kind}
-use Rattle.text.specs.SeekLaws.{First, Never, seek-never, seek-first}
+use Rattle.base.specs.Find.{find}
+use Rattle.base.specs.Index.{kind}
+use Rattle.base.specs.SeekLaws.{First, Never, seek-never, seek-first}
 use Rattle.zen.specs.Objects.{entryNumber}
 use Rattle.zen.specs.Script.{Objects, objectName}
 use Rattle.zen.specs.ScriptAnswers.{noEntry}

@@ -12,8 +12,8 @@ use borrow.Author.Tests.{eq-eqb}
 use lib.Dec.{eqb}
 use lib.ListN.{length, take, getD}
 use lib.Seq.{take-suc, take-length}
-use Rattle.text.specs.Find.{orElse, kept}
-use Rattle.text.specs.Never.{never}
+use Rattle.base.specs.Find.{orElse, kept}
+use Rattle.base.specs.Never.{never}
 use Rattle.zen.specs.Script.{Objects}
 use Rattle.zen.specs.Zen.{noExport}
 use Rattle.zen.specs.declared.tables.Export.{Export}

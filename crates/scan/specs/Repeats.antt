@@ -7,7 +7,7 @@ use mathlib.Core.Option.{Option, none, some}
 use Prim.Native.Nat.{ℕ, zero, suc}
 use lib.Dec.{eqb}
 use lib.ListN.{length, getD}
-use Rattle.text.specs.Reading.{gives, run, runBlock}
+use Rattle.base.specs.Reading.{gives, run, runBlock}
 use Rattle.zen.specs.Notes.{Noted}
 use Rattle.zen.specs.Script.{Objects, script}
 use Rattle.zen.specs.ScriptAnswers.{scriptAnswer}

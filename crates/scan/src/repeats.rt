@@ -2,7 +2,7 @@
 ghost use mathlib.Core.List.{[]};
 ghost use mathlib.Core.Path.{_≡_};
 ghost use Prim.Native.Nat.{_+_, _^_, _≤_, _<_};
-ghost use Rattle.text.specs.Reading.{gives, run, runBlock};
+ghost use Rattle.base.specs.Reading.{gives, run, runBlock};
 ghost use Rattle.zen.specs.Script.{Objects, script};
 ghost use Rattle.zen.specs.Zen.{packageBlock};
 ghost use Rattle.meaning.specs.Call.{placedFrom, firstRepeat};

@@ -8,7 +8,7 @@ use native.Mathlib.Decide.{decLt}
 use native.Mathlib.Omega.{arith}
 use lib.Dec.{eqb}
 use lib.ListN.{length}
-use Rattle.text.specs.Number.{leAt}
+use Rattle.base.specs.Number.{leAt}
 use Rattle.table.specs.Entries.{keyIs}
 use Rattle.table.specs.Tree.{rest, turn, Place, head, below, bucket, stops, walk, spot, At}
 use Rattle.table.specs.TurnLaws.{rest-low, rest-high, rest-next, turn-is}

@@ -7,8 +7,8 @@ use native.Mathlib.Nat.{zero-lt-suc}
 use native.Mathlib.Decide.{ℕ-discrete}
 use native.Mathlib.Omega.{arith}
 use lib.ListN.{length}
-use Rattle.text.specs.Number.{leAt}
-use Rattle.text.specs.NumberLaws.{leAt-same}
+use Rattle.base.specs.Number.{leAt}
+use Rattle.base.specs.NumberLaws.{leAt-same}
 use Rattle.table.specs.Words.{mid, stored, Kept}
 use Rattle.table.specs.WordLaws.{kept-part, kept-read, kept-then, kept-wider, stored-kept, stored-read}
 use Rattle.table.specs.EntryLaws.{updated, updated-here, updated-before}

@@ -5,7 +5,7 @@ use mathlib.Core.Path.{_≡_}
 use mathlib.Core.List.{List, _++_}
 use Prim.Native.Nat.{ℕ, _+_, _*_, _^_, _≤_, _<_}
 use lib.ListN.{length, drop, replicate}
-use Rattle.text.specs.Number.{leAt}
+use Rattle.base.specs.Number.{leAt}
 use Rattle.table.specs.Words.{stored}
 use Rattle.table.specs.Tree.{Place, head, below, In, spot, Tree}
 

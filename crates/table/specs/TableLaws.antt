@@ -7,7 +7,7 @@ use native.Mathlib.Nat.{mul-le-mul-left}
 use native.Mathlib.Decide.{decLt, ℕ-discrete}
 use native.Mathlib.Omega.{arith}
 use lib.ListN.{length, drop, replicate, length-replicate}
-use Rattle.text.specs.Number.{leAt}
+use Rattle.base.specs.Number.{leAt}
 use Rattle.table.specs.Words.{mid, stored, Kept}
 use Rattle.table.specs.WordLaws.{kept-read, mid-length, put-kept, stored-kept}
 use Rattle.table.specs.Entries.{find, Distinct}

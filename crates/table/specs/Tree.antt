@@ -4,7 +4,7 @@ use mathlib.Core.Path.{_≡_}
 use mathlib.Core.Bool.{Bool, true, cond}
 use Prim.Native.Nat.{ℕ, zero, suc, _+_, _-_, _*_, _/_, _%_, _^_, _≤_, _<_}
 use lib.Bits.{bitXor}
-use Rattle.text.specs.Word.{mulw}
+use Rattle.city.specs.Word.{mulw}
 use Rattle.table.specs.Entries.{keyIs}
 
 -- ---- turns: the bits of the key (a, b) from the lowest, of a and of b in turn

@@ -7,7 +7,7 @@ use native.Mathlib.Nat.{div-lt-iff-lt-mul, mod-lt, mul-lt-mul-of-pos-right, mul-
 use native.Mathlib.Decide.{decLt}
 use native.Mathlib.Omega.{arith}
 use lib.Pow.{pow-pos, shr-lt}
-use Rattle.text.specs.Word.{mulw}
+use Rattle.city.specs.Word.{mulw}
 use Rattle.table.specs.Entries.{keyIs, find, Distinct}
 use Rattle.table.specs.EntryLaws.{key-is, key-parts, find-le, find-key, find-above}
 use Rattle.table.specs.Tree.{turn, Agree, Place, head, below, In, bucket, stops, walk, spot, At, top, side, Tree}

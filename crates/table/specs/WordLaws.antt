@@ -8,8 +8,8 @@ use native.Mathlib.Omega.{arith}
 use lib.ListN.{length, take, drop, length-append, length-drop, take-append-drop}
 use lib.Seq.{take-take, take-add, take-append-le, drop-drop, drop-append-le, take-at, drop-at, length-take-le}
 use lib.Arith.{mod-mul}
-use Rattle.text.specs.Number.{le, leAt}
-use Rattle.text.specs.NumberLaws.{drop-take, leAt-same}
+use Rattle.base.specs.Number.{le, leAt}
+use Rattle.base.specs.NumberLaws.{drop-take, leAt-same}
 use Rattle.table.specs.Words.{mid, put, leBytes, stored, Kept}
 
 -- ---- what a change leaves

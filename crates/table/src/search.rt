@@ -4,13 +4,13 @@ ghost use mathlib.Core.Bool.{_&&_};
 ghost use Prim.Native.Nat.{ℕ, _+_, _^_, _≤_, _<_};
 ghost use lib.Dec.{eqb};
 ghost use lib.ListN.{length};
-ghost use Rattle.text.specs.Number.{leAt};
+ghost use Rattle.base.specs.Number.{leAt};
 ghost use Rattle.table.specs.Tree.{bucket};
 ghost use Rattle.table.specs.Table.{Holds, Table, Ended};
 use super::entries::record_at;
 use super::words::get32;
 use super::words::get64;
-use text::word::mul;
+use city::word::mul;
 
 // The bucket of a key, of n.
 fn bucket_of(n: usize, lo: u64, hi: u64) -> usize

@@ -2,10 +2,10 @@
 ghost use mathlib.Core.Path.{_≡_};
 ghost use Prim.Native.Nat.{_+_, _≤_};
 ghost use lib.ListN.{length};
-ghost use Rattle.text.specs.Number.{leAt};
+ghost use Rattle.base.specs.Number.{leAt};
 ghost use Rattle.table.specs.Words.{stored};
-use text::number::le32;
-use text::number::le64;
+use base::number::le32;
+use base::number::le64;
 
 // The number in the four bytes from a place on.
 pub fn get32(w: &[u8], at: usize) -> usize

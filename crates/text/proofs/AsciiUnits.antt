@@ -13,9 +13,9 @@ use Rattle.lower.specs.Ascii.{lowerAscii}
 use Rattle.lower.specs.AsciiLaws.{ascii-cases}
 use Rattle.lower.specs.LatinLaws.{lower-ascii}
 use Rattle.text.specs.Affix.{allAscii}
-use Rattle.text.specs.NumberLaws.{Bytes}
-use Rattle.text.specs.Output.{Wrote}
-use Rattle.text.specs.OutputLaws.{wrote-as}
+use Rattle.base.specs.NumberLaws.{Bytes}
+use Rattle.base.specs.Output.{Wrote}
+use Rattle.base.specs.OutputLaws.{wrote-as}
 use Rattle.text.specs.PlainLaws.{wrote-over}
 use Rattle.text.specs.Utf16.{isWell, unitBytes}
 use Rattle.text.specs.Name.{decoded, base}

@@ -10,18 +10,18 @@ use borrow.Author.Tests.{ltb-true}
 use lib.Dec.{ltb, lit≤}
 use lib.ListN.{length, set, getD, take, drop, length-append, length-take, length-drop, drop-of-length-le, List·getD-append}
 use lib.Seq.{take-suc, take-all, getD-append-add, getD-take, getD-drop}
-use Rattle.text.specs.Number.{leAt}
-use Rattle.text.specs.NumberLaws.{Bytes, leAt-part}
-use Rattle.text.specs.Output.{over, Wrote}
-use Rattle.text.specs.OutputLaws.{wrote-byte, wrote-as, wrote-count, wrote-taken}
+use Rattle.base.specs.Number.{leAt}
+use Rattle.base.specs.NumberLaws.{Bytes, leAt-part}
+use Rattle.base.specs.Output.{over, Wrote}
+use Rattle.base.specs.OutputLaws.{wrote-byte, wrote-as, wrote-count, wrote-taken}
 use Rattle.text.specs.Utf16.{isWell, encode16, unitBytes}
 use Rattle.text.specs.Name.{decoded, base}
 use Rattle.lower.specs.Table.{pairs}
 use Rattle.lower.specs.Lower.{lowered, flat}
 use Rattle.text.specs.LowerLaws.{lowered-units, lowered-unit}
-use Rattle.text.specs.City.{turn, turns, start, finish, cityHash64}
-use Rattle.text.specs.CityLaws.{turns-at, long-is}
-use Rattle.text.specs.declared.city.State.{State}
+use Rattle.city.specs.City.{turn, turns, start, finish, cityHash64}
+use Rattle.city.specs.CityLaws.{turns-at, long-is}
+use Rattle.city.specs.declared.city.State.{State}
 use Rattle.text.specs.Units.{unitsOf, loweredUnit, allLatin, TableFor, nameUnits}
 use Rattle.text.specs.UnitsLaws.{base-units}
 use Rattle.text.specs.IdLaws.{unitBytes-length, unitBytes-append, unitBytes-take, unitBytes-drop}

@@ -9,7 +9,7 @@ use borrow.Author.Tests.{le-ltb, ltb-true, ltb-false, eqb-true, eq-eqb, ne-eqb}
 use lib.Dec.{eqb, ltb}
 use lib.ListN.{length, take, drop, length-append, take-append-drop, drop-of-length-le}
 use lib.Seq.{drop-drop, drop-at, take-nil, take-at, getD-append-seam}
-use Rattle.text.specs.NumberLaws.{Bytes}
+use Rattle.base.specs.NumberLaws.{Bytes}
 use Rattle.text.specs.Utf16.{well, isWell, utf16, units, encodeOne, encode16, Scalars}
 use Rattle.text.specs.Utf16Laws.{encode-append, encode-ascii, decode-encode}
 use Rattle.text.specs.DigitsLaws.{isDigit, digit-last}

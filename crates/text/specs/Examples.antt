@@ -1,106 +1,24 @@
--- Layer 1's definitions, computed at their edges: each value here is another one where a definition is off by a bit, a byte or a
+-- Text and the id of a name, computed at their edges: each value here is another one where a definition is off by a bit, a byte or a
 -- case. Assumes nothing.
 use mathlib.Core.Path.{_≡_, refl}
 use mathlib.Core.Bool.{true, false}
 use mathlib.Core.List.{List, [], _∷_, map}
 use mathlib.Core.Logic.{inl, inr}
-use Prim.Native.Nat.{ℕ, zero, suc, _+_, _≤_, _<_}
+use Prim.Native.Nat.{ℕ, _≤_, _<_}
 use native.Mathlib.Omega.{arith}
-use lib.IntN.{pos, negsuc}
-use Rattle.text.specs.Number.{le, be, leAt, beAt, beBytes}
-use Rattle.text.specs.Word.{addw, mulw, rotr, swap}
-use Rattle.text.specs.Signed.{twos}
-use Rattle.text.specs.SignedSize.{sizeOf, sizeIn}
-use Rattle.text.specs.Index.{kind, value, nameIndex, importName, importHash}
-use Rattle.text.specs.Answer.{refusal, isRefusal, questionOf, blockOf}
-use Rattle.text.specs.Output.{over}
-use Rattle.text.specs.Literal.{quoted as text}
+use Rattle.base.specs.Number.{leAt, beBytes}
+use Rattle.base.specs.Literal.{quoted as text}
+use Rattle.city.specs.Word.{addw, mulw, rotr}
+use Rattle.city.specs.City.{k2, shiftMix, hashLen16Mul, mulOf, len1to3, len4to7, len0to16, cityHash64}
+use Rattle.lower.specs.Lower.{lower, lowered}
 use Rattle.text.specs.Utf16.{Scalar, Scalars, isHigh, isLow, encodeOne, encode16, well, ill, isWell, scalars, utf16, units, utf16le}
 use Rattle.text.specs.Utf8.{utf8One, utf8, fromUtf8On, fromUtf8}
 use Rattle.text.specs.Units.{unitsOf, scalarOf, nameUnits}
 use Rattle.text.specs.Digits.{digits, decimal, hex}
 use Rattle.text.specs.Name.{decoded, suffix, rendered, textBytes}
 use Rattle.text.specs.Affix.{startsWith, endsWith, allAscii}
-use Rattle.lower.specs.Lower.{lower, lowered}
-use Rattle.text.specs.City.{k2, shiftMix, hashLen16Mul, hashLen16, mulOf, len1to3, len4to7, len8to16, len0to16, mix4, len17to32}
-use Rattle.text.specs.City.{swapMul, mixU, mixV, mixY, mixLast, mix8, len33to64}
-use Rattle.text.specs.City.{weak32, weakAt, nextX, nextY, nextZ, nextV, nextW, turn, turns, start, finish, longer, cityHash64}
 use Rattle.text.specs.Id.{idOf}
-use Rattle.text.specs.declared.signed.Size.the-variants.{Of, Negative}
 use Rattle.text.specs.declared.utf16.Scalar.the-variants.{One, Two, Ill}
-
--- ---- numbers
-
-pub record Numbers : Type 0 where
-  pub little : le (1 ∷ 2 ∷ 3 ∷ []) ≡ 0x030201
-  pub big : be (1 ∷ 2 ∷ 3 ∷ []) ≡ 0x010203
-  pub little-at : leAt 2 (1 ∷ 2 ∷ 3 ∷ 4 ∷ []) 1 ≡ 0x0302
-  pub big-at : beAt 2 (1 ∷ 2 ∷ 3 ∷ 4 ∷ []) 1 ≡ 0x0203
-  pub bytes : beBytes 3 0x01020304 ≡ 2 ∷ 3 ∷ 4 ∷ []
-  -- "arithmetic wraps at 64 bits"
-  pub sum-wraps : addw 0xFFFFFFFFFFFFFFFF 3 ≡ 2
-  pub sum-fits : addw 0xFFFFFFFFFFFFFFFC 3 ≡ 0xFFFFFFFFFFFFFFFF
-  pub product-wraps : mulw 0x8000000000000003 3 ≡ 0x8000000000000009
-  pub product-fits : mulw 0x5555555555555555 3 ≡ 0xFFFFFFFFFFFFFFFF
-  pub turned : rotr 8 0x0123456789ABCDEF ≡ 0xEF0123456789ABCD
-  pub swapped : swap 8 0x0123456789ABCDEF ≡ 0xEFCDAB8967452301
-  -- "An offset is a signed number": the sign's edge, and -1
-  pub signed : map (twos 32) (0 ∷ 0x7FFFFFFF ∷ 0x80000000 ∷ 0xFFFFFFFF ∷ []) ≡ pos 0 ∷ pos 0x7FFFFFFF ∷ negsuc 0x7FFFFFFF ∷ negsuc 0 ∷ []
-  pub sizes : map (sizeIn 32) (0x7FFFFFFF ∷ 0x80000000 ∷ []) ≡ Of 0x7FFFFFFF ∷ Negative ∷ []
-  pub sizes-of : map sizeOf (pos 7 ∷ negsuc 7 ∷ []) ≡ Of 7 ∷ Negative ∷ []
-  -- a buffer of four bytes whose first two are new
-  pub front : over (1 ∷ 2 ∷ 3 ∷ 4 ∷ []) (8 ∷ 9 ∷ []) ≡ 8 ∷ 9 ∷ 3 ∷ 4 ∷ []
-
-pub numbers : Numbers
-unfolding leAt beAt beBytes addw mulw rotr swap twos sizeIn over
-numbers = record {
-  little = refl;
-  big = refl;
-  little-at = refl;
-  big-at = refl;
-  bytes = refl;
-  sum-wraps = refl;
-  sum-fits = refl;
-  product-wraps = refl;
-  product-fits = refl;
-  turned = refl;
-  swapped = refl;
-  signed = refl;
-  sizes = refl;
-  sizes-of = refl;
-  front = refl;
-}
-
--- ---- indices and answers
-
-pub record Fields : Type 0 where
-  -- "An index's kind is its top two bits"
-  pub kinds : map kind (0x3FFFFFFFFFFFFFFF ∷ 0x4000000000000000 ∷ 0x8000000000000000 ∷ 0xFFFFFFFFFFFFFFFF ∷ []) ≡ 0 ∷ 1 ∷ 2 ∷ 3 ∷ []
-  -- the 62 bits below it
-  pub low-62 : value 0xF345678BABCDEF01 ≡ 0x3345678BABCDEF01
-  -- "kind 2 holds bits 32 to 61 as name number p and bits 0 to 31 as hash number h"
-  pub name-half : importName 0xF345678BABCDEF01 ≡ 0x3345678B
-  pub hash-half : importHash 0xF345678BABCDEF01 ≡ 0xABCDEF01
-  -- "low 30 bits index the batch"
-  pub low-30 : nameIndex 0xF345678B ≡ 0x3345678B
-  -- "bit 63 set, the refusal in bits 32 to 39, the block in bits 0 to 31"
-  pub packed : refusal 26 7 ≡ 0x8000001A00000007
-  pub question : questionOf 0x8000035B80000007 ≡ 0x5B
-  pub block : blockOf 0x8000035B80000007 ≡ 0x80000007
-  pub refused : map isRefusal (0x7FFFFFFFFFFFFFFF ∷ 0x8000000000000000 ∷ []) ≡ false ∷ true ∷ []
-
-pub fields : Fields
-fields = record {
-  kinds = refl;
-  low-62 = refl;
-  name-half = refl;
-  hash-half = refl;
-  low-30 = refl;
-  packed = refl;
-  question = refl;
-  block = refl;
-  refused = refl;
-}
 
 -- ---- text
 
@@ -265,37 +183,14 @@ pub affixes : Affixes
 unfolding endsWith lower
 affixes = record { starts = refl; ends = refl; ascii = refl; lowering = refl }
 
--- ---- CityHash64 and the id of a name
-
--- n bytes that count from b
-abbrev counting : ℕ → ℕ → List ℕ
-counting zero b = []
-counting (suc n) b = b ∷ counting n (b + 1)
-
--- the first and the last length of each way that CityHash64 goes
-abbrev ways : List (ℕ × ℕ)
-ways =
-    (3, 0x94a1_3d22_e9eb_a49a) ∷
-    (4, 0x82bf_fd89_8958_e540) ∷
-    (7, 0xa2e0_bff2_0db0_a6a1) ∷
-    (8, 0xad5a_13e1_e8e9_3b98) ∷
-    (16, 0x0efd_25a0_a341_56d4) ∷
-    (17, 0xbbb6_a6f8_f20d_1f1c) ∷
-    (32, 0x1a9d_8199_972c_df49) ∷
-    (33, 0x46e1_378c_bc22_daba) ∷
-    (64, 0xe99a_b80f_5ec7_dca5) ∷
-    (65, 0xac58_9c99_0483_dd2e) ∷
-    (128, 0x10b1_5363_0af1_f395) ∷
-    []
+-- ---- the id of a name
 
 pub record Hashes : Type 0 where
-  pub at-edges : map (λ w. cityHash64 (counting (w .0) 0)) ways ≡ map (λ w. w .1) ways
   -- "Id of the empty name: k2"
   pub empty : idOf [] ≡ k2
-  -- CityHash64 of `61 00` and of `7A 00 C9 00`
+  -- CityHash64 of `61 00` and of `7A 00 E9 00`
   pub lowers : idOf (text "A") ∷ idOf (text "ZÉ") ∷ [] ≡ cityHash64 (0x61 ∷ 0x00 ∷ []) ∷ cityHash64 (0x7A ∷ 0x00 ∷ 0xE9 ∷ 0x00 ∷ []) ∷ []
 
 pub hashes : Hashes
-unfolding idOf lower encodeOne encode16 cityHash64 len0to16 len1to3 len4to7 len8to16 mix4 len17to32 mix8 mixU mixV mixY mixLast swapMul len33to64
-    longer start turns turn finish nextX nextY nextZ nextV nextW weakAt weak32 leAt mulOf addw mulw rotr swap shiftMix hashLen16 hashLen16Mul
-hashes = record { at-edges = refl; empty = refl; lowers = refl }
+unfolding idOf lower encodeOne encode16 cityHash64 len0to16 len1to3 len4to7 leAt mulOf addw mulw rotr shiftMix hashLen16Mul
+hashes = record { empty = refl; lowers = refl }

@@ -4,7 +4,7 @@ use mathlib.Core.List.{List}
 use Prim.Native.Nat.{ℕ}
 use Rattle.text.specs.Utf16.{utf16le}
 use Rattle.lower.specs.Lower.{lowered}
-use Rattle.text.specs.City.{cityHash64}
+use Rattle.city.specs.City.{cityHash64}
 
 unfoldable pub idOf : List ℕ → ℕ
 idOf t = cityHash64 (utf16le (lowered t))

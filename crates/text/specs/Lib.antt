@@ -1,29 +1,9 @@
--- Layer 1's definitions, each with its laws beside it.
+-- Layer 1: text. Definitions, each with its laws beside it.
 
--- ---- Choosing by a test; lists
-pub mod Never
-pub mod Choose
-pub mod Find
-pub mod FindLaws
-pub mod LoopLaws
-pub mod Perm
--- ---- Numbers: in bytes, signed, written to the front of a buffer
-pub mod Number
-pub mod NumberLaws
-pub mod Signed
-pub mod SignedSize
-pub mod SignedLaws
-pub mod Output
-pub mod OutputLaws
--- ---- Indices and answers
-pub mod Index
-pub mod IndexLaws
-pub mod Answer
--- ---- Text: UTF-16, UTF-8, digits, names, affixes, lowering
+-- ---- UTF-16, UTF-8, digits, names, affixes, lowering
 pub mod Utf16
 pub mod Utf16Cases
 pub mod Utf16Laws
-pub mod Literal
 pub mod Units
 pub mod UnitsLaws
 pub mod Utf8
@@ -37,28 +17,8 @@ pub mod Affix
 pub mod AffixLaws
 pub mod PlainLaws
 pub mod LowerLaws
--- ---- Hash: words of 64 bits, CityHash64, the id of a name
-pub mod Word
-pub mod City
-pub mod CityLaws
-pub mod CityExamples
+-- ---- The id of a name
 pub mod Id
 pub mod IdLaws
--- ---- Readings: blocks as programs of reads, arrays of records, which bytes count
-pub mod Reading
-pub mod ReadingLaws
-pub mod ReadingRows
-pub mod Seek
-pub mod SeekLaws
-pub mod ReadingFront
-pub mod ReadingGives
-pub mod ReadingMarks
-pub mod ReadingRewrite
-pub mod ReadingTrail
-pub mod ReadingRefusals
--- ---- The house form: length first, big-endian
-pub mod House
-pub mod HouseLaws
 -- ---- All of it computed at its edges
 pub mod Examples
-pub mod ReadingExamples

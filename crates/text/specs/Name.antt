@@ -3,7 +3,7 @@ use mathlib.Core.Bool.{Bool, true, false}
 use mathlib.Core.List.{List, [], _∷_, _++_}
 use Prim.Native.Nat.{ℕ, zero, suc}
 use lib.ListN.{length}
-use Rattle.text.specs.Number.{beBytes}
+use Rattle.base.specs.Number.{beBytes}
 use Rattle.text.specs.Utf16.{Decoded, well, scalars, utf16, units}
 use Rattle.text.specs.Utf8.{utf8}
 use Rattle.text.specs.Digits.{decimal}

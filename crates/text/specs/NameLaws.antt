@@ -7,7 +7,7 @@ use native.Mathlib.Numerals.{sub-one}
 use native.Mathlib.Omega.{arith}
 use lib.ListN.{length, length-append}
 use Rattle.text.specs.Affix.{allAscii}
-use Rattle.text.specs.Number.{beBytes}
+use Rattle.base.specs.Number.{beBytes}
 use Rattle.text.specs.Utf8.{utf8}
 use Rattle.text.specs.Utf8Laws.{utf8-append, utf8-ascii}
 use Rattle.text.specs.Digits.{decimal}

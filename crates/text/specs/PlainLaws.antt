@@ -11,10 +11,10 @@ use lib.Dec.{eqb, ltb}
 use lib.ListN.{length, take, drop, getD, length-append, length-drop, take-append-drop}
 use lib.Seq.{take-suc, take-add, take-all, drop-drop, length-take-le}
 use Rattle.text.specs.Affix.{allAscii}
-use Rattle.text.specs.Number.{le, leAt}
-use Rattle.text.specs.NumberLaws.{Bytes, bytes-part, leAt-is}
-use Rattle.text.specs.Output.{over, Wrote}
-use Rattle.text.specs.OutputLaws.{drop-over, wrote-length}
+use Rattle.base.specs.Number.{le, leAt}
+use Rattle.base.specs.NumberLaws.{Bytes, bytes-part, leAt-is}
+use Rattle.base.specs.Output.{over, Wrote}
+use Rattle.base.specs.OutputLaws.{drop-over, wrote-length}
 use Rattle.text.specs.Name.{decoded, base}
 use Rattle.text.specs.Utf8.{utf8One, utf8}
 use Rattle.text.specs.Utf8Laws.{Sized, one, two, three, four, sized, utf8-1, utf8-2, utf8-3, utf8-4, utf8-ascii}

@@ -6,7 +6,7 @@ use mathlib.Core.List.{List, [], _∷_, _++_, map}
 use Prim.Native.Nat.{ℕ, _+_, _-_, _%_}
 use lib.Dec.{ltb}
 use lib.ListN.{take, drop}
-use Rattle.text.specs.Choose.{choose}
+use Rattle.base.specs.Choose.{choose}
 use Rattle.text.specs.Utf16.{isHigh, isLow, ofPair, units, encode16}
 use Rattle.lower.specs.Ascii.{lowerAscii}
 use Rattle.lower.specs.Lower.{lower, lowered, flat}

@@ -6,9 +6,9 @@ use mathlib.Core.Logic.{inl}
 use Prim.Native.Nat.{ℕ, zero, suc, _+_, _*_, _/_, _≤_, _<_}
 use native.Mathlib.Omega.{arith}
 use lib.ListN.{length, drop, getD}
-use Rattle.text.specs.Never.{never}
-use Rattle.text.specs.NumberLaws.{Bytes}
-use Rattle.text.specs.Number.{leAt}
+use Rattle.base.specs.Never.{never}
+use Rattle.base.specs.NumberLaws.{Bytes}
+use Rattle.base.specs.Number.{leAt}
 use Rattle.text.specs.Utf16.{Decoded, well, ill, isWell, more, ofPair, utf16, units, encode16, Scalars}
 use Rattle.text.specs.Name.{decoded, base}
 use Rattle.text.specs.Units.{unitsOf, scalarOf}

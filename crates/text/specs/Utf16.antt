@@ -4,7 +4,7 @@ use mathlib.Core.List.{List, [], _∷_, _++_}
 use mathlib.Core.Logic.{_⊎_}
 use Prim.Native.Nat.{ℕ, _+_, _*_, _-_, _/_, _%_, _≤_, _<_}
 use lib.Dec.{leb, ltb}
-use Rattle.text.specs.Choose.{choose}
+use Rattle.base.specs.Choose.{choose}
 
 -- D76: a Unicode scalar value is any code point but a surrogate
 abbrev pub Scalar : ℕ → Type 0

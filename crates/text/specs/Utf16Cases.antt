@@ -9,8 +9,8 @@ use lib.Dec.{leb, ltb}
 use lib.ListN.{drop, getD}
 use lib.Seq.{getD-drop}
 use borrow.Author.Tests.{lt-ltb, le-ltb, le-leb, lt-leb}
-use Rattle.text.specs.Never.{never}
-use Rattle.text.specs.Choose.{lt-or-le}
+use Rattle.base.specs.Never.{never}
+use Rattle.base.specs.Choose.{lt-or-le}
 use Rattle.text.specs.Utf16.{Decoded, well, ill, isWell, scalars, more, isHigh, isLow, ofPair, utf16}
 
 -- every element is a unit of 16 bits

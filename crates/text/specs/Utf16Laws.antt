@@ -8,7 +8,7 @@ use native.Mathlib.Omega.{arith}
 use lib.Dec.{ltb}
 use lib.ListN.{length}
 use borrow.Author.Tests.{lt-ltb, le-ltb, ltb-true, ltb-false}
-use Rattle.text.specs.Never.{never}
+use Rattle.base.specs.Never.{never}
 use Rattle.text.specs.Utf16.{Decoded, well, ill, isWell, scalars, more, ofPair, utf16, encodeOne, encode16, Scalar, Scalars}
 use Rattle.text.specs.Affix.{allAscii}
 use Rattle.text.specs.Utf16Cases.{Words, High, Low, Single, Cases, none, single, pair, stray, lone, cases, utf16-none, utf16-single, utf16-pair, utf16-stray, utf16-lone}

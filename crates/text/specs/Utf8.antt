@@ -3,7 +3,7 @@ use mathlib.Core.Bool.{cond, _&&_, _||_}
 use mathlib.Core.List.{List, [], _∷_, _++_}
 use Prim.Native.Nat.{ℕ, zero, suc, _+_, _*_, _-_, _/_, _%_}
 use lib.Dec.{leb, ltb}
-use Rattle.text.specs.Choose.{choose}
+use Rattle.base.specs.Choose.{choose}
 use Rattle.text.specs.Utf16.{Decoded, well, ill, more}
 
 -- 0xxxxxxx; 110xxxxx 10xxxxxx; 1110xxxx 10xxxxxx 10xxxxxx; 11110xxx 10xxxxxx 10xxxxxx 10xxxxxx

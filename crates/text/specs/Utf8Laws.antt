@@ -8,7 +8,7 @@ use native.Mathlib.Omega.{arith}
 use borrow.Author.Tests.{lt-ltb, le-ltb, le-leb, ltb-true}
 use lib.Dec.{leb, ltb}
 use lib.ListN.{length}
-use Rattle.text.specs.Choose.{lt-or-le}
+use Rattle.base.specs.Choose.{lt-or-le}
 use Rattle.text.specs.Affix.{allAscii}
 use Rattle.text.specs.Utf16.{well, more, Scalar, Scalars}
 use Rattle.text.specs.Utf8.{utf8One, utf8, fromUtf8On, fromUtf8}

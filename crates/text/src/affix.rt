@@ -7,9 +7,9 @@ ghost use Rattle.text.specs.Utf16.{isWell};
 ghost use Rattle.text.specs.Name.{decoded, base};
 ghost use Rattle.text.specs.Units.{unitsOf};
 ghost use Rattle.text.specs.Affix.{startsWith, endsWith, allAscii};
-use super::number;
 use super::units::unit_at;
 use super::units::unit_count;
+use base::number;
 
 // Whether the units of a part from a place on start with an ASCII text.
 fn units_match(part: &[u8], wide: bool, from: usize, affix: &[u8]) -> bool

@@ -3,18 +3,18 @@ ghost use mathlib.Core.Path.{_≡_};
 ghost use mathlib.Core.Bool.{true};
 ghost use Prim.Native.Nat.{_*_, _^_, _+_, _≤_, _<_};
 ghost use lib.ListN.{length};
-ghost use Rattle.text.specs.Output.{Wrote};
+ghost use Rattle.base.specs.Output.{Wrote};
 ghost use Rattle.text.specs.Utf16.{isWell};
 ghost use Rattle.text.specs.Utf8.{utf8};
 ghost use Rattle.text.specs.Name.{decoded, base, suffix, rendered, textBytes};
 use super::digits::decimal_len;
 use super::digits::put_decimal;
-use super::output::put_be32;
 use super::units::unit_count;
 use super::utf8::put_utf8;
 use super::utf8::utf8_len;
 use super::utf16::Scalar;
 use super::utf16::scalar_at;
+use base::output::put_be32;
 
 // How many bytes of UTF-8 the base takes.
 pub fn base_len(part: &[u8], wide: bool) -> usize

@@ -5,15 +5,15 @@ ghost use Prim.Native.Nat.{_*_, _^_, _+_, _≤_, _<_};
 ghost use lib.ListN.{length, take, drop};
 ghost use lib.Seq.{paste};
 ghost use Rattle.text.specs.Affix.{allAscii};
-ghost use Rattle.text.specs.Output.{Wrote};
+ghost use Rattle.base.specs.Output.{Wrote};
 ghost use Rattle.text.specs.Utf16.{isWell};
 ghost use Rattle.text.specs.Utf8.{utf8};
 ghost use Rattle.text.specs.Name.{decoded, base, rendered, textBytes};
 use super::name;
 use super::name::put_suffix;
 use super::name::suffix_len;
-use super::number::le64;
-use super::output::put_be32;
+use base::number::le64;
+use base::output::put_be32;
 
 // Whether the eight bytes from a place on are ASCII: none of them has its highest bit set.
 fn is_word(part: &[u8], i: usize) -> bool

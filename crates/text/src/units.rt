@@ -3,7 +3,7 @@ ghost use mathlib.Core.Path.{_≡_};
 ghost use Prim.Native.Nat.{_<_};
 ghost use lib.ListN.{length, getD};
 ghost use Rattle.text.specs.Units.{unitsOf};
-use super::number;
+use base::number;
 
 // How many units a part has.
 pub fn unit_count(part: &[u8], wide: bool) -> usize

@@ -7,7 +7,7 @@ use lib.ListN.{length}
 use Rattle.text.specs.Utf16.{isWell}
 use Rattle.text.specs.Utf8.{utf8}
 use Rattle.text.specs.Name.{decoded, rendered}
-use Rattle.text.specs.Output.{over}
+use Rattle.base.specs.Output.{over}
 use Rattle.text.specs.Id.{idOf}
 
 -- a text, of fewer than 2 ^ 32 bytes

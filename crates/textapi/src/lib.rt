@@ -2,14 +2,14 @@
 ghost use mathlib.Core.Path.{_≡_};
 ghost use lib.ListN.{length};
 ghost use Rattle.lower.specs.Lower.{lower};
-ghost use Rattle.text.specs.City.{cityHash64};
+ghost use Rattle.city.specs.City.{cityHash64};
 ghost use Rattle.textapi.specs.Answers.{fine, idAnswer, nameAnswer, nameAfter};
 
 #[no_mangle]
 pub extern "C" fn text_city_hash64(s: &[u8]) -> u64
     ensures { λ r. ⌜ r ≡ cityHash64 (now (s .entry)) ⌝ }
 {
-    text::city::city_hash64(s)
+    city::city::city_hash64(s)
 }
 
 // The lower-case form of a character, as the id of a name takes it.

@@ -7,11 +7,11 @@ use native.Mathlib.Omega.{arith}
 use borrow.Author.Tests.{eq-eqb, ne-eqb}
 use lib.Dec.{eqb}
 use lib.ListN.{length}
-use Rattle.text.specs.Number.{leAt}
-use Rattle.text.specs.Reading.{run}
-use Rattle.text.specs.ReadingRows.{cells}
-use Rattle.text.specs.Seek.{seekFrom}
-use Rattle.text.specs.SeekLaws.{cells-none, cells-here, cells-next}
+use Rattle.base.specs.Number.{leAt}
+use Rattle.base.specs.Reading.{run}
+use Rattle.base.specs.ReadingRows.{cells}
+use Rattle.base.specs.Seek.{seekFrom}
+use Rattle.base.specs.SeekLaws.{cells-none, cells-here, cells-next}
 use Rattle.zen.specs.Script.{script}
 use Rattle.zen.specs.ScriptAnswers.{entryAt, scriptAnswer, entriesOf}
 use Rattle.zen.specs.ScriptAccepted.{script-parts}

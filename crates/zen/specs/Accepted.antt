@@ -10,12 +10,12 @@ use borrow.Author.Tests.{ltb-true, eqb-true}
 use lib.Dec.{ltb, eqb}
 use lib.ListN.{length, take, getD}
 use lib.Seq.{length-take-le}
-use Rattle.text.specs.Reading.{gives, Got, bad, got, runBlock, walk}
-use Rattle.text.specs.ReadingLaws.{walk-bind, chain-by, pick-by, ask-by, bad-got, out}
-use Rattle.text.specs.ReadingGives.{refused-gives}
-use Rattle.text.specs.ReadingRows.{cells, cells-at, cells-length}
-use Rattle.text.specs.Number.{leAt}
-use Rattle.text.specs.NumberLaws.{Bytes, bytes-part, leAt-part, leAt-lt}
+use Rattle.base.specs.Reading.{gives, Got, bad, got, runBlock, walk}
+use Rattle.base.specs.ReadingLaws.{walk-bind, chain-by, pick-by, ask-by, bad-got, out}
+use Rattle.base.specs.ReadingGives.{refused-gives}
+use Rattle.base.specs.ReadingRows.{cells, cells-at, cells-length}
+use Rattle.base.specs.Number.{leAt}
+use Rattle.base.specs.NumberLaws.{Bytes, bytes-part, leAt-part, leAt-lt}
 use Rattle.zen.specs.Batch.{batch}
 use Rattle.zen.specs.Zen.{Read, Tables, Imports, summary, ordered, bulk, tables, exportAt, imports, content, header, lead, packageBlock, named, noExport}
 use Rattle.zen.specs.Answers.{Order, answer, hashesOf, exportsOf, namesOf, importedOf, numbersOf, hashCount, exportCount}

@@ -1,7 +1,7 @@
 -- The code's answers, as functions of what a reading gives.
 use mathlib.Core.List.{List, []}
 use Prim.Native.Nat.{ℕ, _-_, _/_, _≤_}
-use Rattle.text.specs.Reading.{Out, refused, gives, Got, bad, got}
+use Rattle.base.specs.Reading.{Out, refused, gives, Got, bad, got}
 use Rattle.zen.specs.Batch.{Batch}
 use Rattle.zen.specs.Zen.{Read, Imports, importedName, packageName}
 use Rattle.zen.specs.declared.summary.Summary.{Summary}

@@ -4,9 +4,9 @@ use mathlib.Core.List.{List, _∷_}
 use Prim.Native.Nat.{ℕ, zero, suc, _-_, _≤_, _<_}
 use native.Mathlib.Omega.{arith}
 use native.Mathlib.Numerals.{sub-one}
-use Rattle.text.specs.Never.{never}
-use Rattle.text.specs.Reading.{Out, refused, gives, Got, bad, got, Reading, walk, rows}
-use Rattle.text.specs.ReadingRows.{mapGot, rows-zero, rows-suc}
+use Rattle.base.specs.Never.{never}
+use Rattle.base.specs.Reading.{Out, refused, gives, Got, bad, got, Reading, walk, rows}
+use Rattle.base.specs.ReadingRows.{mapGot, rows-zero, rows-suc}
 use Rattle.zen.specs.Batch.{Batch}
 use Rattle.zen.specs.Zen.{Imports, Read}
 use Rattle.zen.specs.Answers.{led, summed, batched, imported, checked, answer}

@@ -4,9 +4,9 @@ use mathlib.Core.Bool.{true, false}
 use Prim.Native.Nat.{ℕ, _+_, _*_, _-_, _%_}
 use lib.ListN.{getD}
 use lib.Dec.{leb, eqb}
-use Rattle.text.specs.Choose.{choose, pick}
+use Rattle.base.specs.Choose.{choose, pick}
 use Rattle.text.specs.Utf16.{isWell}
-use Rattle.text.specs.Reading.{Reading, give, bytes, _>>=_, _>>_, taken, over-bytes, bytesLeft, place, number, ask, onto, rows}
+use Rattle.base.specs.Reading.{Reading, give, bytes, _>>=_, _>>_, taken, over-bytes, bytesLeft, place, number, ask, onto, rows}
 use Rattle.text.specs.Name.{decoded, base}
 use Rattle.zen.specs.declared.names.Names.{Names}
 use Rattle.zen.specs.declared.names.Head.{Head}

@@ -9,14 +9,14 @@ use borrow.Author.Tests.{le-leb, lt-leb, eq-eqb, ne-eqb, leb-true, eqb-true}
 use lib.Dec.{leb, eqb}
 use lib.ListN.{length, take, drop, getD}
 use lib.Seq.{getD-take, getD-drop}
-use Rattle.text.specs.Choose.{choose, pick}
+use Rattle.base.specs.Choose.{choose, pick}
 use Rattle.text.specs.Utf16.{isWell}
 use Rattle.text.specs.Name.{decoded, base}
-use Rattle.text.specs.Reading.{Got, bad, got, give, walk, rows, ask, onto, _>>_}
-use Rattle.text.specs.ReadingLaws.{chain, walk-bind, pick-by, ask-is, pick-cong}
-use Rattle.text.specs.ReadingRows.{cells, mapGot, rows-there, rows-short, map-pick, map-by}
-use Rattle.text.specs.Number.{le, leAt}
-use Rattle.text.specs.NumberLaws.{leAt-is}
+use Rattle.base.specs.Reading.{Got, bad, got, give, walk, rows, ask, onto, _>>_}
+use Rattle.base.specs.ReadingLaws.{chain, walk-bind, pick-by, ask-is, pick-cong}
+use Rattle.base.specs.ReadingRows.{cells, mapGot, rows-there, rows-short, map-pick, map-by}
+use Rattle.base.specs.Number.{le, leAt}
+use Rattle.base.specs.NumberLaws.{leAt-is}
 use Rattle.zen.specs.Batch.{head, headAt, stringsOn, strings, Batch, batch, noNames, someNames, body}
 use Rattle.zen.specs.Answers.{checked}
 use Rattle.zen.specs.AnswersLaws.{checked-map, checked-got, checked-bad}

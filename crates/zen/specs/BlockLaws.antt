@@ -6,11 +6,11 @@ use native.Mathlib.Omega.{arith}
 use borrow.Author.Tests.{leb-true}
 use lib.Dec.{leb, eqb, lit≤}
 use lib.ListN.{length, take, drop, length-take, drop-of-length-le}
-use Rattle.text.specs.Choose.{pick}
-use Rattle.text.specs.Reading.{refused, Got, bad, got, runBlock, walk}
-use Rattle.text.specs.ReadingLaws.{pick-by, ask-is, pick-cong, out, run-walk, then-bad, block-read, block-refused}
-use Rattle.text.specs.Number.{le, leAt}
-use Rattle.text.specs.NumberLaws.{leAt-is}
+use Rattle.base.specs.Choose.{pick}
+use Rattle.base.specs.Reading.{refused, Got, bad, got, runBlock, walk}
+use Rattle.base.specs.ReadingLaws.{pick-by, ask-is, pick-cong, out, run-walk, then-bad, block-read, block-refused}
+use Rattle.base.specs.Number.{le, leAt}
+use Rattle.base.specs.NumberLaws.{leAt-is}
 use Rattle.zen.specs.Zen.{summary, header, lead, packageBlock}
 use Rattle.zen.specs.SummaryLaws.{summary-short}
 

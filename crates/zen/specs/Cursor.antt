@@ -2,7 +2,7 @@
 -- cursor's position (question 3: "are its bytes there?"). Assumes nothing.
 use mathlib.Core.List.{List}
 use Prim.Native.Nat.{ℕ}
-use Rattle.text.specs.Reading.{Got, bad, got, walk}
+use Rattle.base.specs.Reading.{Got, bad, got, walk}
 use Rattle.zen.specs.Batch.{u32}
 use Rattle.zen.specs.declared.cursor.Word.{Word}
 use Rattle.zen.specs.declared.cursor.Word.the-variants.{Got as Word-at, Short}

@@ -5,8 +5,8 @@ use Prim.Native.Nat.{ℕ, _+_, _≤_, _<_}
 use native.Mathlib.Decide.{decLe}
 use native.Mathlib.Omega.{arith}
 use lib.ListN.{length}
-use Rattle.text.specs.Number.{leAt}
-use Rattle.text.specs.ReadingLaws.{number-there, number-short}
+use Rattle.base.specs.Number.{leAt}
+use Rattle.base.specs.ReadingLaws.{number-there, number-short}
 use Rattle.zen.specs.Cursor.{worded, wordAt, behind}
 use Rattle.zen.specs.declared.cursor.Word.the-variants.{Got, Short}
 

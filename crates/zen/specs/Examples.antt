@@ -6,9 +6,9 @@ use Prim.Native.Nat.{ℕ, zero, suc, _+_, _*_, _/_, _%_}
 use lib.ListN.{length, replicate}
 use Rattle.text.specs.Digits.{decimal, digits}
 use Rattle.text.specs.Name.{decoded}
-use Rattle.text.specs.Reading.{Out, refused, gives, run, runBlock, rows}
-use Rattle.text.specs.ReadingMarks.{Mark, whole, low, none, marks, marksBlock}
-use Rattle.text.specs.Signed.{twos}
+use Rattle.base.specs.Reading.{Out, refused, gives, run, runBlock, rows}
+use Rattle.base.specs.ReadingMarks.{Mark, whole, low, none, marks, marksBlock}
+use Rattle.base.specs.Signed.{twos}
 use Rattle.text.specs.Utf16.{utf16, units}
 use Rattle.zen.specs.Batch.{batch, noNames, someNames, body, head, headOf, strings}
 use Rattle.zen.specs.Script.{Objects, entry, entries, opening, script, objectName}

@@ -4,9 +4,9 @@ use mathlib.Core.List.{List}
 use Prim.Native.Nat.{ℕ, _+_, _*_, _%_, _^_, _≤_, _<_}
 use native.Mathlib.Omega.{arith}
 use lib.ListN.{length, getD}
-use Rattle.text.specs.Number.{leAt}
-use Rattle.text.specs.NumberLaws.{Bytes, leAt-add, leAt-one, leAt-lt}
-use Rattle.text.specs.Index.{nameIndex}
+use Rattle.base.specs.Number.{leAt}
+use Rattle.base.specs.NumberLaws.{Bytes, leAt-add, leAt-one, leAt-lt}
+use Rattle.base.specs.Index.{nameIndex}
 
 -- the low 30 bits of four bytes
 unfoldable pub low30 : List ℕ → ℕ → ℕ

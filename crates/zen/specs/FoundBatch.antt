@@ -8,14 +8,14 @@ use native.Mathlib.Decide.{decLe}
 use borrow.Author.Tests.{leb-true}
 use lib.Dec.{leb, eqb}
 use lib.ListN.{length}
-use Rattle.text.specs.Never.{never}
-use Rattle.text.specs.Choose.{pick}
+use Rattle.base.specs.Never.{never}
+use Rattle.base.specs.Choose.{pick}
 use Rattle.text.specs.Utf16.{isWell}
-use Rattle.text.specs.Reading.{Got, bad, got, walk}
-use Rattle.text.specs.ReadingLaws.{chain-by, pick-by, bad-got, walk-within}
-use Rattle.text.specs.ReadingRows.{cells}
-use Rattle.text.specs.Number.{leAt}
-use Rattle.text.specs.NumberLaws.{Bytes, leAt-lt}
+use Rattle.base.specs.Reading.{Got, bad, got, walk}
+use Rattle.base.specs.ReadingLaws.{chain-by, pick-by, bad-got, walk-within}
+use Rattle.base.specs.ReadingRows.{cells}
+use Rattle.base.specs.Number.{leAt}
+use Rattle.base.specs.NumberLaws.{Bytes, leAt-lt}
 use Rattle.text.specs.Name.{decoded}
 use Rattle.zen.specs.Batch.{Batch, batch, someNames, body, strings, headAt}
 use Rattle.zen.specs.Answers.{batched}

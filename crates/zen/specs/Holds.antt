@@ -9,7 +9,7 @@ use lib.ListN.{length, take, drop, getD, length-append, length-take, length-drop
 use lib.Seq.{length-take-le, take-take}
 use Rattle.text.specs.Affix.{endsWith, allAscii}
 use Rattle.text.specs.AffixLaws.{unitSize, base-rest, ends-true}
-use Rattle.text.specs.NumberLaws.{Bytes, bytes-part, drop-take}
+use Rattle.base.specs.NumberLaws.{Bytes, bytes-part, drop-take}
 use Rattle.text.specs.Utf16.{well, isWell, Scalars}
 use Rattle.text.specs.Name.{decoded, base, suffix}
 use Rattle.text.specs.NameLength.{name-length}

@@ -4,11 +4,11 @@ use mathlib.Core.List.{List}
 use Prim.Native.Nat.{ℕ, _+_, _*_, _-_, _≤_, _<_}
 use lib.Dec.{ltb, eqb}
 use lib.ListN.{length}
-use Rattle.text.specs.Choose.{pick}
-use Rattle.text.specs.Reading.{bad, got, walk, rows}
-use Rattle.text.specs.ReadingLaws.{ask-is, pick-cong, then-walk, then-bad, number-there, number-short}
-use Rattle.text.specs.ReadingRows.{cells, rows-there, rows-short}
-use Rattle.text.specs.Number.{leAt}
+use Rattle.base.specs.Choose.{pick}
+use Rattle.base.specs.Reading.{bad, got, walk, rows}
+use Rattle.base.specs.ReadingLaws.{ask-is, pick-cong, then-walk, then-bad, number-there, number-short}
+use Rattle.base.specs.ReadingRows.{cells, rows-there, rows-short}
+use Rattle.base.specs.Number.{leAt}
 use Rattle.zen.specs.Batch.{u32, batch}
 use Rattle.zen.specs.Zen.{imports}
 use Rattle.zen.specs.Answers.{batched}

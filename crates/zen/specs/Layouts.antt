@@ -9,12 +9,12 @@ use borrow.Author.Tests.{leb-true, eqb-true}
 use lib.Dec.{leb, ltb, eqb}
 use lib.ListN.{length, take}
 use lib.Seq.{length-take-le}
-use Rattle.text.specs.Choose.{pick}
-use Rattle.text.specs.Number.{leAt}
-use Rattle.text.specs.Reading.{gives, Got, bad, got, runBlock, walk, rows}
-use Rattle.text.specs.ReadingLaws.{walk-bind, chain-by, pick-by, ask-by, bad-got, walk-within, out}
-use Rattle.text.specs.ReadingGives.{refused-gives}
-use Rattle.text.specs.ReadingRows.{cells}
+use Rattle.base.specs.Choose.{pick}
+use Rattle.base.specs.Number.{leAt}
+use Rattle.base.specs.Reading.{gives, Got, bad, got, runBlock, walk, rows}
+use Rattle.base.specs.ReadingLaws.{walk-bind, chain-by, pick-by, ask-by, bad-got, walk-within, out}
+use Rattle.base.specs.ReadingGives.{refused-gives}
+use Rattle.base.specs.ReadingRows.{cells}
 use Rattle.zen.specs.Batch.{u32, Batch, batch, someNames, body, strings, headAt}
 use Rattle.zen.specs.BatchLaws.{strings-got, batch-is, some-is, body-hashes, body-heads, body-room, body-is}
 use Rattle.zen.specs.Zen.{Read, Tables, Imports, summary, summaryAt, ordered, bulk, tables, named, imports, content, header, lead, packageBlock}

@@ -4,8 +4,8 @@ use mathlib.Core.List.{List, [], _∷_, _++_}
 use Prim.Native.Nat.{ℕ, _+_, _*_, _-_, _/_}
 use lib.Dec.{eqb}
 use lib.ListN.{replicate}
-use Rattle.text.specs.ReadingMarks.{Mark, whole, low, none}
-use Rattle.text.specs.ReadingTrail.{copies}
+use Rattle.base.specs.ReadingMarks.{Mark, whole, low, none}
+use Rattle.base.specs.ReadingTrail.{copies}
 use Rattle.zen.specs.declared.names.Names.{Names}
 use Rattle.zen.specs.declared.script.Layout as Script
 use Rattle.zen.specs.declared.zen.Layout as Package

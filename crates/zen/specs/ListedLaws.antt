@@ -8,16 +8,16 @@ use borrow.Author.Tests.{leb-true, eqb-true}
 use lib.Dec.{leb, ltb, eqb}
 use lib.Signed.{nonNeg}
 use lib.ListN.{length, take, drop, replicate, replicate-append-replicate}
-use Rattle.text.specs.Choose.{choose}
+use Rattle.base.specs.Choose.{choose}
 use Rattle.text.specs.Utf16.{isWell}
 use Rattle.text.specs.Name.{decoded, base}
-use Rattle.text.specs.Number.{le}
-use Rattle.text.specs.Index.{kind}
-use Rattle.text.specs.Signed.{twos}
-use Rattle.text.specs.Reading.{got, give, walk, ask, rows, onto}
-use Rattle.text.specs.ReadingLaws.{walk-bind, chain-by, pick-by, ask-by, bad-got}
-use Rattle.text.specs.ReadingMarks.{Mark, whole, none}
-use Rattle.text.specs.ReadingTrail.{trail, trail-bind, trail-ask, trail-rows, copies, copies-replicate}
+use Rattle.base.specs.Number.{le}
+use Rattle.base.specs.Index.{kind}
+use Rattle.base.specs.Signed.{twos}
+use Rattle.base.specs.Reading.{got, give, walk, ask, rows, onto}
+use Rattle.base.specs.ReadingLaws.{walk-bind, chain-by, pick-by, ask-by, bad-got}
+use Rattle.base.specs.ReadingMarks.{Mark, whole, none}
+use Rattle.base.specs.ReadingTrail.{trail, trail-bind, trail-ask, trail-rows, copies, copies-replicate}
 use Rattle.zen.specs.Batch.{u32, u64, Batch, batch, noNames, someNames, body, head, strings, stringsOn}
 use Rattle.zen.specs.Script.{Start, Objects, entry, fresh, entriesOn, entries, opening, script}
 use Rattle.zen.specs.Zen.{Tables, Imports, Read, offset, summary, bulk, export, named, tables, imports, content, header, ordered}

@@ -2,7 +2,7 @@
 use mathlib.Core.List.{List}
 use Prim.Native.Nat.{ℕ}
 use lib.Dec.{eqb}
-use Rattle.text.specs.Seek.{seek}
+use Rattle.base.specs.Seek.{seek}
 use Rattle.zen.specs.declared.script.Entry.{Entry}
 
 -- one more than the number of the first entry with a global index; 0 where none has it

@@ -5,8 +5,8 @@ use mathlib.Core.List.{List, [], _++_}
 use Prim.Native.Nat.{ℕ, _+_, _*_, _≤_, _<_}
 use lib.ListN.{length, take, getD}
 use Rattle.text.specs.Name.{suffix}
-use Rattle.text.specs.NumberLaws.{Bytes}
-use Rattle.text.specs.Reading.{gives, runBlock}
+use Rattle.base.specs.NumberLaws.{Bytes}
+use Rattle.base.specs.Reading.{gives, runBlock}
 use Rattle.zen.specs.Zen.{Read, packageBlock, noExport, importedName, packageName}
 use Rattle.zen.specs.Answers.{answer, exportsOf, hashesOf, namesOf, importedOf, numbersOf, importedNameOf, packageNameOf, exportCount, hashCount}
 use Rattle.zen.specs.AnswersLaws.{accepted-got}

@@ -7,9 +7,9 @@ use native.Mathlib.Omega.{arith}
 use borrow.Author.Tests.{ltb-true}
 use lib.Dec.{ltb}
 use lib.ListN.{length, take, getD}
-use Rattle.text.specs.Reading.{refused, gives, runBlock}
-use Rattle.text.specs.ReadingRows.{cells-length}
-use Rattle.text.specs.NumberLaws.{Bytes}
+use Rattle.base.specs.Reading.{refused, gives, runBlock}
+use Rattle.base.specs.ReadingRows.{cells-length}
+use Rattle.base.specs.NumberLaws.{Bytes}
 use Rattle.text.specs.Name.{suffix, rendered}
 use Rattle.zen.specs.Zen.{Read, packageBlock, named, noExport}
 use Rattle.zen.specs.Answers.{answer, namesOf, exportsOf, importedOf, numbersOf, importedNameOf, packageNameOf}

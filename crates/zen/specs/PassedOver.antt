@@ -7,13 +7,13 @@ use native.Mathlib.Omega.{arith}
 use native.Mathlib.Decide.{decLe}
 use lib.ListN.{length, take, drop, replicate}
 use lib.Seq.{length-take-le}
-use Rattle.text.specs.NumberLaws.{Bytes}
-use Rattle.text.specs.Reading.{gives, Got, bad, got, run, walk, runBlock}
-use Rattle.text.specs.ReadingLaws.{block-read}
-use Rattle.text.specs.ReadingMarks.{whole, none, Agree, marks, marks-length, agree-same, marksBlock, block-marks, block-same}
-use Rattle.text.specs.ReadingRewrite.{Rewritten, rewriting, rewrite, run-rewrite, block-length, block-rewrite}
-use Rattle.text.specs.ReadingTrail.{trail, trail-marks, run-got}
-use Rattle.text.specs.ReadingGives.{refused-gives}
+use Rattle.base.specs.NumberLaws.{Bytes}
+use Rattle.base.specs.Reading.{gives, Got, bad, got, run, walk, runBlock}
+use Rattle.base.specs.ReadingLaws.{block-read}
+use Rattle.base.specs.ReadingMarks.{whole, none, Agree, marks, marks-length, agree-same, marksBlock, block-marks, block-same}
+use Rattle.base.specs.ReadingRewrite.{Rewritten, rewriting, rewrite, run-rewrite, block-length, block-rewrite}
+use Rattle.base.specs.ReadingTrail.{trail, trail-marks, run-got}
+use Rattle.base.specs.ReadingGives.{refused-gives}
 use Rattle.zen.specs.Batch.{Batch, batch}
 use Rattle.zen.specs.Script.{Objects, entry, script}
 use Rattle.zen.specs.Zen.{Read, summary, export, lead, header, packageBlock}

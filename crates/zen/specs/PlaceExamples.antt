@@ -5,9 +5,9 @@ use mathlib.Core.List.{List, [], _∷_, _++_, map}
 use Prim.Native.Nat.{ℕ, _+_}
 use Rattle.text.specs.Digits.{decimal, digits}
 use Rattle.text.specs.Name.{decoded}
-use Rattle.text.specs.Number.{leAt}
-use Rattle.text.specs.Reading.{Out, refused, gives, Got, bad, got, rows}
-use Rattle.text.specs.Signed.{twos}
+use Rattle.base.specs.Number.{leAt}
+use Rattle.base.specs.Reading.{Out, refused, gives, Got, bad, got, rows}
+use Rattle.base.specs.Signed.{twos}
 use Rattle.text.specs.Utf16.{utf16, units}
 use Rattle.zen.specs.Cursor.{worded, wordAt}
 use Rattle.zen.specs.Field.{low30}

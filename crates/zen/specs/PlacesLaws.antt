@@ -8,8 +8,8 @@ use native.Mathlib.Nat.{zero-add, suc-add, mod-lt}
 use native.Mathlib.Numerals.{sub-one}
 use lib.Dec.{leb}
 use lib.ListN.{length, take, drop, getD, length-take}
-use Rattle.text.specs.Choose.{pick}
-use Rattle.text.specs.NumberLaws.{Bytes, bytes-part}
+use Rattle.base.specs.Choose.{pick}
+use Rattle.base.specs.NumberLaws.{Bytes, bytes-part}
 use Rattle.text.specs.Utf16.{isWell, Scalars}
 use Rattle.text.specs.Name.{decoded, base}
 use Rattle.text.specs.Units.{unitsOf}

@@ -4,13 +4,13 @@ use mathlib.Core.List.{List, [], _∷_}
 use Prim.Native.Nat.{ℕ, zero, suc, _+_, _*_, _-_, _/_, _%_, _≤_}
 use lib.Dec.{leb, ltb, eqb, lit≤}
 use lib.Signed.{nonNeg}
-use Rattle.text.specs.Index.{kind}
+use Rattle.base.specs.Index.{kind}
 use Rattle.text.specs.Name.{decoded, base}
-use Rattle.text.specs.Number.{le}
-use Rattle.text.specs.Reading.{refused, run, runBlock}
-use Rattle.text.specs.ReadingRefusals.{Within, within, Asks, none, after, bits, past, rest, spot, asks-run, asks-block, asks-question, asks-choose, asks-more}
-use Rattle.text.specs.ReadingRefusals.{asks-last, asks-number, asks-bind, asks-rows}
-use Rattle.text.specs.Signed.{twos}
+use Rattle.base.specs.Number.{le}
+use Rattle.base.specs.Reading.{refused, run, runBlock}
+use Rattle.base.specs.ReadingRefusals.{Within, within, Asks, none, after, bits, past, rest, spot, asks-run, asks-block, asks-question, asks-choose, asks-more}
+use Rattle.base.specs.ReadingRefusals.{asks-last, asks-number, asks-bind, asks-rows}
+use Rattle.base.specs.Signed.{twos}
 use Rattle.text.specs.Utf16.{isWell}
 use Rattle.zen.specs.Batch.{head, stringsOn, strings, noNames, body, someNames, batch}
 use Rattle.zen.specs.Script.{entry, fresh, entriesOn, entries, opening, script}

@@ -5,10 +5,10 @@ use Prim.Native.Nat.{ℕ, zero, suc, _*_}
 use lib.Dec.{leb, ltb, eqb}
 use lib.ListN.{getD}
 use lib.Signed.{nonNeg}
-use Rattle.text.specs.Index.{kind}
-use Rattle.text.specs.Signed.{twos}
+use Rattle.base.specs.Index.{kind}
+use Rattle.base.specs.Signed.{twos}
 use Rattle.text.specs.Name.{suffix}
-use Rattle.text.specs.Reading.{Reading, give, _>>=_, _>>_, over-bytes, bytesLeft, place, u30, ask, onto}
+use Rattle.base.specs.Reading.{Reading, give, _>>=_, _>>_, over-bytes, bytesLeft, place, u30, ask, onto}
 use Rattle.zen.specs.Batch.{u32, u64, batch}
 use Rattle.zen.specs.declared.script.Entry.{Entry}
 use Rattle.zen.specs.declared.script.Layout.{Layout}

@@ -6,14 +6,14 @@ use native.Mathlib.Omega.{arith}
 use borrow.Author.Tests.{eqb-true}
 use lib.Dec.{eqb}
 use lib.ListN.{length, getD}
-use Rattle.text.specs.Never.{never}
-use Rattle.text.specs.Index.{kind}
+use Rattle.base.specs.Never.{never}
+use Rattle.base.specs.Index.{kind}
 use Rattle.text.specs.Name.{base, suffix}
-use Rattle.text.specs.NumberLaws.{Bytes}
+use Rattle.base.specs.NumberLaws.{Bytes}
 use Rattle.text.specs.Utf16.{Scalars}
-use Rattle.text.specs.Reading.{Out, refused, gives, Got, bad, got, run, walk}
-use Rattle.text.specs.ReadingLaws.{walk-bind, chain-by, pick-by, out}
-use Rattle.text.specs.ReadingRows.{cells, cells-at, cells-length}
+use Rattle.base.specs.Reading.{Out, refused, gives, Got, bad, got, run, walk}
+use Rattle.base.specs.ReadingLaws.{walk-bind, chain-by, pick-by, out}
+use Rattle.base.specs.ReadingRows.{cells, cells-at, cells-length}
 use Rattle.zen.specs.Script.{opening, Objects, script, objectName}
 use Rattle.zen.specs.ScriptAnswers.{entryAt, noEntry, faultAt, scriptAnswer, entriesOf, objectNames}
 use Rattle.zen.specs.ScriptFaults.{entryOf, no-fault, fresh-all, clear-own, clear-new}

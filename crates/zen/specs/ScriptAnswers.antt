@@ -4,10 +4,10 @@ use mathlib.Core.List.{List, [], _∷_}
 use Prim.Native.Nat.{ℕ, _+_, _*_}
 use lib.Dec.{ltb, eqb}
 use lib.ListN.{length}
-use Rattle.text.specs.Index.{kind}
-use Rattle.text.specs.Number.{leAt}
-use Rattle.text.specs.Reading.{Out, refused, gives, Got, bad, got, walk}
-use Rattle.text.specs.ReadingRows.{cells}
+use Rattle.base.specs.Index.{kind}
+use Rattle.base.specs.Number.{leAt}
+use Rattle.base.specs.Reading.{Out, refused, gives, Got, bad, got, walk}
+use Rattle.base.specs.ReadingRows.{cells}
 use Rattle.zen.specs.Field.{low30}
 use Rattle.zen.specs.Script.{Start, opening, Objects, fresh}
 use Rattle.zen.specs.declared.script.Entry.{Entry}

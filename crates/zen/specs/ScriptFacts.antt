@@ -8,10 +8,10 @@ use native.Mathlib.Omega.{arith}
 use borrow.Author.Tests.{eqb-true, eqb-false, eq-eqb, ne-eqb}
 use lib.Dec.{eqb}
 use lib.ListN.{length, getD}
-use Rattle.text.specs.Index.{kind}
-use Rattle.text.specs.NumberLaws.{Bytes}
-use Rattle.text.specs.Reading.{gives, run}
-use Rattle.text.specs.SeekLaws.{First, Never, never-seek, first-seek, seek-never, seek-first}
+use Rattle.base.specs.Index.{kind}
+use Rattle.base.specs.NumberLaws.{Bytes}
+use Rattle.base.specs.Reading.{gives, run}
+use Rattle.base.specs.SeekLaws.{First, Never, never-seek, first-seek, seek-never, seek-first}
 use Rattle.zen.specs.Script.{Objects, script}
 use Rattle.zen.specs.ScriptAnswers.{entryAt, noEntry, scriptAnswer, entriesOf, objectNames}
 use Rattle.zen.specs.ScriptAccepted.{accepted-objects, answer-of, entries-of, names-of, ScriptParts, script-parts, entry-count, name-count, entry-is, entry-inside}

@@ -10,9 +10,9 @@ use native.Mathlib.Decide.{ℕ-discrete}
 use borrow.Author.Tests.{lt-ltb, le-ltb, eq-eqb, ne-eqb, ltb-true, eqb-true}
 use lib.Dec.{ltb, eqb}
 use lib.ListN.{length, getD}
-use Rattle.text.specs.Index.{kind}
-use Rattle.text.specs.Reading.{onto}
-use Rattle.text.specs.ReadingRows.{cells, cells-at, cells-length}
+use Rattle.base.specs.Index.{kind}
+use Rattle.base.specs.Reading.{onto}
+use Rattle.base.specs.ReadingRows.{cells, cells-at, cells-length}
 use Rattle.zen.specs.Script.{fresh}
 use Rattle.zen.specs.ScriptAnswers.{entryAt, noEntry, faultOf, faultOn, freshAt, faultAt}
 use Rattle.zen.specs.declared.script.Entry.{Entry}

@@ -9,14 +9,14 @@ use borrow.Author.Tests.{eqb-true, ltb-true, eqb-false}
 use lib.Dec.{leb, ltb, eqb}
 use lib.ListN.{length}
 use lib.Signed.{nonNeg}
-use Rattle.text.specs.Choose.{choose}
-use Rattle.text.specs.Signed.{twos}
-use Rattle.text.specs.Index.{kind}
-use Rattle.text.specs.Number.{le}
+use Rattle.base.specs.Choose.{choose}
+use Rattle.base.specs.Signed.{twos}
+use Rattle.base.specs.Index.{kind}
+use Rattle.base.specs.Number.{le}
 use Rattle.text.specs.Utf16.{isWell}
 use Rattle.text.specs.Name.{decoded, base}
-use Rattle.text.specs.Reading.{gives, run, onto, rows}
-use Rattle.text.specs.ReadingGives.{Gives, gives-run, gives-ask, gives-bind, gives-any, gives-weaken, length-onto, rows-length}
+use Rattle.base.specs.Reading.{gives, run, onto, rows}
+use Rattle.base.specs.ReadingGives.{Gives, gives-run, gives-ask, gives-bind, gives-any, gives-weaken, length-onto, rows-length}
 use Rattle.zen.specs.Batch.{Batch, batch, noNames, someNames, body, strings, stringsOn, head}
 use Rattle.zen.specs.Script.{Objects, entry, fresh, entries, entriesOn, opening, script}
 use Rattle.zen.specs.declared.names.Head.{Head}

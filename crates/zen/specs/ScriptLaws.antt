@@ -10,15 +10,15 @@ use borrow.Author.Tests.{le-leb, lt-leb, lt-ltb, le-ltb, eq-eqb, ne-eqb, leb-tru
 use lib.Dec.{leb, ltb, eqb, lit≤}
 use lib.ListN.{length, take, drop}
 use lib.Signed.{nonNeg}
-use Rattle.text.specs.Never.{never}
-use Rattle.text.specs.Choose.{pick}
-use Rattle.text.specs.Index.{kind}
-use Rattle.text.specs.Number.{le, leAt}
-use Rattle.text.specs.NumberLaws.{leAt-is}
-use Rattle.text.specs.Signed.{twos}
-use Rattle.text.specs.Reading.{Got, bad, got, Reading, give, run, walk, ask, onto, _>>_}
-use Rattle.text.specs.ReadingLaws.{chain, walk-bind, chain-by, pick-by, ask-by, ask-is, pick-cong, out, run-walk, then-walk, then-bad}
-use Rattle.text.specs.ReadingRows.{cells}
+use Rattle.base.specs.Never.{never}
+use Rattle.base.specs.Choose.{pick}
+use Rattle.base.specs.Index.{kind}
+use Rattle.base.specs.Number.{le, leAt}
+use Rattle.base.specs.NumberLaws.{leAt-is}
+use Rattle.base.specs.Signed.{twos}
+use Rattle.base.specs.Reading.{Got, bad, got, Reading, give, run, walk, ask, onto, _>>_}
+use Rattle.base.specs.ReadingLaws.{chain, walk-bind, chain-by, pick-by, ask-by, ask-is, pick-cong, out, run-walk, then-walk, then-bad}
+use Rattle.base.specs.ReadingRows.{cells}
 use Rattle.zen.specs.Field.{low30}
 use Rattle.zen.specs.Batch.{batch}
 use Rattle.zen.specs.Script.{entry, fresh, entriesOn, entries, Start, opening, Objects, script}

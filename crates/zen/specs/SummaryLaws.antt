@@ -9,12 +9,12 @@ use borrow.Author.Tests.{le-leb, lt-leb, leb-true}
 use lib.Dec.{leb}
 use lib.ListN.{length, take, drop}
 use lib.Signed.{nonNeg}
-use Rattle.text.specs.Reading.{Got, bad, got, walk, rows}
-use Rattle.text.specs.ReadingLaws.{walk-bind, pick-by, bad-got, walk-within, ask-by, pick-short}
-use Rattle.text.specs.ReadingRows.{rows-got}
-use Rattle.text.specs.Number.{le, leAt}
-use Rattle.text.specs.NumberLaws.{leAt-is}
-use Rattle.text.specs.Signed.{twos}
+use Rattle.base.specs.Reading.{Got, bad, got, walk, rows}
+use Rattle.base.specs.ReadingLaws.{walk-bind, pick-by, bad-got, walk-within, ask-by, pick-short}
+use Rattle.base.specs.ReadingRows.{rows-got}
+use Rattle.base.specs.Number.{le, leAt}
+use Rattle.base.specs.NumberLaws.{leAt-is}
+use Rattle.base.specs.Signed.{twos}
 use Rattle.zen.specs.Zen.{offset, summary, summaryAt, ordered}
 use Rattle.zen.specs.Answers.{Order}
 use Rattle.zen.specs.Field.{low30}

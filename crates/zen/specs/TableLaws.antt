@@ -10,13 +10,13 @@ use borrow.Author.Tests.{le-leb, lt-ltb, le-ltb, eqb-true}
 use lib.Dec.{leb, eqb, lit≤}
 use lib.ListN.{length, take, drop}
 use lib.Signed.{nonNeg}
-use Rattle.text.specs.Choose.{pick}
-use Rattle.text.specs.Reading.{Got, bad, got, walk, rows}
-use Rattle.text.specs.ReadingLaws.{pick-by, ask-is, pick-cong, then-walk, last-is, number-there}
-use Rattle.text.specs.ReadingRows.{cells, rows-there}
-use Rattle.text.specs.Number.{le, leAt}
-use Rattle.text.specs.NumberLaws.{leAt-is}
-use Rattle.text.specs.Signed.{twos}
+use Rattle.base.specs.Choose.{pick}
+use Rattle.base.specs.Reading.{Got, bad, got, walk, rows}
+use Rattle.base.specs.ReadingLaws.{pick-by, ask-is, pick-cong, then-walk, last-is, number-there}
+use Rattle.base.specs.ReadingRows.{cells, rows-there}
+use Rattle.base.specs.Number.{le, leAt}
+use Rattle.base.specs.NumberLaws.{leAt-is}
+use Rattle.base.specs.Signed.{twos}
 use Rattle.zen.specs.Batch.{u64}
 use Rattle.zen.specs.Zen.{bulk, export, exportAt, named, Tables, tables}
 use Rattle.zen.specs.Answers.{Order}

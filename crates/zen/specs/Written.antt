@@ -4,9 +4,9 @@ use mathlib.Core.List.{List, [], _∷_, _++_}
 use Prim.Native.Nat.{ℕ, zero, suc, _+_, _*_, _/_, _%_, _^_}
 use Prim.Native.String.{String}
 use lib.ListN.{length, replicate}
-use Rattle.text.specs.Find.{flat}
-use Rattle.text.specs.Literal.{quoted as text}
-use Rattle.text.specs.Number.{beBytes}
+use Rattle.base.specs.Find.{flat}
+use Rattle.base.specs.Literal.{quoted as text}
+use Rattle.base.specs.Number.{beBytes}
 use Rattle.zen.specs.declared.tables.Export.{Export}
 
 -- "Inside blocks numbers are little-endian"

@@ -4,11 +4,11 @@ use mathlib.Core.Bool.{Bool, true, _&&_}
 use Prim.Native.Nat.{ℕ, _+_, _-_, _/_, _%_}
 use lib.ListN.{getD}
 use lib.Dec.{leb, ltb, eqb}
-use Rattle.text.specs.Reading.{Reading, give, _>>=_, _>>_, over-bytes, bytesLeft, place, Block, u30, ask, rows}
+use Rattle.base.specs.Reading.{Reading, give, _>>=_, _>>_, over-bytes, bytesLeft, place, Block, u30, ask, rows}
 use lib.Signed.{nonNeg}
-use Rattle.text.specs.Signed.{twos}
+use Rattle.base.specs.Signed.{twos}
 use Rattle.text.specs.Name.{suffix}
-use Rattle.text.specs.Number.{leAt}
+use Rattle.base.specs.Number.{leAt}
 use Rattle.zen.specs.Field.{low30}
 use Rattle.zen.specs.Batch.{u32, u64, Batch, batch}
 use Rattle.zen.specs.declared.summary.Summary.{Summary}

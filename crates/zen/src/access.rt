@@ -2,7 +2,7 @@
 ghost use mathlib.Core.Path.{_≡_};
 ghost use Prim.Native.Nat.{_<_};
 ghost use lib.ListN.{length, getD, take};
-ghost use Rattle.text.specs.Reading.{runBlock};
+ghost use Rattle.base.specs.Reading.{runBlock};
 ghost use Rattle.text.specs.Id.{idOf};
 ghost use Rattle.zen.specs.Zen.{noExport, packageBlock};
 ghost use Rattle.zen.specs.Answers.{answer, exportsOf, hashesOf, numbersOf, importedNameOf, exportCount, hashCount};
@@ -62,7 +62,7 @@ pub fn imported_number(b: &[u8], l: Layout, i: usize) -> u32
     ensures { λ r. ⌜ r ≡ getD (numbersOf (runBlock packageBlock (now (b .entry)))) i 0 ⌝ }
 {
     let at = l.imported.end + 4 * i;
-    text::number::le32(b, at)
+    base::number::le32(b, at)
 }
 
 // Notes where the names of an accepted package start.

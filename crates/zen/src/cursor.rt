@@ -25,7 +25,7 @@ pub fn u32_from(s: &[u8], at: usize) -> Word
     if n - 4 < at {
         return Word::Short;
     }
-    Word::Got(text::number::le32(s, at), at + 4)
+    Word::Got(base::number::le32(s, at), at + 4)
 }
 
 // The position that a read leaves: behind what it found, or where it was.

@@ -2,7 +2,7 @@
 ghost use mathlib.Core.Path.{_≡_};
 ghost use Prim.Native.Nat.{_≤_};
 ghost use lib.ListN.{length};
-ghost use Rattle.text.specs.Reading.{walk};
+ghost use Rattle.base.specs.Reading.{walk};
 ghost use Rattle.zen.specs.Zen.{imports};
 ghost use Rattle.zen.specs.Answers.{imported};
 use super::names::NameBatch;

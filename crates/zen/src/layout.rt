@@ -2,7 +2,7 @@
 ghost use mathlib.Core.Path.{_≡_};
 ghost use Prim.Native.Nat.{_≤_};
 ghost use lib.ListN.{length};
-ghost use Rattle.text.specs.Reading.{runBlock};
+ghost use Rattle.base.specs.Reading.{runBlock};
 ghost use Rattle.zen.specs.Zen.{packageBlock, summaryAt};
 ghost use Rattle.zen.specs.Answers.{answer};
 ghost use Rattle.zen.specs.Layouts.{namesAt, layoutAt, BatchAt, LayoutAt};
@@ -45,7 +45,7 @@ fn summary_of(s: &[u8]) -> Summary
 {
     Summary {
         index: reader::u30_le(s, 8),
-        number: text::number::le32(s, 12),
+        number: base::number::le32(s, 12),
         hashes: reader::u32_le(s, 24),
         imports: reader::u32_le(s, 28),
         exports: reader::u32_le(s, 32),

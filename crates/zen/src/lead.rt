@@ -1,6 +1,6 @@
 // What stands before the summary of a package header (zen.rs): the versioning flag and the header size, through one cursor.
 ghost use mathlib.Core.Path.{_≡_};
-ghost use Rattle.text.specs.Reading.{walk};
+ghost use Rattle.base.specs.Reading.{walk};
 ghost use Rattle.zen.specs.Cursor.{wordAt, behind};
 ghost use Rattle.zen.specs.Zen.{lead};
 ghost use Rattle.zen.specs.Answers.{led};

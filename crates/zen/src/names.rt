@@ -2,8 +2,8 @@
 ghost use mathlib.Core.Path.{_≡_};
 ghost use Prim.Native.Nat.{_+_, _*_, _-_, _≤_, _<_};
 ghost use lib.ListN.{length};
-ghost use Rattle.text.specs.Reading.{walk};
-ghost use Rattle.text.specs.ReadingRows.{cells};
+ghost use Rattle.base.specs.Reading.{walk};
+ghost use Rattle.base.specs.ReadingRows.{cells};
 ghost use Rattle.zen.specs.Batch.{headAt, strings, body, someNames, batch};
 ghost use Rattle.zen.specs.Answers.{checked, batched};
 use super::reader;

@@ -2,7 +2,7 @@
 ghost use mathlib.Core.Path.{_≡_};
 ghost use Prim.Native.Nat.{_<_};
 ghost use lib.ListN.{length};
-ghost use Rattle.text.specs.Reading.{run};
+ghost use Rattle.base.specs.Reading.{run};
 ghost use Rattle.zen.specs.Script.{script};
 ghost use Rattle.zen.specs.ScriptAnswers.{scriptAnswer, entriesOf};
 ghost use Rattle.zen.specs.Objects.{entryNumber};
@@ -14,7 +14,7 @@ use super::notes::note_names;
 use super::notes::place_at;
 use super::places::Place;
 use super::script::Layout;
-use text::number::le64;
+use base::number::le64;
 
 // One more than the number of the entry with a global index, or 0: by looking at each.
 pub fn find_entry(b: &[u8], l: Layout, global: u64) -> usize

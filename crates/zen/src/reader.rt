@@ -2,7 +2,7 @@
 ghost use mathlib.Core.Path.{_≡_};
 ghost use Prim.Native.Nat.{_+_, _≤_, _<_};
 ghost use lib.ListN.{length, getD};
-ghost use Rattle.text.specs.Number.{leAt};
+ghost use Rattle.base.specs.Number.{leAt};
 ghost use Rattle.zen.specs.Field.{low30};
 
 pub fn byte(s: &[u8], at: usize) -> usize
@@ -17,7 +17,7 @@ pub fn u32_le(s: &[u8], at: usize) -> usize
     requires { ⌜ at + 4 ≤ length (now s) ⌝ }
     ensures { λ r. ⌜ (r ≡ leAt 4 (now (s .entry)) at) × (r < 4294967296) ⌝ }
 {
-    text::number::le32(s, at) as usize
+    base::number::le32(s, at) as usize
 }
 
 // The number of eight bytes.
@@ -25,7 +25,7 @@ pub fn u64_le(s: &[u8], at: usize) -> u64
     requires { ⌜ at + 8 ≤ length (now s) ⌝ }
     ensures { λ r. ⌜ r ≡ leAt 8 (now (s .entry)) at ⌝ }
 {
-    text::number::le64(s, at)
+    base::number::le64(s, at)
 }
 
 // The low 30 bits of four bytes.
@@ -33,5 +33,5 @@ pub fn u30_le(s: &[u8], at: usize) -> usize
     requires { ⌜ at + 4 ≤ length (now s) ⌝ }
     ensures { λ r. ⌜ (r ≡ low30 (now (s .entry)) at) × (r < 1073741824) ⌝ }
 {
-    text::index::name_index(text::number::le32(s, at)) as usize
+    base::index::name_index(base::number::le32(s, at)) as usize
 }

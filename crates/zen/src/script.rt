@@ -2,7 +2,7 @@
 ghost use mathlib.Core.Path.{_≡_};
 ghost use Prim.Native.Nat.{_+_, _*_, _≤_, _<_};
 ghost use lib.ListN.{length, getD};
-ghost use Rattle.text.specs.Reading.{run};
+ghost use Rattle.base.specs.Reading.{run};
 ghost use Rattle.zen.specs.Script.{script};
 ghost use Rattle.zen.specs.ScriptAnswers.{opened, entryAt, faultOf, freshAt, faultAt, scriptAnswer, entriesOf, noEntry};
 ghost use Rattle.zen.specs.declared.script.Script.the-variants.{Accepted};
@@ -10,8 +10,8 @@ use super::names::NameBatch;
 use super::names::Names;
 use super::names::read_batch;
 use super::reader;
-use text::number::le32;
-use text::number::le64;
+use base::number::le32;
+use base::number::le64;
 
 // An entry: its mapped name, its global index, its outer.
 pub struct Entry {
@@ -50,9 +50,9 @@ pub fn open_script(b: &[u8]) -> Opened
             if b.len() - at < 4 {
                 return Opened::Shut(3);
             }
-            match text::signed::le_size32(b, at) {
-                text::signed::Size::Negative => Opened::Shut(8),
-                text::signed::Size::Of(count) => {
+            match base::signed::le_size32(b, at) {
+                base::signed::Size::Negative => Opened::Shut(8),
+                base::signed::Size::Of(count) => {
                     let from = at + 4;
                     if ((b.len() - from) as u64) / 32 < count {
                         return Opened::Shut(9);
@@ -88,7 +88,7 @@ pub fn entry_fault(e: Entry, names: usize) -> u8
     if names <= e.index {
         return 10;
     }
-    if text::index::index_kind(e.global) != 1 {
+    if base::index::index_kind(e.global) != 1 {
         return 11;
     }
     0

@@ -2,7 +2,7 @@
 ghost use mathlib.Core.Path.{_≡_};
 ghost use Prim.Native.Nat.{_+_, _-_, _≤_, _<_};
 ghost use lib.ListN.{length};
-ghost use Rattle.text.specs.Reading.{walk, rows};
+ghost use Rattle.base.specs.Reading.{walk, rows};
 ghost use Rattle.zen.specs.Zen.{offset, summary, ordered, summaryAt};
 ghost use Rattle.zen.specs.Answers.{checked, summed};
 use super::names::Checked;
@@ -36,9 +36,9 @@ fn check_offsets(s: &[u8], from: usize) -> Checked
         if s.len() - at < 4 {
             return Checked::Failed(3);
         }
-        match text::signed::le_size32(s, at) {
-            text::signed::Size::Negative => return Checked::Failed(16),
-            text::signed::Size::Of(_) => {
+        match base::signed::le_size32(s, at) {
+            base::signed::Size::Negative => return Checked::Failed(16),
+            base::signed::Size::Of(_) => {
                 at = at + 4;
                 left = left - 1;
             }
@@ -53,7 +53,7 @@ fn summary_in(s: &[u8]) -> Summary
 {
     Summary {
         index: reader::u30_le(s, 8),
-        number: text::number::le32(s, 12),
+        number: base::number::le32(s, 12),
         hashes: reader::u32_le(s, 24),
         imports: reader::u32_le(s, 28),
         exports: reader::u32_le(s, 32),

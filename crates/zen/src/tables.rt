@@ -2,8 +2,8 @@
 ghost use mathlib.Core.Path.{_≡_};
 ghost use Prim.Native.Nat.{_+_, _*_, _-_, _≤_, _<_};
 ghost use lib.ListN.{length};
-ghost use Rattle.text.specs.Reading.{walk};
-ghost use Rattle.text.specs.ReadingRows.{cells};
+ghost use Rattle.base.specs.Reading.{walk};
+ghost use Rattle.base.specs.ReadingRows.{cells};
 ghost use Rattle.zen.specs.Zen.{bulk, exportAt, named, tables};
 ghost use Rattle.zen.specs.Answers.{checked, Order};
 use super::names::Checked;
@@ -28,9 +28,9 @@ pub fn check_bulk(s: &[u8], at: usize, stop: usize) -> Checked
     if end - at < 8 {
         return Checked::Failed(3);
     }
-    match text::signed::le_size64(s, at) {
-        text::signed::Size::Negative => Checked::Failed(18),
-        text::signed::Size::Of(z) => {
+    match base::signed::le_size64(s, at) {
+        base::signed::Size::Negative => Checked::Failed(18),
+        base::signed::Size::Of(z) => {
             let size = z as usize;
             let from = at + 8;
             if end - from < size {
@@ -51,7 +51,7 @@ pub fn export_in(s: &[u8], at: usize) -> Export
 {
     Export {
         index: reader::u30_le(s, at + 16),
-        number: text::number::le32(s, at + 20),
+        number: base::number::le32(s, at + 20),
         outer: reader::u64_le(s, at + 24),
         class: reader::u64_le(s, at + 32),
         parent: reader::u64_le(s, at + 40),

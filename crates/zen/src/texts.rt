@@ -8,7 +8,7 @@ ghost use Rattle.text.specs.Affix.{startsWith, endsWith, allAscii};
 ghost use Rattle.text.specs.AffixLaws.{unitSize};
 ghost use Rattle.text.specs.Id.{idOf};
 ghost use Rattle.text.specs.Name.{textBytes};
-ghost use Rattle.text.specs.Output.{Wrote};
+ghost use Rattle.base.specs.Output.{Wrote};
 ghost use Rattle.text.specs.Utf8.{utf8};
 ghost use Rattle.zen.specs.Places.{partAt};
 ghost use Rattle.zen.specs.Holds.{textAt, nameAt, Holds, placeWithout};

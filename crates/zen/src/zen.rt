@@ -1,8 +1,8 @@
 // A package header (zen.rs): the whole block.
 ghost use mathlib.Core.Path.{_≡_};
 ghost use lib.ListN.{length};
-ghost use Rattle.text.specs.Reading.{runBlock, walk};
-ghost use Rattle.text.specs.ReadingLaws.{out};
+ghost use Rattle.base.specs.Reading.{runBlock, walk};
+ghost use Rattle.base.specs.ReadingLaws.{out};
 ghost use Rattle.zen.specs.Zen.{content, header, packageBlock};
 ghost use Rattle.zen.specs.Answers.{answer, Order};
 use super::imports::check_imports;

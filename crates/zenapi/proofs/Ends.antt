@@ -7,7 +7,7 @@ use native.Mathlib.Numerals.{add-one}
 use native.Mathlib.Omega.{arith}
 use lib.ListN.{length, take, drop, getD, drop-of-length-le}
 use lib.Seq.{drop-cons, length-take-le}
-use Rattle.text.specs.NumberLaws.{Bytes}
+use Rattle.base.specs.NumberLaws.{Bytes}
 use Rattle.zen.specs.Accepted.{parts}
 use Rattle.zen.specs.Answers.{answer, exportsOf, exportCount}
 use Rattle.zen.specs.PackageLaws.{export-index}

@@ -6,7 +6,7 @@ use native.Mathlib.Omega.{arith}
 use borrow.Author.Tests.{lt-ltb, le-ltb}
 use lib.ListN.{length, take, getD}
 use Rattle.text.specs.Id.{idOf}
-use Rattle.text.specs.Reading.{Out, refused, gives}
+use Rattle.base.specs.Reading.{Out, refused, gives}
 use Rattle.zen.specs.Accepted.{parts}
 use Rattle.zen.specs.Answers.{answer, namesOf, exportsOf, hashesOf, importedOf, importedNameOf, exportCount, hashCount}
 use Rattle.zen.specs.PackageLaws.{rejected-read, accepted-read, name-count, imported-count}

@@ -4,7 +4,7 @@ use mathlib.Core.List.{List, []}
 use Prim.Native.Nat.{ℕ, _≤_, _<_}
 use native.Mathlib.Omega.{arith}
 use lib.ListN.{length, getD}
-use Rattle.text.specs.Reading.{refused}
+use Rattle.base.specs.Reading.{refused}
 use Rattle.zen.specs.ScriptAccepted.{accepted-objects, rejected-objects, script-parts, entry-count}
 use Rattle.zen.specs.ScriptAnswers.{scriptAnswer, entriesOf, noEntry}
 use Rattle.zen.specs.declared.script.Entry.{Entry}

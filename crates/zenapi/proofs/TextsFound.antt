@@ -7,9 +7,9 @@ use native.Mathlib.Omega.{arith}
 use borrow.Author.Tests.{lt-ltb, le-ltb, le-leb, lt-leb}
 use lib.ListN.{length, take, getD, List·getD-eq-default}
 use Rattle.text.specs.Name.{base, rendered}
-use Rattle.text.specs.NumberLaws.{Bytes}
-use Rattle.text.specs.Output.{Wrote}
-use Rattle.text.specs.Reading.{refused}
+use Rattle.base.specs.NumberLaws.{Bytes}
+use Rattle.base.specs.Output.{Wrote}
+use Rattle.base.specs.Reading.{refused}
 use Rattle.text.specs.Utf8.{utf8}
 use Rattle.zen.specs.Answers.{answer, namesOf, importedOf, numbersOf}
 use Rattle.zen.specs.Holds.{Holds}

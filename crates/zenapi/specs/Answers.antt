@@ -5,7 +5,7 @@ use Prim.Native.Nat.{ℕ, _+_, _-_, _^_}
 use lib.Dec.{ltb}
 use lib.ListN.{length, take, getD}
 use Rattle.text.specs.Id.{idOf}
-use Rattle.text.specs.Reading.{Out, refused, gives, run, runBlock}
+use Rattle.base.specs.Reading.{Out, refused, gives, run, runBlock}
 use Rattle.zen.specs.Answers.{exportsOf, importedOf, importedNameOf}
 use Rattle.zen.specs.Places.{placeAt}
 use Rattle.zen.specs.Script.{Objects, script}

@@ -6,8 +6,8 @@ use Prim.Native.Nat.{ℕ, _≤_, _<_}
 use lib.Dec.{leb, ltb}
 use lib.ListN.{length, getD}
 use Rattle.text.specs.Name.{base, rendered}
-use Rattle.text.specs.Output.{over}
-use Rattle.text.specs.Reading.{Out}
+use Rattle.base.specs.Output.{over}
+use Rattle.base.specs.Reading.{Out}
 use Rattle.text.specs.Utf8.{utf8}
 use Rattle.zen.specs.Answers.{namesOf, importedOf, importedNameOf}
 use Rattle.zen.specs.Holds.{Holds}

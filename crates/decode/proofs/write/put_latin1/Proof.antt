@@ -6,7 +6,7 @@ use Prim.Native.Nat.{_-_, _≤_}
 use native.Mathlib.Omega.{arith}
 use lib.ListN.{length}
 use borrow.Author.Needs.{needs}
-use Rattle.text.specs.OutputLaws.{wrote-length}
+use Rattle.base.specs.OutputLaws.{wrote-length}
 use Rattle.text.specs.Utf16.{isWell}
 use Rattle.decode.specs.Measure.{textOf, fitsLatin1}
 use Rattle.decode.specs.TurnLaws.{Turn, from, textFrom, turn, turn-well, well-next, text-next}

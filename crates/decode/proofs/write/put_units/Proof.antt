@@ -3,7 +3,7 @@ use mathlib.Core.Path.{ap}
 use native.Mathlib.Omega.{arith}
 use lib.ListN.{length, length-set}
 use borrow.Author.Needs.{needs}
-use Rattle.text.specs.OutputLaws.{wrote-stores}
+use Rattle.base.specs.OutputLaws.{wrote-stores}
 use Rattle.decode.specs.WriteLaws.{units-one, units-two}
 use Rattle.decode.proofs.write.put_units.Statement.{statement}
 use Rattle.decode.proofs.write.put_units.Tie as tie

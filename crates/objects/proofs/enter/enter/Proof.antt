@@ -4,7 +4,7 @@ use mathlib.Core.Path.{_≡_, sym, _∙_}
 use Prim.Native.Nat.{_-_, _≤_, _<_}
 use native.Mathlib.Omega.{arith}
 use borrow.Author.Needs.{needs}
-use Rattle.text.specs.NumberLaws.{Bytes}
+use Rattle.base.specs.NumberLaws.{Bytes}
 use Rattle.zen.specs.ScriptAnswers.{faultAt}
 use Rattle.zen.specs.ScriptFaults.{faultFrom, no-fault, fault-first, fault-none, fault-own, fault-seen, fault-next}
 use Rattle.zen.specs.ScriptLaws.{open-fits}

@@ -2,7 +2,7 @@
 use mathlib.Core.Path.{_≡_}
 use Prim.Native.Nat.{_-_, _≤_}
 use native.Mathlib.Omega.{arith}
-use Rattle.text.specs.Reading.{run}
+use Rattle.base.specs.Reading.{run}
 use Rattle.zen.specs.Script.{script}
 use Rattle.zen.specs.ScriptAnswers.{scriptAnswer}
 use Rattle.zen.specs.declared.script.Script.the-variants.{Accepted}

@@ -5,8 +5,8 @@ use native.Mathlib.Omega.{arith}
 use borrow.Author.Needs.{needs}
 use borrow.Fn.Kinds.{In}
 use borrow.Fn.PlainCycle.{Measures, is, falls, and}
-use Rattle.text.specs.Output.{Wrote}
-use Rattle.text.specs.OutputLaws.{wrote-length, wrote-rest}
+use Rattle.base.specs.Output.{Wrote}
+use Rattle.base.specs.OutputLaws.{wrote-length, wrote-rest}
 use Rattle.objects.specs.Numbers.{pathNo}
 use Rattle.objects.specs.PathLaws.{path-end}
 use Rattle.objects.specs.Told.{pathBytes}

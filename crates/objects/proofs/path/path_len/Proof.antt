@@ -5,7 +5,7 @@ use mathlib.Core.Path.{_≡_}
 use Prim.Native.Nat.{ℕ, _+_, _*_, _-_, _≤_, _<_}
 use native.Mathlib.Omega.{arith}
 use lib.ListN.{length}
-use Rattle.text.specs.NumberLaws.{leAt-lt}
+use Rattle.base.specs.NumberLaws.{leAt-lt}
 use Rattle.zen.specs.Script.{Objects}
 use Rattle.objects.specs.Numbers.{entryNo, pathNo}
 use Rattle.objects.specs.Work.{ObjectsIn}

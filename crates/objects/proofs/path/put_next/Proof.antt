@@ -2,7 +2,7 @@
 use native.Mathlib.Omega.{arith}
 use borrow.Author.Needs.{needs}
 use lib.ListN.{length-set}
-use Rattle.text.specs.OutputLaws.{wrote-length}
+use Rattle.base.specs.OutputLaws.{wrote-length}
 use Rattle.objects.specs.PutLaws.{nameOf}
 use Rattle.objects.specs.ToldLaws.{next-length, next-name, next-wrote}
 use Rattle.objects.proofs.path.put_next.Statement.{statement}

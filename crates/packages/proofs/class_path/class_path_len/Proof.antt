@@ -6,8 +6,8 @@ use Prim.Native.Nat.{ℕ, _+_, _≤_}
 use borrow.Author.Needs.{needs}
 use native.Mathlib.Omega.{arith}
 use lib.ListN.{length, length-append}
-use Rattle.text.specs.Choose.{pick}
-use Rattle.text.specs.Literal.{quoted}
+use Rattle.base.specs.Choose.{pick}
+use Rattle.base.specs.Literal.{quoted}
 use Rattle.text.specs.Utf8.{utf8}
 use Rattle.zen.specs.Holds.{nameAt}
 use Rattle.packages.specs.ClassPath.{pathBytes}

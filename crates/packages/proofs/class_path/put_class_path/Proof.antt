@@ -5,10 +5,10 @@ use mathlib.Core.List.{List, _++_}
 use Prim.Native.Nat.{ℕ, _+_, _-_, _≤_}
 use borrow.Author.Needs.{needs}
 use lib.ListN.{length, take, drop}
-use Rattle.text.specs.Choose.{pick}
-use Rattle.text.specs.Literal.{quoted}
-use Rattle.text.specs.Output.{Wrote}
-use Rattle.text.specs.OutputLaws.{wrote-as, wrote-rest, next-room, front-fits}
+use Rattle.base.specs.Choose.{pick}
+use Rattle.base.specs.Literal.{quoted}
+use Rattle.base.specs.Output.{Wrote}
+use Rattle.base.specs.OutputLaws.{wrote-as, wrote-rest, next-room, front-fits}
 use Rattle.text.specs.Utf8.{utf8}
 use Rattle.packages.specs.ClassPath.{pathBytes}
 use Rattle.packages.specs.Row.{wholeAt}

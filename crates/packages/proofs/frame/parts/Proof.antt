@@ -5,7 +5,7 @@ use Prim.Native.Nat.{ℕ, _+_, _-_, _≤_, _<_}
 use native.Mathlib.Omega.{arith}
 use borrow.Author.Needs.{needs}
 use lib.ListN.{length}
-use Rattle.text.specs.Number.{beAt}
+use Rattle.base.specs.Number.{beAt}
 use Rattle.packages.specs.Framing.{packagesEnd, partsAnswer}
 use Rattle.packages.specs.FramingLaws.{parts-short, parts-script, parts-count, parts-whole, parts-broken}
 use Rattle.packages.specs.declared.frame.Framed.the-variants.{Whole, Broken}

@@ -4,7 +4,7 @@ use mathlib.Core.List.{List}
 use Prim.Native.Nat.{ℕ, _-_, _≤_, _<_}
 use borrow.Author.Needs.{needs}
 use lib.ListN.{length, getD}
-use Rattle.text.specs.Number.{beAt}
+use Rattle.base.specs.Number.{beAt}
 use Rattle.meaning.specs.Frame.{framed}
 use Rattle.packages.specs.Framing.{partsAnswer, framedAs}
 use Rattle.packages.specs.FramingLaws.{frame-short, frame-wrong, frame-version, frame-rest}

@@ -1,6 +1,6 @@
 -- `packages::names::put_behind` meets its contract: the text, then the name. Assumes nothing.
 use borrow.Author.Needs.{needs}
-use Rattle.text.specs.OutputLaws.{wrote-rest, next-room, front-fits}
+use Rattle.base.specs.OutputLaws.{wrote-rest, next-room, front-fits}
 use Rattle.packages.proofs.names.put_behind.Statement.{statement}
 use Rattle.packages.proofs.names.put_behind.Tie as tie
 

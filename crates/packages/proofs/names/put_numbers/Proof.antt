@@ -1,6 +1,6 @@
 -- `packages::names::put_numbers` meets its contract: one, then the other. Assumes nothing.
 use borrow.Author.Needs.{needs}
-use Rattle.text.specs.OutputLaws.{wrote-rest, next-room, front-fits}
+use Rattle.base.specs.OutputLaws.{wrote-rest, next-room, front-fits}
 use Rattle.packages.proofs.names.put_numbers.Statement.{statement}
 use Rattle.packages.proofs.names.put_numbers.Tie as tie
 

@@ -5,7 +5,7 @@ use Prim.Native.Nat.{ℕ}
 use borrow.Author.Needs.{needs}
 use lib.ListN.{getD}
 use Rattle.text.specs.Id.{idOf}
-use Rattle.text.specs.Index.{importName, importHash}
+use Rattle.base.specs.Index.{importName, importHash}
 use Rattle.zen.specs.Holds.{Holds, nameAt, holds-own}
 use Rattle.zen.specs.Zen.{importedName}
 use Rattle.zen.specs.declared.places.Place.{Place}

@@ -5,7 +5,7 @@ use Prim.Native.Nat.{ℕ, _≤_, _<_}
 use borrow.Author.Needs.{needs}
 use borrow.Author.Tests.{lt-ltb, le-ltb}
 use lib.Dec.{ltb}
-use Rattle.text.specs.Index.{importName, importHash}
+use Rattle.base.specs.Index.{importName, importHash}
 use Rattle.packages.specs.Meaning.{isImport}
 use Rattle.packages.specs.declared.package.Parts.{Parts}
 use Rattle.packages.proofs.package.is_import.Statement.{statement}

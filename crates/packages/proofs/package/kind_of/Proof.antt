@@ -4,7 +4,7 @@ use mathlib.Core.Bool.{Bool, true, false, cond}
 use Prim.Native.Nat.{ℕ, zero, suc, _≤_, _<_}
 use borrow.Author.Needs.{needs}
 use borrow.Author.Tests.{lt-ltb, le-ltb}
-use Rattle.text.specs.Index.{kind}
+use Rattle.base.specs.Index.{kind}
 use Rattle.packages.specs.Meaning.{isImport, kindOn, kindBy}
 use Rattle.packages.specs.declared.package.Parts.{Parts}
 use Rattle.packages.proofs.package.kind_of.Statement.{statement}

@@ -6,7 +6,7 @@ use native.Mathlib.Decide.{ℕ-discrete}
 use borrow.Author.Needs.{needs}
 use lib.ListN.{getD}
 use Rattle.text.specs.Id.{idOf}
-use Rattle.text.specs.Index.{kind, importName, importHash}
+use Rattle.base.specs.Index.{kind, importName, importHash}
 use Rattle.zen.specs.Zen.{noExport, importedName}
 use Rattle.zen.specs.declared.tables.Export.{Export}
 use Rattle.meaning.specs.Reference.{refIn}

@@ -8,8 +8,8 @@ use borrow.Author.Needs.{needs}
 use borrow.Author.Tests.{eq-eqb, ne-eqb}
 use lib.ListN.{length, length-append}
 use Rattle.text.specs.Digits.{decimal}
-use Rattle.text.specs.Index.{kind, importName, importHash}
-use Rattle.text.specs.Literal.{quoted}
+use Rattle.base.specs.Index.{kind, importName, importHash}
+use Rattle.base.specs.Literal.{quoted}
 use Rattle.packages.specs.RefBytes.{importBad, exportBad, badBy}
 use Rattle.packages.specs.declared.package.Parts.{Parts}
 use Rattle.packages.proofs.reference.bad_len.Statement.{statement}

@@ -5,7 +5,7 @@ use Prim.Native.Nat.{ℕ, _+_, _≤_}
 use native.Mathlib.Omega.{arith}
 use borrow.Author.Needs.{needs}
 use lib.ListN.{length, getD, length-append}
-use Rattle.text.specs.Literal.{quoted}
+use Rattle.base.specs.Literal.{quoted}
 use Rattle.text.specs.Utf8.{utf8}
 use Rattle.zen.specs.Holds.{Holds, nameAt, holds-own}
 use Rattle.zen.specs.Zen.{noExport, exportName}

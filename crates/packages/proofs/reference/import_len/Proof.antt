@@ -7,8 +7,8 @@ use borrow.Author.Needs.{needs}
 use lib.ListN.{length, getD, length-append}
 use Rattle.text.specs.Digits.{hex}
 use Rattle.text.specs.DigitsLaws.{length-hex}
-use Rattle.text.specs.Index.{importName, importHash}
-use Rattle.text.specs.Literal.{quoted}
+use Rattle.base.specs.Index.{importName, importHash}
+use Rattle.base.specs.Literal.{quoted}
 use Rattle.text.specs.Utf8.{utf8}
 use Rattle.zen.specs.Holds.{Holds, nameAt, holds-own}
 use Rattle.zen.specs.Zen.{importedName}

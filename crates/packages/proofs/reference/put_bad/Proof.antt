@@ -6,10 +6,10 @@ use borrow.Author.Needs.{needs}
 use borrow.Author.Tests.{eq-eqb, ne-eqb}
 use lib.ListN.{length, take, drop}
 use Rattle.text.specs.Digits.{decimal}
-use Rattle.text.specs.Index.{kind}
-use Rattle.text.specs.Literal.{quoted}
-use Rattle.text.specs.Output.{Wrote}
-use Rattle.text.specs.OutputLaws.{wrote-as, wrote-rest, next-room, front-fits}
+use Rattle.base.specs.Index.{kind}
+use Rattle.base.specs.Literal.{quoted}
+use Rattle.base.specs.Output.{Wrote}
+use Rattle.base.specs.OutputLaws.{wrote-as, wrote-rest, next-room, front-fits}
 use Rattle.packages.specs.RefBytes.{importBad, exportBad, badBy}
 use Rattle.packages.specs.declared.package.Parts.{Parts}
 use Rattle.packages.proofs.reference.put_bad.Statement.{statement}

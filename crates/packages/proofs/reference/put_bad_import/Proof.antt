@@ -6,10 +6,10 @@ use native.Mathlib.Omega.{arith}
 use borrow.Author.Needs.{needs}
 use lib.ListN.{length, take, drop, length-append}
 use Rattle.text.specs.Digits.{decimal}
-use Rattle.text.specs.Index.{importName, importHash}
-use Rattle.text.specs.Literal.{quoted}
-use Rattle.text.specs.Output.{Wrote}
-use Rattle.text.specs.OutputLaws.{wrote-as, wrote-rest, next-room, front-fits}
+use Rattle.base.specs.Index.{importName, importHash}
+use Rattle.base.specs.Literal.{quoted}
+use Rattle.base.specs.Output.{Wrote}
+use Rattle.base.specs.OutputLaws.{wrote-as, wrote-rest, next-room, front-fits}
 use Rattle.packages.specs.RefBytes.{importBad}
 use Rattle.packages.specs.declared.package.Parts.{Parts}
 use Rattle.packages.proofs.reference.put_bad_import.Statement.{statement}

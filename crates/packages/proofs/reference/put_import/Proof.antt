@@ -5,11 +5,11 @@ use Prim.Native.Nat.{ℕ, _+_, _-_, _≤_}
 use borrow.Author.Needs.{needs}
 use lib.ListN.{length, take, drop, getD}
 use Rattle.text.specs.Digits.{hex}
-use Rattle.text.specs.Index.{importName, importHash}
-use Rattle.text.specs.Literal.{quoted}
+use Rattle.base.specs.Index.{importName, importHash}
+use Rattle.base.specs.Literal.{quoted}
 use Rattle.text.specs.Utf8.{utf8}
-use Rattle.text.specs.Output.{Wrote}
-use Rattle.text.specs.OutputLaws.{wrote-as, wrote-rest, next-room, front-fits}
+use Rattle.base.specs.Output.{Wrote}
+use Rattle.base.specs.OutputLaws.{wrote-as, wrote-rest, next-room, front-fits}
 use Rattle.zen.specs.Holds.{Holds, nameAt, holds-own}
 use Rattle.zen.specs.declared.places.Place.{Place}
 use Rattle.packages.specs.Package.{readIn}

@@ -6,8 +6,8 @@ use borrow.Author.Needs.{needs}
 use lib.ListN.{length, take, drop}
 use Rattle.text.specs.Digits.{hex}
 use Rattle.text.specs.DigitsLaws.{length-hex}
-use Rattle.text.specs.Output.{Wrote}
-use Rattle.text.specs.OutputLaws.{wrote-rest, next-room, front-fits}
+use Rattle.base.specs.Output.{Wrote}
+use Rattle.base.specs.OutputLaws.{wrote-rest, next-room, front-fits}
 use Rattle.packages.proofs.reference.put_index.Statement.{statement}
 use Rattle.packages.proofs.reference.put_index.Tie as tie
 

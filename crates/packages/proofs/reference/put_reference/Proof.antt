@@ -7,10 +7,10 @@ use borrow.Author.Needs.{needs}
 use lib.ListN.{length, length-append}
 use Rattle.text.specs.Digits.{hex}
 use Rattle.text.specs.DigitsLaws.{length-hex}
-use Rattle.text.specs.Index.{importName, importHash}
-use Rattle.text.specs.Literal.{quoted}
-use Rattle.text.specs.Output.{Wrote}
-use Rattle.text.specs.OutputLaws.{wrote-as, wrote-rest, next-room, front-fits}
+use Rattle.base.specs.Index.{importName, importHash}
+use Rattle.base.specs.Literal.{quoted}
+use Rattle.base.specs.Output.{Wrote}
+use Rattle.base.specs.OutputLaws.{wrote-as, wrote-rest, next-room, front-fits}
 use Rattle.packages.specs.Package.{readIn, PackageIn}
 use Rattle.packages.specs.Meaning.{kindBy}
 use Rattle.packages.specs.MeaningLaws.{kind-says}

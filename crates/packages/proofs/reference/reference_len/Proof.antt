@@ -7,8 +7,8 @@ use borrow.Author.Needs.{needs}
 use lib.ListN.{length, length-append}
 use Rattle.text.specs.Digits.{hex}
 use Rattle.text.specs.DigitsLaws.{length-hex}
-use Rattle.text.specs.Index.{importName, importHash}
-use Rattle.text.specs.Literal.{quoted}
+use Rattle.base.specs.Index.{importName, importHash}
+use Rattle.base.specs.Literal.{quoted}
 use Rattle.packages.specs.Package.{readIn, PackageIn}
 use Rattle.packages.specs.Meaning.{kindBy}
 use Rattle.packages.specs.MeaningLaws.{kind-says}

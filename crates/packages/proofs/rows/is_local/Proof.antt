@@ -5,7 +5,7 @@ use Prim.Native.Nat.{ℕ}
 use borrow.Author.Needs.{needs}
 use borrow.Author.Tests.{eq-eqb, ne-eqb}
 use lib.Dec.{ltb}
-use Rattle.text.specs.Index.{kind}
+use Rattle.base.specs.Index.{kind}
 use Rattle.packages.specs.Row.{isLocal}
 use Rattle.packages.specs.declared.package.Parts.{Parts}
 use Rattle.packages.proofs.rows.is_local.Statement.{statement}

@@ -5,9 +5,9 @@ use Prim.Native.Nat.{ℕ, _+_, _-_, _≤_}
 use borrow.Author.Needs.{needs}
 use lib.ListN.{length, take, drop}
 use Rattle.text.specs.Name.{suffix, textBytes}
-use Rattle.text.specs.NumberLaws.{Bytes}
-use Rattle.text.specs.Output.{Wrote}
-use Rattle.text.specs.OutputLaws.{wrote-rest, next-room, front-fits}
+use Rattle.base.specs.NumberLaws.{Bytes}
+use Rattle.base.specs.Output.{Wrote}
+use Rattle.base.specs.OutputLaws.{wrote-rest, next-room, front-fits}
 use Rattle.zen.specs.Holds.{Holds, textAt, nameAt, holds-own}
 use Rattle.zen.specs.declared.places.Place.{Place}
 use Rattle.packages.specs.Row.{wholeAt, instanceBase, instanceAt, instancePlace, outerAt, namesAt, RowHolds}

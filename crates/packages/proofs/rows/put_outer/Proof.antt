@@ -8,9 +8,9 @@ use native.Mathlib.Omega.{arith}
 use lib.ListN.{length}
 use Rattle.text.specs.Name.{textBytes}
 use Rattle.text.specs.NameLaws.{textBytes-length}
-use Rattle.text.specs.Number.{beBytes}
-use Rattle.text.specs.Output.{Wrote}
-use Rattle.text.specs.OutputLaws.{wrote-as}
+use Rattle.base.specs.Number.{beBytes}
+use Rattle.base.specs.Output.{Wrote}
+use Rattle.base.specs.OutputLaws.{wrote-as}
 use Rattle.zen.specs.Holds.{nameAt}
 use Rattle.packages.specs.Row.{outerAt}
 use Rattle.packages.specs.declared.rows.Row.{Row}

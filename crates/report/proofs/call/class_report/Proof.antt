@@ -7,8 +7,9 @@ use lib.ListN.{length, take, drop}
 use Rattle.zen.specs.ScriptAnswers.{opened}
 use Rattle.zen.specs.ScriptLaws.{script-shut}
 use Rattle.zen.specs.declared.script.Opened.the-variants.{Open}
-use Rattle.report.specs.CallSteps.{Begun}
-use Rattle.report.specs.CallLaws.{begun, begun-inside, answer-broken, answer-script, refused-by, answered-refused, answered-outcome}
+use Rattle.walk.specs.OpenSteps.{Begun}
+use Rattle.walk.specs.OpenLaws.{begun, begun-inside, opened-broken, opened-script}
+use Rattle.report.specs.CallLaws.{refused-opened, answered-refused, answered-outcome}
 use Rattle.report.proofs.call.class_report.Statement.{statement}
 use Rattle.report.proofs.call.class_report.Tie as tie
 
@@ -50,13 +51,13 @@ with-table-requires c κs =
 returns-2 : tie.Need-returns-2
 returns-2 c =
     let e = sym (c .before .before .before .before .read-frame .ensures) ∙ c .before .before .q .given .1 in
-    answered-outcome _ (answered-refused (refused-by (answer-broken _ _ _ _ e) (c .refuse .ensures)))
+    answered-outcome _ (answered-refused (refused-opened (opened-broken _ _ e) (c .refuse .ensures)))
 
 returns-3 : tie.Need-returns-3
 returns-3 c =
     let e = sym (c .before .before .before .before .open-script .ensures) ∙ c .before .before .q2 .given .1 in
     answered-outcome _
-    (answered-refused (refused-by (answer-script _ _ _ _ (begun-at (c .before .before .before .before .before .before .before)) (script-shut _ e)) (c .refuse2 .ensures)))
+    (answered-refused (refused-opened (opened-script _ _ (begun-at (c .before .before .before .before .before .before .before)) (script-shut _ e)) (c .refuse2 .ensures)))
 
 returns-4 : tie.Need-returns-4
 returns-4 c = answered-outcome _ (c .before .before .before .before .with-table .ensures)

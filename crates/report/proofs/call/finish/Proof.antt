@@ -1,7 +1,7 @@
 -- `report::call::finish` meets its contract.
 use native.Mathlib.Omega.{arith}
 use borrow.Author.Needs.{needs}
-use Rattle.report.specs.CallLaws.{begun-sites, begun-few}
+use Rattle.walk.specs.OpenLaws.{begun-sites, begun-few}
 use Rattle.report.proofs.Finished.{gathered-classes, gathered-kept, Summed, finish-beyond, finish-outside, finish-room, finish-report}
 use Rattle.report.proofs.call.finish.Statement.{statement}
 use Rattle.report.proofs.call.finish.Tie as tie

@@ -1,7 +1,8 @@
 -- `report::call::refuse_short` meets its contract.
 use native.Mathlib.Omega.{arith}
 use borrow.Author.Needs.{needs}
-use Rattle.report.specs.CallLaws.{begun-sites, begun-few, short-once, short-twice}
+use Rattle.walk.specs.OpenLaws.{begun-sites, begun-few}
+use Rattle.report.specs.CallLaws.{short-once, short-twice}
 use Rattle.report.proofs.call.refuse_short.Statement.{statement}
 use Rattle.report.proofs.call.refuse_short.Tie as tie
 

@@ -2,7 +2,7 @@
 use mathlib.Core.Path.{refl}
 use native.Mathlib.Omega.{arith}
 use borrow.Author.Needs.{needs}
-use Rattle.report.specs.CallLaws.{begun-sites, begun-few, begun-small}
+use Rattle.walk.specs.OpenLaws.{begun-sites, begun-few, begun-small}
 use Rattle.report.proofs.Scanned.{scanned-refused, Walked, scanned-twice, scanned-short, scanned-all}
 use Rattle.report.proofs.call.with_objects.Statement.{statement}
 use Rattle.report.proofs.call.with_objects.Tie as tie

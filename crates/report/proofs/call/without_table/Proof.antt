@@ -2,7 +2,7 @@
 use mathlib.Core.Path.{_≡_, refl, sym, _∙_}
 use native.Mathlib.Omega.{arith}
 use borrow.Author.Needs.{needs}
-use Rattle.text.specs.Reading.{run}
+use Rattle.base.specs.Reading.{run}
 use Rattle.zen.specs.Script.{script}
 use Rattle.zen.specs.ScriptAccepted.{script-parts}
 use Rattle.zen.specs.ScriptAnswers.{scriptAnswer}
@@ -10,7 +10,8 @@ use Rattle.zen.specs.ScriptFacts.{script-facts}
 use Rattle.zen.specs.declared.script.Script.the-variants.{Accepted}
 use Rattle.scan.specs.BlockLaws.{blocks-refused}
 use Rattle.resolve.specs.Rows.{limitsOf}
-use Rattle.report.specs.CallLaws.{begun-sites, begun-few, begun-bytes, work-few, answer-script, answer-package, refused-by}
+use Rattle.walk.specs.OpenLaws.{begun-sites, begun-few, begun-bytes, opened-script, opened-package}
+use Rattle.report.specs.CallLaws.{work-few, refused-opened}
 use Rattle.report.proofs.call.without_table.Statement.{statement}
 use Rattle.report.proofs.call.without_table.Tie as tie
 
@@ -42,8 +43,8 @@ returns : tie.Need-returns
 returns c = λ l lookups work room q h.
     let k = c .before .before .before .before in
     let s = k .before .before .before in
-    refused-by
-    (answer-script (limitsOf lookups (s .args .limit)) (s .args .c .now) work room (s .pre) (sym (k .check-script .ensures) ∙ c .before .before .q .given .1))
+    refused-opened
+    (opened-script (limitsOf lookups (s .args .limit)) (s .args .c .now) (s .pre) (sym (k .check-script .ensures) ∙ c .before .before .q .given .1))
     (c .refuse .ensures)
 
 returns-2 : tie.Need-returns-2
@@ -53,7 +54,7 @@ returns-2 c = λ l lookups work room q h.
     let s = k .before .before .before .before .before in
     let (o, x) = script-facts _ _ (script-at k) in
     let e = blocks-refused _ (sym (p .check-packages .ensures .0) ∙ c .before .before .q2 .given .1) in
-    refused-by (answer-package (limitsOf lookups (s .args .limit)) (s .args .c .now) work room (s .pre) (x .is) e) (c .refuse2 .ensures)
+    refused-opened (opened-package (limitsOf lookups (s .args .limit)) (s .args .c .now) (s .pre) (x .is) e) (c .refuse2 .ensures)
 
 returns-3 : tie.Need-returns-3
 returns-3 c = λ l lookups work room q h.

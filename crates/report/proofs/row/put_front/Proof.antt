@@ -4,8 +4,8 @@ use Prim.Native.Nat.{ℕ, _≤_}
 use native.Mathlib.Omega.{arith}
 use borrow.Author.Needs.{needs}
 use lib.ListN.{length, set, length-set}
-use Rattle.text.specs.Output.{Wrote}
-use Rattle.text.specs.OutputLaws.{wrote-as, wrote-count, wrote-byte}
+use Rattle.base.specs.Output.{Wrote}
+use Rattle.base.specs.OutputLaws.{wrote-as, wrote-count, wrote-byte}
 use Rattle.report.specs.Pieces.{rowFront}
 use Rattle.report.specs.WrittenLaws.{wrote-four}
 use Rattle.report.proofs.row.put_front.Statement.{statement}

@@ -4,9 +4,9 @@ use Prim.Native.Nat.{ℕ, _+_, _≤_}
 use native.Mathlib.Omega.{arith}
 use borrow.Author.Needs.{needs}
 use lib.ListN.{length}
-use Rattle.text.specs.NumberLaws.{Bytes}
-use Rattle.text.specs.Output.{Wrote}
-use Rattle.text.specs.OutputLaws.{wrote-length, wrote-rest, next-room, front-fits}
+use Rattle.base.specs.NumberLaws.{Bytes}
+use Rattle.base.specs.Output.{Wrote}
+use Rattle.base.specs.OutputLaws.{wrote-length, wrote-rest, next-room, front-fits}
 use Rattle.zen.specs.Script.{Objects}
 use Rattle.meaning.specs.Reference.{Ref, refIn}
 use Rattle.meaning.specs.Report.{rowOf}

@@ -5,7 +5,7 @@ use Prim.Native.Nat.{ℕ, _+_, _*_, _-_, _≤_, _<_}
 use native.Mathlib.Omega.{arith}
 use borrow.Author.Needs.{needs}
 use lib.ListN.{length, take, drop, length-drop}
-use Rattle.text.specs.Find.{flat}
+use Rattle.base.specs.Find.{flat}
 use Rattle.zen.specs.Zen.{noExport}
 use Rattle.packages.specs.Package.{readIn, packageIn}
 use Rattle.packages.specs.PackageLaws.{export-count, export-room}

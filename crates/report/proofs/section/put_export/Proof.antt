@@ -5,7 +5,7 @@ use Prim.Native.Nat.{ℕ, _+_, _*_, _-_, _≤_, _<_}
 use native.Mathlib.Omega.{arith}
 use borrow.Author.Needs.{needs}
 use lib.ListN.{length, take, drop}
-use Rattle.text.specs.Output.{Wrote}
+use Rattle.base.specs.Output.{Wrote}
 use Rattle.meaning.specs.Report.{classRef}
 use Rattle.meaning.specs.Scan.{candidateKind}
 use Rattle.packages.specs.Package.{readIn, packageIn}

@@ -5,9 +5,9 @@ use Prim.Native.Nat.{ℕ, _+_, _-_}
 use native.Mathlib.Omega.{arith}
 use borrow.Author.Needs.{needs}
 use lib.ListN.{length, take, drop}
-use Rattle.text.specs.NumberLaws.{length-beBytes}
-use Rattle.text.specs.Output.{Wrote}
-use Rattle.text.specs.OutputLaws.{wrote-rest, wrote-count}
+use Rattle.base.specs.NumberLaws.{length-beBytes}
+use Rattle.base.specs.Output.{Wrote}
+use Rattle.base.specs.OutputLaws.{wrote-rest, wrote-count}
 use Rattle.report.proofs.section.put_front.Statement.{statement}
 use Rattle.report.proofs.section.put_front.Tie as tie
 

@@ -6,10 +6,10 @@ use native.Mathlib.Omega.{arith}
 use borrow.Author.Needs.{needs}
 use lib.ListN.{length, take, drop}
 use Rattle.text.specs.Name.{textBytes}
-use Rattle.text.specs.Number.{beBytes}
-use Rattle.text.specs.NumberLaws.{Bytes, length-beBytes}
-use Rattle.text.specs.Output.{Wrote}
-use Rattle.text.specs.OutputLaws.{wrote-rest, next-room, front-fits}
+use Rattle.base.specs.Number.{beBytes}
+use Rattle.base.specs.NumberLaws.{Bytes, length-beBytes}
+use Rattle.base.specs.Output.{Wrote}
+use Rattle.base.specs.OutputLaws.{wrote-rest, next-room, front-fits}
 use Rattle.zen.specs.Holds.{Holds, textAt, nameAt}
 use Rattle.packages.specs.ClassPath.{home-holds, home-name}
 use Rattle.packages.specs.Package.{packageIn, PackageIn}

@@ -6,15 +6,15 @@ use native.Mathlib.Omega.{arith}
 use borrow.Author.Needs.{needs}
 use lib.ListN.{length, take, drop, length-append, length-drop}
 use lib.Seq.{length-take-le}
-use Rattle.text.specs.Number.{beBytes}
-use Rattle.text.specs.NumberLaws.{length-beBytes}
-use Rattle.text.specs.Output.{Wrote}
-use Rattle.text.specs.OutputLaws.{wrote-front, wrote-count, wrote-as}
+use Rattle.base.specs.Number.{beBytes}
+use Rattle.base.specs.NumberLaws.{length-beBytes}
+use Rattle.base.specs.Output.{Wrote}
+use Rattle.base.specs.OutputLaws.{wrote-front, wrote-count, wrote-as}
 use Rattle.zen.specs.Script.{Objects}
 use Rattle.packages.specs.Walk.{packagesAt}
 use Rattle.packages.specs.WalkLaws.{packages-length}
-use Rattle.report.specs.Found.{classesIn, foundIn}
-use Rattle.report.specs.FoundLaws.{found-classes, found-refs}
+use Rattle.walk.specs.Found.{classesIn, foundIn}
+use Rattle.walk.specs.FoundLaws.{found-classes, found-refs}
 use Rattle.resolve.specs.Lent.{lent-part}
 use Rattle.report.specs.RefsLaws.{rows-all}
 use Rattle.resolve.specs.Rows.{limitsOf}

@@ -6,10 +6,10 @@ use native.Mathlib.Omega.{arith}
 use borrow.Author.Needs.{needs}
 use lib.ListN.{length, take, drop, length-append, length-drop}
 use lib.Seq.{length-take-le}
-use Rattle.text.specs.Number.{beBytes}
-use Rattle.text.specs.NumberLaws.{length-beBytes}
-use Rattle.text.specs.Output.{Wrote}
-use Rattle.text.specs.OutputLaws.{wrote-front, wrote-count, wrote-as}
+use Rattle.base.specs.Number.{beBytes}
+use Rattle.base.specs.NumberLaws.{length-beBytes}
+use Rattle.base.specs.Output.{Wrote}
+use Rattle.base.specs.OutputLaws.{wrote-front, wrote-count, wrote-as}
 use Rattle.meaning.specs.Scan.{candidates}
 use Rattle.packages.specs.Package.{readIn, packageIn}
 use Rattle.packages.specs.PackageLaws.{export-count}

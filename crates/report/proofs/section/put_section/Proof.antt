@@ -5,10 +5,10 @@ use Prim.Native.Nat.{ℕ, zero, suc, _-_, _^_, _≤_, _<_}
 use native.Mathlib.Omega.{arith}
 use borrow.Author.Needs.{needs}
 use lib.ListN.{length, take, drop}
-use Rattle.text.specs.Number.{beAt}
-use Rattle.text.specs.NumberLaws.{Bytes}
-use Rattle.text.specs.Output.{Wrote}
-use Rattle.text.specs.OutputLaws.{wrote-rest, wrote-as, next-room, front-fits}
+use Rattle.base.specs.Number.{beAt}
+use Rattle.base.specs.NumberLaws.{Bytes}
+use Rattle.base.specs.Output.{Wrote}
+use Rattle.base.specs.OutputLaws.{wrote-rest, wrote-as, next-room, front-fits}
 use Rattle.meaning.specs.Reference.{Package}
 use Rattle.packages.specs.Package.{readIn, packageIn, PackageIn}
 use Rattle.packages.specs.PackageLaws.{accepted-by, package-in, export-room, names-held, imported-held}

@@ -6,7 +6,7 @@ use native.Mathlib.Nat.{zero-add}
 use native.Mathlib.Omega.{arith}
 use borrow.Author.Needs.{needs}
 use lib.ListN.{length, take, drop, getD}
-use Rattle.text.specs.Find.{flat}
+use Rattle.base.specs.Find.{flat}
 use Rattle.zen.specs.Notes.{noteCount}
 use Rattle.meaning.specs.Reference.{Package}
 use Rattle.packages.specs.Walk.{placeOf, packageAt, packagesAt}

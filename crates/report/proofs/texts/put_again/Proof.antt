@@ -6,8 +6,8 @@ use native.Mathlib.Numerals.{add-one}
 use native.Mathlib.Omega.{arith}
 use lib.ListN.{length, take, drop, set, getD, length-set, length-append, List·getD-append}
 use lib.Seq.{take-length, take-suc}
-use Rattle.text.specs.Output.{over, Wrote}
-use Rattle.text.specs.OutputLaws.{wrote-as, wrote-count, wrote-byte, wrote-length}
+use Rattle.base.specs.Output.{over, Wrote}
+use Rattle.base.specs.OutputLaws.{wrote-as, wrote-count, wrote-byte, wrote-length}
 use Rattle.report.proofs.texts.put_again.Statement.{statement}
 use Rattle.report.proofs.texts.put_again.Tie as tie
 

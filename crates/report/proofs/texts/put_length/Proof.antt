@@ -1,6 +1,6 @@
 -- `texts::put_length` meets its contract: of a number beyond four bytes the low bytes are written. Assumes nothing.
 use borrow.Author.Needs.{needs}
-use Rattle.text.specs.OutputLaws.{wrote-as}
+use Rattle.base.specs.OutputLaws.{wrote-as}
 use Rattle.report.specs.WrittenLaws.{length-bytes}
 use Rattle.report.proofs.texts.put_length.Statement.{statement}
 use Rattle.report.proofs.texts.put_length.Tie as tie

@@ -3,7 +3,7 @@ use mathlib.Core.Path.{_∙_, ap}
 use Prim.Native.Nat.{ℕ, _+_}
 use native.Mathlib.Omega.{arith}
 use borrow.Author.Needs.{needs}
-use Rattle.text.specs.Number.{leAt}
+use Rattle.base.specs.Number.{leAt}
 use Rattle.resolve.proofs.classes.class_len.Statement.{statement}
 use Rattle.resolve.proofs.classes.class_len.Tie as tie
 

@@ -3,7 +3,7 @@ use mathlib.Core.Path.{_≡_, sym, _∙_}
 use mathlib.Core.Bool.{false≢true}
 use native.Mathlib.Omega.{arith}
 use borrow.Author.Needs.{needs}
-use Rattle.text.specs.NumberLaws.{Bytes}
+use Rattle.base.specs.NumberLaws.{Bytes}
 use Rattle.packages.specs.ClassPath.{home-holds}
 use Rattle.packages.specs.RowLaws.{class-holds}
 use Rattle.table.specs.TableLaws.{holds-linked}

@@ -4,7 +4,7 @@ use mathlib.Core.Bool.{Bool, true, false, not, _&&_}
 use borrow.Author.Needs.{needs}
 use borrow.Author.Tests.{eq-eqb, ne-eqb}
 use lib.Dec.{eqb}
-use Rattle.text.specs.Index.{kind}
+use Rattle.base.specs.Index.{kind}
 use Rattle.meaning.specs.ClassTest.{namesClass}
 use Rattle.meaning.specs.Path.{pathOf}
 use Rattle.meaning.specs.Scan.{isClass}

@@ -6,8 +6,8 @@ use Prim.Native.Nat.{ℕ, _-_, _*_, _≤_, _<_}
 use native.Mathlib.Omega.{arith}
 use lib.ListN.{length, take, getD}
 use lib.Seq.{take-all}
-use Rattle.text.specs.Find.{sum}
-use Rattle.text.specs.LoopLaws.{sum-take}
+use Rattle.base.specs.Find.{sum}
+use Rattle.base.specs.LoopLaws.{sum-take}
 use Rattle.zen.specs.Script.{Objects}
 use Rattle.meaning.specs.Reference.{Ref, null}
 use Rattle.meaning.specs.Scan.{Class}

@@ -3,8 +3,8 @@ use mathlib.Core.Path.{_≡_, sym, _∙_, ap}
 use mathlib.Core.List.{List}
 use Prim.Native.Nat.{ℕ, _+_, _-_, _≤_, _<_}
 use borrow.Author.Needs.{needs}
-use Rattle.text.specs.Never.{never}
-use Rattle.text.specs.Reading.{runBlock}
+use Rattle.base.specs.Never.{never}
+use Rattle.base.specs.Reading.{runBlock}
 use Rattle.zen.specs.Answers.{answer}
 use Rattle.zen.specs.AnswersLaws.{rejected-got}
 use Rattle.zen.specs.Zen.{packageBlock}

@@ -6,8 +6,8 @@ use Prim.Native.Nat.{ℕ, _<_}
 use borrow.Author.Needs.{needs}
 use lib.ListN.{length, getD}
 use Rattle.text.specs.Affix.{endsWith}
-use Rattle.text.specs.NumberLaws.{Bytes}
-use Rattle.text.specs.Reading.{gives, run}
+use Rattle.base.specs.NumberLaws.{Bytes}
+use Rattle.base.specs.Reading.{gives, run}
 use Rattle.zen.specs.Holds.{textAt, Holds, holds-own}
 use Rattle.zen.specs.Places.{placeAt}
 use Rattle.zen.specs.Script.{Objects, script, objectName}

@@ -8,8 +8,8 @@ use native.Mathlib.Omega.{arith}
 use borrow.Author.Needs.{needs}
 use lib.ListN.{length, getD}
 use Rattle.text.specs.Affix.{endsWith}
-use Rattle.text.specs.Index.{kind}
-use Rattle.text.specs.Reading.{gives, run}
+use Rattle.base.specs.Index.{kind}
+use Rattle.base.specs.Reading.{gives, run}
 use Rattle.zen.specs.Objects.{entryNumber}
 use Rattle.zen.specs.Script.{Objects, script, objectName}
 use Rattle.zen.specs.ScriptAccepted.{script-parts, entry-count}

@@ -3,7 +3,7 @@ use mathlib.Core.Path.{_≡_, sym, _∙_, ap}
 use mathlib.Core.Bool.{false}
 use Prim.Native.Nat.{_-_, _≤_}
 use borrow.Author.Needs.{needs}
-use Rattle.text.specs.Reading.{gives, run}
+use Rattle.base.specs.Reading.{gives, run}
 use Rattle.zen.specs.Script.{Objects, script}
 use Rattle.packages.specs.Package.{readIn}
 use Rattle.scan.specs.Repeats.{isClassOf, hasClass}

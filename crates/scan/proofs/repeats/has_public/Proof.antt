@@ -5,7 +5,7 @@ use mathlib.Core.List.{List}
 use Prim.Native.Nat.{ℕ}
 use borrow.Author.Needs.{needs}
 use borrow.Author.Tests.{eq-eqb, ne-eqb}
-use Rattle.text.specs.Number.{beAt}
+use Rattle.base.specs.Number.{beAt}
 use Rattle.zen.specs.Script.{Objects}
 use Rattle.packages.specs.Package.{readIn, PackageIn}
 use Rattle.packages.specs.PackageLaws.{export-count}

@@ -4,7 +4,7 @@ use mathlib.Core.Bool.{false}
 use Prim.Native.Nat.{_-_, _≤_}
 use native.Mathlib.Omega.{arith}
 use borrow.Author.Needs.{needs}
-use Rattle.text.specs.Reading.{gives, run}
+use Rattle.base.specs.Reading.{gives, run}
 use Rattle.zen.specs.Script.{Objects, script}
 use Rattle.packages.specs.Walk.{placeOf}
 use Rattle.packages.specs.WalkLaws.{place-none, all-less}

@@ -5,8 +5,8 @@ use mathlib.Core.List.{List}
 use Prim.Native.Nat.{ℕ, _-_, _≤_}
 use native.Mathlib.Omega.{arith}
 use borrow.Author.Needs.{needs}
-use Rattle.text.specs.Number.{beAt}
-use Rattle.text.specs.Reading.{gives, run}
+use Rattle.base.specs.Number.{beAt}
+use Rattle.base.specs.Reading.{gives, run}
 use Rattle.zen.specs.Script.{Objects, script}
 use Rattle.packages.specs.Package.{readIn, PackageIn}
 use Rattle.packages.specs.PackageLaws.{export-count}

@@ -5,8 +5,8 @@ use native.Mathlib.Omega.{arith}
 use borrow.Fn.Kinds.{In}
 use borrow.Fn.PlainCycle.{Measures, is, falls, and}
 use lib.ListN.{length, set, length-set}
-use Rattle.text.specs.Output.{Wrote}
-use Rattle.text.specs.OutputLaws.{wrote-stores, wrote-as, wrote-byte, wrote-length}
+use Rattle.base.specs.Output.{Wrote}
+use Rattle.base.specs.OutputLaws.{wrote-stores, wrote-as, wrote-byte, wrote-length}
 use Rattle.text.specs.Digits.{decimal}
 use Rattle.text.specs.DigitsLaws.{decimal-last, decimal-more, decimal-length}
 use Rattle.text.proofs.digits.put_decimal.Reads as put-decimal

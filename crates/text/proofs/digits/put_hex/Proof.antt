@@ -6,7 +6,7 @@ use native.Mathlib.Numerals.{sub-one}
 use native.Mathlib.Omega.{arith}
 use lib.ListN.{length, set, getD, take, drop, length-set, take-append-drop}
 use lib.Seq.{take-suc, set-at, length-take-le}
-use Rattle.text.specs.Output.{over, Wrote}
+use Rattle.base.specs.Output.{over, Wrote}
 use Rattle.text.specs.Digits.{hexDigit, hex}
 use Rattle.text.specs.DigitsLaws.{length-hex, hex-none, hex-more}
 use Rattle.text.proofs.digits.put_hex.Statement.{statement}

@@ -2,7 +2,7 @@
 use Prim.Native.Nat.{_+_, _^_, _<_}
 use native.Mathlib.Omega.{arith}
 use borrow.Author.Needs.{needs}
-use Rattle.text.specs.NumberLaws.{Bytes}
+use Rattle.base.specs.NumberLaws.{Bytes}
 use Rattle.text.specs.Name.{base}
 use Rattle.text.specs.Units.{nameUnits}
 use Rattle.text.specs.UnitsLaws.{unitsOf-bound}

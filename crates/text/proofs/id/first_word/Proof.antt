@@ -4,7 +4,7 @@ use mathlib.Core.List.{List}
 use Prim.Native.Nat.{ℕ}
 use borrow.Author.Needs.{needs}
 use lib.ListN.{take}
-use Rattle.text.specs.Number.{leAt}
+use Rattle.base.specs.Number.{leAt}
 use Rattle.text.specs.Utf16.{unitBytes}
 use Rattle.text.specs.Name.{base}
 use Rattle.text.specs.Units.{nameUnits}

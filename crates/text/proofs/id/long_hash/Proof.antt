@@ -6,8 +6,8 @@ use native.Mathlib.Omega.{arith}
 use borrow.Author.Needs.{needs}
 use lib.ListN.{drop}
 use Rattle.text.specs.Utf16.{unitBytes}
-use Rattle.text.specs.City.{turns}
-use Rattle.text.specs.CityLaws.{turns-end}
+use Rattle.city.specs.City.{turns}
+use Rattle.city.specs.CityLaws.{turns-end}
 use Rattle.text.specs.Name.{base}
 use Rattle.text.specs.Units.{nameUnits}
 use Rattle.text.proofs.NameUnits.{turns-next, long-units}

@@ -5,7 +5,7 @@ use Rattle.text.specs.Name.{base}
 use Rattle.text.specs.NameLaws.{suffix-short}
 use Rattle.text.specs.Id.{idOf}
 use Rattle.text.specs.IdLaws.{name-units}
-use Rattle.text.specs.OutputLaws.{wrote-taken, taken-length}
+use Rattle.base.specs.OutputLaws.{wrote-taken, taken-length}
 use Rattle.text.proofs.id.name_id.Statement.{statement}
 use Rattle.text.proofs.id.name_id.Tie as tie
 

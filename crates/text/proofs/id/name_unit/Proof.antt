@@ -4,7 +4,7 @@ use Prim.Native.Nat.{ℕ, _-_}
 use native.Mathlib.Omega.{arith}
 use borrow.Author.Needs.{needs}
 use lib.ListN.{getD}
-use Rattle.text.specs.NumberLaws.{Bytes}
+use Rattle.base.specs.NumberLaws.{Bytes}
 use Rattle.text.proofs.NameUnits.{name-length, part-unit, suffix-unit}
 use Rattle.text.proofs.id.name_unit.Statement.{statement}
 use Rattle.text.proofs.id.name_unit.Tie as tie

@@ -9,8 +9,8 @@ use lib.Dec.{ltb}
 use lib.ListN.{length, take, drop, length-set, length-drop}
 use lib.Seq.{getD-drop}
 use Rattle.text.specs.Affix.{allAscii}
-use Rattle.text.specs.Output.{Wrote}
-use Rattle.text.specs.OutputLaws.{wrote-none, wrote-count}
+use Rattle.base.specs.Output.{Wrote}
+use Rattle.base.specs.OutputLaws.{wrote-none, wrote-count}
 use Rattle.text.specs.PlainLaws.{ascii-next}
 use Rattle.text.specs.Utf16.{unitBytes}
 use Rattle.text.specs.Units.{unitsOf, asciiUnits}

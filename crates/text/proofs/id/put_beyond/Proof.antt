@@ -4,7 +4,7 @@ use mathlib.Core.Logic.{inr}
 use Prim.Native.Nat.{_+_, _^_, _<_}
 use native.Mathlib.Omega.{arith}
 use borrow.Author.Needs.{needs}
-use Rattle.text.specs.NumberLaws.{Bytes}
+use Rattle.base.specs.NumberLaws.{Bytes}
 use Rattle.text.specs.UnitsLaws.{unitsOf-bound}
 use Rattle.text.proofs.NameUnits.{name-length}
 use Rattle.text.proofs.id.put_beyond.Statement.{statement}

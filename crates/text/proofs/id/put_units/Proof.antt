@@ -5,8 +5,8 @@ use Prim.Native.Nat.{ℕ, _+_, _^_, _<_}
 use native.Mathlib.Omega.{arith}
 use borrow.Author.Needs.{needs}
 use lib.ListN.{take, drop}
-use Rattle.text.specs.NumberLaws.{Bytes}
-use Rattle.text.specs.Output.{Wrote}
+use Rattle.base.specs.NumberLaws.{Bytes}
+use Rattle.base.specs.Output.{Wrote}
 use Rattle.text.specs.Utf16.{unitBytes}
 use Rattle.text.specs.Name.{base}
 use Rattle.text.specs.Units.{nameUnits}

@@ -5,9 +5,9 @@ use Prim.Native.Nat.{ℕ, _+_}
 use native.Mathlib.Omega.{arith}
 use borrow.Author.Needs.{needs}
 use lib.ListN.{length, take}
-use Rattle.text.specs.OutputLaws.{taken-length}
+use Rattle.base.specs.OutputLaws.{taken-length}
 use Rattle.text.specs.Utf16.{unitBytes}
-use Rattle.text.specs.City.{cityHash64}
+use Rattle.city.specs.City.{cityHash64}
 use Rattle.text.specs.Name.{base}
 use Rattle.text.specs.Units.{unitsOf, nameUnits}
 use Rattle.text.specs.UnitsLaws.{unitsOf-bound}

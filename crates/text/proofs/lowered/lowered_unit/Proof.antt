@@ -9,7 +9,7 @@ use borrow.Author.Needs.{needs}
 use lib.ListN.{length, getD}
 use Rattle.lower.specs.Lower.{lower, lowered}
 use Rattle.lower.specs.LowerLaws.{lower-single}
-use Rattle.text.specs.NumberLaws.{Bytes}
+use Rattle.base.specs.NumberLaws.{Bytes}
 use Rattle.text.specs.Utf16.{isWell, encode16}
 use Rattle.text.specs.Utf16Cases.{High, Low}
 use Rattle.text.specs.Name.{decoded, base}

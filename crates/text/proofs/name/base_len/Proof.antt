@@ -7,7 +7,7 @@ use Prim.Native.Nat.{ℕ, _+_, _-_, _*_, _≤_}
 use native.Mathlib.Omega.{arith}
 use lib.ListN.{length}
 use borrow.Author.Needs.{needs}
-use Rattle.text.specs.NumberLaws.{Bytes}
+use Rattle.base.specs.NumberLaws.{Bytes}
 use Rattle.text.specs.Utf8.{utf8}
 use Rattle.text.specs.Name.{base}
 use Rattle.text.specs.Units.{unitsOf}

@@ -3,8 +3,8 @@ use mathlib.Core.Path.{ap, sym}
 use mathlib.Core.List.{[], _∷_}
 use native.Mathlib.Omega.{arith}
 use lib.ListN.{length, set, length-set}
-use Rattle.text.specs.Output.{Wrote}
-use Rattle.text.specs.OutputLaws.{wrote-none, wrote-as, wrote-sets, wrote-rest, wrote-room, wrote-length}
+use Rattle.base.specs.Output.{Wrote}
+use Rattle.base.specs.OutputLaws.{wrote-none, wrote-as, wrote-sets, wrote-rest, wrote-room, wrote-length}
 use Rattle.text.specs.NameLaws.{suffix-none, suffix-more}
 use borrow.Author.Needs.{needs}
 use Rattle.text.proofs.name.put_suffix.Statement.{statement}

@@ -1,7 +1,7 @@
 -- `text::plain::put_name` meets its contract: the base, then the suffix. Assumes nothing.
 use mathlib.Core.Path.{sym}
 use native.Mathlib.Omega.{arith}
-use Rattle.text.specs.OutputLaws.{wrote-as, wrote-rest, wrote-room}
+use Rattle.base.specs.OutputLaws.{wrote-as, wrote-rest, wrote-room}
 use Rattle.text.specs.NameLaws.{rendered-bytes, rendered-length}
 use borrow.Author.Needs.{needs}
 use Rattle.text.proofs.plain.put_name.Statement.{statement}

@@ -3,8 +3,8 @@ use mathlib.Core.Path.{_≡_}
 use Prim.Native.Nat.{_+_, _≤_}
 use native.Mathlib.Omega.{arith}
 use lib.ListN.{length, length-append, length-take, length-drop}
-use Rattle.text.specs.Number.{beBytes}
-use Rattle.text.specs.OutputLaws.{wrote-as, wrote-count, wrote-front}
+use Rattle.base.specs.Number.{beBytes}
+use Rattle.base.specs.OutputLaws.{wrote-as, wrote-count, wrote-front}
 use Rattle.text.specs.Utf8.{utf8}
 use Rattle.text.specs.Name.{rendered, textBytes}
 use Rattle.text.specs.NameLaws.{textBytes-length}

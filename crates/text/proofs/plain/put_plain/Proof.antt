@@ -6,8 +6,8 @@ use native.Mathlib.Omega.{arith}
 use lib.ListN.{length, take}
 use lib.Seq.{take-length}
 use Rattle.text.specs.Affix.{allAscii}
-use Rattle.text.specs.Output.{Wrote}
-use Rattle.text.specs.OutputLaws.{wrote-none, wrote-length, wrote-paste, wrote-as, wrote-count}
+use Rattle.base.specs.Output.{Wrote}
+use Rattle.base.specs.OutputLaws.{wrote-none, wrote-length, wrote-paste, wrote-as, wrote-count}
 use Rattle.text.specs.PlainLaws.{ascii-eight, ascii-cover}
 use Rattle.text.proofs.plain.put_plain.Statement.{statement}
 use Rattle.text.proofs.plain.put_plain.Tie as tie

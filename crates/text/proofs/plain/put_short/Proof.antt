@@ -7,8 +7,8 @@ use lib.Dec.{ltb}
 use lib.ListN.{length, take}
 use lib.Seq.{take-length}
 use Rattle.text.specs.Affix.{allAscii}
-use Rattle.text.specs.Output.{Wrote}
-use Rattle.text.specs.OutputLaws.{wrote-none, wrote-length, wrote-copy, wrote-as, wrote-count}
+use Rattle.base.specs.Output.{Wrote}
+use Rattle.base.specs.OutputLaws.{wrote-none, wrote-length, wrote-copy, wrote-as, wrote-count}
 use Rattle.text.specs.PlainLaws.{ascii-next}
 use Rattle.text.proofs.plain.put_short.Statement.{statement}
 use Rattle.text.proofs.plain.put_short.Tie as tie

@@ -2,7 +2,7 @@
 use mathlib.Core.Path.{ap}
 use native.Mathlib.Omega.{arith}
 use lib.ListN.{length, length-set}
-use Rattle.text.specs.OutputLaws.{wrote-stores}
+use Rattle.base.specs.OutputLaws.{wrote-stores}
 use Rattle.text.specs.Utf8Laws.{utf8-1, utf8-2, utf8-3, utf8-4}
 use borrow.Author.Needs.{needs}
 use Rattle.text.proofs.utf8.put_utf8.Statement.{statement}

@@ -4,7 +4,7 @@ use mathlib.Core.Path.{ap, _∙_}
 use borrow.Author.Needs.{needs}
 use lib.ListN.{getD}
 use Rattle.text.specs.Id.{idOf}
-use Rattle.text.specs.Reading.{runBlock}
+use Rattle.base.specs.Reading.{runBlock}
 use Rattle.zen.specs.Answers.{importedOf}
 use Rattle.zen.specs.Zen.{packageBlock}
 use Rattle.zen.specs.Holds.{Holds, holds-own}

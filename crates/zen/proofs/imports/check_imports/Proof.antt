@@ -6,7 +6,7 @@ use native.Mathlib.Omega.{arith}
 use borrow.Author.Needs.{needs}
 use borrow.Author.Tests.{lt-ltb, le-ltb, eq-eqb, ne-eqb}
 use lib.ListN.{length}
-use Rattle.text.specs.Reading.{walk}
+use Rattle.base.specs.Reading.{walk}
 use Rattle.zen.specs.Zen.{imports}
 use Rattle.zen.specs.Answers.{imported}
 use Rattle.zen.specs.FoundBatch.{FoundAt, found-at}

@@ -6,8 +6,8 @@ use native.Mathlib.Omega.{arith}
 use lib.ListN.{length}
 use borrow.Author.Needs.{needs}
 use borrow.Author.Tests.{le-leb, lt-leb, eq-eqb, ne-eqb}
-use Rattle.text.specs.Reading.{bad, got, walk}
-use Rattle.text.specs.Number.{leAt}
+use Rattle.base.specs.Reading.{bad, got, walk}
+use Rattle.base.specs.Number.{leAt}
 use Rattle.zen.specs.Zen.{lead}
 use Rattle.zen.specs.Answers.{led}
 use Rattle.zen.specs.BlockLaws.{lead-is}

@@ -34,7 +34,7 @@ use denote.Triple.Entry.{onEntry}
 use denote.Triple.Spec.{tripleOf}
 use denote.Triple.Table.{entered, cited}
 use denote.Triple.Walked.{says, walkOf, ends-at}
-use Rattle.text.specs.Reading.{walk as reading}
+use Rattle.base.specs.Reading.{walk as reading}
 use Rattle.zen.specs.Zen.{lead}
 use Rattle.zen.specs.Answers.{led}
 use Rattle.zen.specs.Cursor.{wordAt, behind}

@@ -8,8 +8,8 @@ use borrow.Author.Tests.{not-true, not-false}
 use lib.ListN.{length, take, drop}
 use Rattle.text.specs.Utf16.{isWell}
 use Rattle.text.specs.Name.{decoded}
-use Rattle.text.specs.Reading.{walk}
-use Rattle.text.specs.ReadingRows.{cells}
+use Rattle.base.specs.Reading.{walk}
+use Rattle.base.specs.ReadingRows.{cells}
 use Rattle.zen.specs.Batch.{headAt, strings}
 use Rattle.zen.specs.Answers.{checked}
 use Rattle.zen.specs.BatchLaws.{names-none, names-left, names-out, names-ill, names-pass}

@@ -4,8 +4,8 @@ use mathlib.Core.List.{List}
 use Prim.Native.Nat.{ℕ, _+_, _≤_, _<_}
 use borrow.Author.Tests.{le-leb, lt-leb, eq-eqb, ne-eqb}
 use lib.ListN.{length}
-use Rattle.text.specs.Number.{leAt}
-use Rattle.text.specs.Reading.{walk}
+use Rattle.base.specs.Number.{leAt}
+use Rattle.base.specs.Reading.{walk}
 use Rattle.zen.specs.Batch.{batch, someNames}
 use Rattle.zen.specs.Answers.{batched}
 use Rattle.zen.specs.BatchLaws.{batch-is}

@@ -4,9 +4,9 @@ use mathlib.Core.List.{List}
 use Prim.Native.Nat.{ℕ, _+_, _*_, _-_, _≤_, _<_}
 use native.Mathlib.Omega.{arith}
 use lib.ListN.{length}
-use Rattle.text.specs.Reading.{got, walk}
-use Rattle.text.specs.ReadingLaws.{chain}
-use Rattle.text.specs.ReadingRows.{cells}
+use Rattle.base.specs.Reading.{got, walk}
+use Rattle.base.specs.ReadingLaws.{chain}
+use Rattle.base.specs.ReadingRows.{cells}
 use Rattle.zen.specs.Batch.{headAt, strings, body}
 use Rattle.zen.specs.Answers.{checked, batched}
 use Rattle.zen.specs.AnswersLaws.{checked-passed, checked-failed}

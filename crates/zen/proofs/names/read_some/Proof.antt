@@ -6,9 +6,9 @@ use native.Mathlib.Omega.{arith}
 use borrow.Author.Tests.{le-leb, lt-leb, eq-eqb, ne-eqb}
 use lib.Dec.{leb}
 use lib.ListN.{length}
-use Rattle.text.specs.Number.{leAt}
-use Rattle.text.specs.Reading.{bad, walk}
-use Rattle.text.specs.ReadingLaws.{pick-short}
+use Rattle.base.specs.Number.{leAt}
+use Rattle.base.specs.Reading.{bad, walk}
+use Rattle.base.specs.ReadingLaws.{pick-short}
 use Rattle.zen.specs.Batch.{someNames, body}
 use Rattle.zen.specs.Answers.{batched}
 use Rattle.zen.specs.BatchLaws.{some-is}

@@ -2,7 +2,7 @@
 use mathlib.Core.Path.{sym, ap, _∙_}
 use native.Mathlib.Omega.{arith}
 use borrow.Author.Needs.{needs}
-use Rattle.text.specs.Index.{nameIndex}
+use Rattle.base.specs.Index.{nameIndex}
 use Rattle.zen.specs.Field.{low30-is}
 use Rattle.zen.proofs.reader.u30_le.Statement.{statement}
 use Rattle.zen.proofs.reader.u30_le.Tie as tie

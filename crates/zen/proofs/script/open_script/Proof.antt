@@ -4,8 +4,8 @@ use mathlib.Core.Path.{_≡_, sym, _∙_}
 use Prim.Native.Nat.{ℕ}
 use native.Mathlib.Omega.{arith}
 use borrow.Author.Needs.{needs}
-use Rattle.text.specs.Reading.{walk}
-use Rattle.text.specs.SignedLaws.{size-is, size-none}
+use Rattle.base.specs.Reading.{walk}
+use Rattle.base.specs.SignedLaws.{size-is, size-none}
 use Rattle.zen.specs.Batch.{batch}
 use Rattle.zen.specs.Answers.{batched}
 use Rattle.zen.specs.FoundBatch.{FoundAt, found-at}

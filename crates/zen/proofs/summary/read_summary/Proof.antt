@@ -4,7 +4,7 @@ use mathlib.Core.Path.{_≡_, sym, _∙_}
 use mathlib.Core.List.{List}
 use lib.ListN.{length}
 use borrow.Author.Needs.{needs}
-use Rattle.text.specs.Reading.{walk, rows}
+use Rattle.base.specs.Reading.{walk, rows}
 use Rattle.zen.specs.Zen.{offset, summary, summaryAt}
 use Rattle.zen.specs.Answers.{checked, summed}
 use Rattle.zen.specs.AnswersLaws.{checked-passed, checked-failed}

@@ -6,12 +6,12 @@ use native.Mathlib.Omega.{arith}
 use lib.ListN.{length}
 use borrow.Author.Needs.{needs}
 use borrow.Author.Tests.{le-leb, lt-leb, eq-eqb, ne-eqb}
-use Rattle.text.specs.Reading.{walk}
-use Rattle.text.specs.Number.{leAt}
-use Rattle.text.specs.SignedSize.{sizeIn}
-use Rattle.text.specs.SignedLaws.{size-is, size-none}
-use Rattle.text.specs.declared.signed.Size.{Size}
-use Rattle.text.specs.declared.signed.Size.the-variants.{Of, Negative}
+use Rattle.base.specs.Reading.{walk}
+use Rattle.base.specs.Number.{leAt}
+use Rattle.base.specs.SignedSize.{sizeIn}
+use Rattle.base.specs.SignedLaws.{size-is, size-none}
+use Rattle.base.specs.declared.signed.Size.{Size}
+use Rattle.base.specs.declared.signed.Size.the-variants.{Of, Negative}
 use Rattle.zen.specs.Zen.{bulk}
 use Rattle.zen.specs.Answers.{checked}
 use Rattle.zen.specs.TableLaws.{bulk-is}

@@ -3,7 +3,7 @@ use Prim.Native.Nat.{_+_, _*_, _≤_}
 use mathlib.Core.Path.{_≡_, refl, sym, _∙_}
 use native.Mathlib.Omega.{arith}
 use lib.ListN.{length}
-use Rattle.text.specs.ReadingRows.{cells}
+use Rattle.base.specs.ReadingRows.{cells}
 use Rattle.zen.specs.Zen.{exportAt, named}
 use Rattle.zen.specs.TableLaws.{named-none, named-pass, named-fail}
 use Rattle.zen.proofs.tables.check_exports.Statement.{statement}

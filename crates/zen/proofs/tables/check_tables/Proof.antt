@@ -6,7 +6,7 @@ use mathlib.Core.Bool.{Bool, true, false}
 use lib.ListN.{length}
 use borrow.Author.Needs.{needs}
 use borrow.Author.Tests.{eq-eqb, ne-eqb}
-use Rattle.text.specs.Reading.{walk}
+use Rattle.base.specs.Reading.{walk}
 use Rattle.zen.specs.Zen.{tables, named}
 use Rattle.zen.specs.TableLaws.{tables-is, exportsIn}
 use Rattle.zen.specs.Answers.{checked, Order}

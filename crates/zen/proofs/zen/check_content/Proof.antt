@@ -5,8 +5,8 @@ use mathlib.Core.List.{List}
 use native.Mathlib.Omega.{arith}
 use lib.ListN.{length}
 use borrow.Author.Needs.{needs}
-use Rattle.text.specs.Reading.{walk, got}
-use Rattle.text.specs.ReadingLaws.{out, then-walk, then-bad}
+use Rattle.base.specs.Reading.{walk, got}
+use Rattle.base.specs.ReadingLaws.{out, then-walk, then-bad}
 use Rattle.zen.specs.Batch.{batch}
 use Rattle.zen.specs.Zen.{bulk, tables, Tables, imports, content}
 use Rattle.zen.specs.Answers.{checked, batched, imported, answer, Order}

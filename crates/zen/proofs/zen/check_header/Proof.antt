@@ -5,8 +5,8 @@ use mathlib.Core.List.{List}
 use mathlib.Core.Bool.{Bool, true, false}
 use lib.ListN.{length}
 use borrow.Author.Needs.{needs}
-use Rattle.text.specs.Reading.{walk, got}
-use Rattle.text.specs.ReadingLaws.{out, ask-yes, ask-no, then-walk, then-bad}
+use Rattle.base.specs.Reading.{walk, got}
+use Rattle.base.specs.ReadingLaws.{out, ask-yes, ask-no, then-walk, then-bad}
 use Rattle.zen.specs.Zen.{summary, ordered, header, content}
 use Rattle.zen.specs.Answers.{summed, answer, Order}
 use Rattle.zen.specs.SummaryLaws.{order-of, summary-got}

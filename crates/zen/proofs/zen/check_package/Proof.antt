@@ -6,8 +6,8 @@ use native.Mathlib.Nat.{sub-zero}
 use lib.ListN.{length, take}
 use lib.Seq.{length-take-le}
 use borrow.Author.Needs.{needs}
-use Rattle.text.specs.Reading.{walk, got, runBlock}
-use Rattle.text.specs.ReadingLaws.{out}
+use Rattle.base.specs.Reading.{walk, got, runBlock}
+use Rattle.base.specs.ReadingLaws.{out}
 use Rattle.zen.specs.Zen.{header, lead, packageBlock}
 use Rattle.zen.specs.Answers.{led, answer}
 use Rattle.zen.specs.AnswersLaws.{led-header, led-fault}

@@ -1,0 +1,83 @@
+-- Laws of the hash for a text that is read 64 bytes at a time. Assumes nothing.
+use mathlib.Core.Path.{_≡_, refl, sym, ap, _∙_}
+use mathlib.Core.List.{List}
+use Prim.Native.Nat.{ℕ, zero, suc, _+_, _-_, _/_, _≤_, _<_}
+use native.Mathlib.Nat.{zero-add, not-suc-le-zero}
+use native.Mathlib.Numerals.{sub-one}
+use native.Mathlib.Omega.{arith}
+use lib.Dec.{lit≤}
+use lib.ListN.{length, take, drop}
+use lib.Seq.{drop-drop}
+use borrow.Author.Tests.{lt-leb}
+use Rattle.base.specs.Number.{leAt}
+use Rattle.base.specs.NumberLaws.{leAt-part}
+use Rattle.city.specs.City.{weakAt, nextV, nextW, turn, turns, start, finish, longer, cityHash64}
+use Rattle.city.specs.declared.city.State.{State}
+
+module _ (s : List ℕ) where
+  -- the words within the first 64 bytes
+  word-front : (i : ℕ) → i + 8 ≤ 64 → leAt 8 (take 64 s) i ≡ leAt 8 s i
+  word-front i h = leAt-part 8 0 64 s i h ∙ ap (leAt 8 s) (zero-add i)
+
+  weak-front : (i a b : ℕ) → i + 32 ≤ 64 → weakAt (take 64 s) i a b ≡ weakAt s i a b
+  unfolding weakAt
+  weak-front i a b h =
+      rw (
+        word-front i (omega arith),
+        word-front (i + 8) (omega arith),
+        word-front (i + 16) (omega arith),
+        word-front (i + 24) (omega arith),
+      )
+
+  -- a turn reads the first 64 bytes alone
+  pub turn-front : (t : State) → turn (take 64 s) t ≡ turn s t
+  unfolding turn nextV nextW
+  turn-front t =
+      rw (
+        word-front 8 (lit≤ tt),
+        word-front 16 (lit≤ tt),
+        word-front 40 (lit≤ tt),
+        word-front 48 (lit≤ tt),
+        weak-front 0 _ _ (lit≤ tt),
+        weak-front 32 _ _ (lit≤ tt),
+      )
+
+  pub start-front : (n first : ℕ) → start n (take 64 s) first ≡ start n s first
+  unfolding start
+  start-front n first =
+      rw (
+        word-front 8 (lit≤ tt),
+        word-front 16 (lit≤ tt),
+        word-front 24 (lit≤ tt),
+        word-front 40 (lit≤ tt),
+        word-front 48 (lit≤ tt),
+        weak-front 0 _ _ (lit≤ tt),
+        weak-front 32 _ _ (lit≤ tt),
+      )
+
+-- one turn, and the rest
+pub turns-step : (k : ℕ) (s : List ℕ) (t : State) → turns (suc k) s t ≡ turns k (drop 64 s) (turn (take 64 s) t)
+unfolding turns
+turns-step k s t = ap (turns k (drop 64 s)) (sym (turn-front s t))
+
+-- the same from a place on, as a loop that counts k down has it
+pub turns-at : (k : ℕ) (s : List ℕ) (at : ℕ) (t : State) → 0 < k → turns k (drop at s) t ≡ turns (k - 1) (drop (at + 64) s) (turn (take 64 (drop at s)) t)
+turns-at zero s at t h = absurd (not-suc-le-zero h)
+turns-at (suc k) s at t h = rw (turns-step k (drop at s) t, drop-drop 64 at s, sub-one (suc k))
+
+pub turns-end : (k : ℕ) (s : List ℕ) (t : State) → k ≤ 0 → turns k s t ≡ t
+unfolding turns
+turns-end zero s t h = refl
+turns-end (suc k) s t h = absurd (not-suc-le-zero h)
+
+-- the hash of more than 64 bytes: of its last 64, its first word and the turns
+pub long-is : (s : List ℕ) → 64 < length s
+    → cityHash64 s ≡ finish (turns ((length s - 1) / 64) s (start (length s) (take 64 (drop (length s - 64) s)) (leAt 8 s 0)))
+unfolding cityHash64 longer
+long-is s h =
+    rw (
+      lt-leb (length s) 16 (omega arith),
+      lt-leb (length s) 32 (omega arith),
+      lt-leb (length s) 64 h,
+      start-front (drop (length s - 64) s) (length s) (leAt 8 s 0),
+    )

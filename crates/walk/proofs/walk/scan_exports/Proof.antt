@@ -1,0 +1,137 @@
+-- `walk::scan_exports` meets its contract. The loop's invariant: the state is that of the first i exports. Assumes nothing.
+use mathlib.Core.Path.{_≡_, refl, _∙_}
+use mathlib.Core.Bool.{false}
+use mathlib.Core.List.{List}
+use Prim.Native.Nat.{ℕ, _+_, _-_, _≤_}
+use native.Mathlib.Omega.{arith}
+use borrow.Author.Needs.{needs}
+use lib.ListN.{length}
+use Rattle.zen.specs.Script.{Objects}
+use Rattle.packages.specs.Package.{packageIn, PackageIn}
+use Rattle.packages.specs.PackageLaws.{export-count}
+use Rattle.packages.specs.declared.package.Parts.{Parts}
+use Rattle.walk.specs.Found.{Found, withExport, withExports, withPackage, State}
+use Rattle.walk.specs.StateLaws.{exports-next, exports-behind, state-closed}
+use Rattle.walk.specs.Steps.{SomeState, Visited, Grown}
+use Rattle.walk.specs.declared.walk.Census.{Census}
+use Rattle.walk.specs.declared.walk.Visit.{Visit}
+use Rattle.walk.proofs.Scans.{not-true, not-false}
+use Rattle.walk.proofs.walk.scan_exports.Statement.{statement}
+use Rattle.walk.proofs.walk.scan_exports.Tie as tie
+
+-- after i exports of the package that is visited, whose block d is; b: the script block
+record Done (d b : List ℕ) (n limit : ℕ) (v : Visit) (t₀ : Census) (w₀ : List ℕ) (i : ℕ) (t : Census) (w : List ℕ) : Type 0 where
+  pub size : length w ≡ length w₀
+  pub grown : Grown i t₀ t
+  pub some : SomeState b n v d t w
+  pub state : (c : List ℕ) (o : Objects) (f : Found) → Visited c v d → State c b o n (withExports limit o (v .block) (packageIn (v .id) d) 0 f) t₀ w₀
+      → State c b o n (withExports limit o (v .block) (packageIn (v .id) d) i f) t w
+
+module _ (d b : List ℕ) (n limit : ℕ) (v : Visit) {t₀ : Census} {w₀ : List ℕ} where
+  begun : SomeState b n v d t₀ w₀ → Done d b n limit v t₀ w₀ 0 t₀ w₀
+  begun k = record { size = refl; grown = record { classes = omega arith; rows = omega arith; size = omega arith }; some = k; state = λ c o f z s. s }
+
+  module _ {i : ℕ} {t : Census} {w : List ℕ} (k : Done d b n limit v t₀ w₀ i t w) where
+    more : {u : Census} {w′ : List ℕ}
+        → ((c : List ℕ) (o : Objects) (f : Found) → Visited c v d → State c b o n f t w → State c b o n (withExport limit o (v .block) (packageIn (v .id) d) i f) u w′)
+        → Grown 1 t u → length w′ ≡ length w → Done d b n limit v t₀ w₀ (i + 1) u w′
+    more next g l = record {
+      size = l ∙ k .size;
+      grown = record { classes = omega (arith, k .grown .classes, g .classes); rows = omega (arith, k .grown .rows, g .rows); size = omega (arith, k .grown .size, g .size) };
+      some = let s = k .some in record {
+        corpus = s .corpus;
+        objects = s .objects;
+        found = withExport limit (s .objects) (v .block) (packageIn (v .id) d) i (s .found);
+        visited = s .visited;
+        holds = next (s .corpus) (s .objects) (s .found) (s .visited) (s .holds);
+      };
+      state = λ c o f z s. rw (exports-next limit o (v .block) (packageIn (v .id) d) i f)
+          (next c o (withExports limit o (v .block) (packageIn (v .id) d) i f) z (k .state c o f z s));
+    }
+
+    module _ {p : Parts} (a : PackageIn d p) where
+      abbrev End : Type 0
+      End = (c : List ℕ) (o : Objects) (f : Found) → Visited c v d → State c b o n (withExports limit o (v .block) (packageIn (v .id) d) 0 f) t₀ w₀
+          → State c b o n (withPackage limit o (v .block) (packageIn (v .id) d) f) t w
+
+      -- nothing more is entered
+      shut : i ≤ p .count → t .open ≡ false → End
+      shut h q c o f z s =
+          state-closed (k .state c o f z s) q (exports-behind limit o (v .block) (packageIn (v .id) d) f i _ (omega (arith, export-count a))) refl
+
+      -- all are
+      whole : i ≡ p .count → End
+      whole e c o f z s = let q = e ∙ export-count a in rw q at (k .state c o f z s)
+
+grown-more : {m i : ℕ} {t₀ t : Census} → i ≤ m → Grown i t₀ t → Grown m t₀ t
+grown-more h g = record { classes = omega (arith, g .classes); rows = omega (arith, g .rows); size = omega (arith, g .size) }
+
+abbrev Inv-loop : tie.InvT-loop
+Inv-loop b p names imported s w₀ n limit v t₀ i₀ w t i = (i ≤ p .count) × Done b s n limit v t₀ w₀ i t w
+
+abbrev μ-loop : tie.MeasureT-loop
+μ-loop b p names imported s w₀ n limit v t₀ i₀ w t i = p .count - i
+
+loop-holds : tie.Need-loop-holds Inv-loop μ-loop
+loop-holds c = let s = c .before .before .before in (omega arith, begun (s .args .b .now) (s .args .s .now) (s .args .n) (s .args .limit) (s .args .v) (s .pre .1 .0))
+
+same-length : tie.Need-same-length Inv-loop μ-loop
+same-length c = c .before .before .before .before .loop .inv .1 .size
+
+returns : tie.Need-returns Inv-loop μ-loop
+returns c =
+    let l = c .before .before .before .before .loop in
+    let s = c .before .before .before .before .before .before .before .before in
+    let a = s .args in (
+      shut (a .b .now) (a .s .now) (a .n) (a .limit) (a .v) (l .inv .1) (s .pre .0 .0) (l .inv .0) (not-true _ (c .if2 .taken)),
+      (grown-more (l .inv .0) (l .inv .1 .grown), l .inv .1 .size),
+    )
+
+scan-export-requires : tie.Need-scan-export-requires Inv-loop μ-loop
+scan-export-requires c κs =
+    let l = c .before .before .before .before .before .loop in
+    let s = c .before .before .before .before .before .before .before .before .before in
+    let g = l .inv .1 .grown in
+    let q = s .pre .1 in
+    let h = c .before .before .before .if1 .taken in (
+      (s .pre .0 .0, s .pre .0 .1, s .pre .0 .2, h),
+      (not-false _ (c .before .if2 .left), l .inv .1 .some, omega (arith, g .classes, q .1, h), omega (arith, g .rows, q .2, h), omega (arith, g .size, q .3, h), q .4),
+    )
+
+loop-again : tie.Need-loop-again Inv-loop μ-loop
+loop-again c =
+    let l = c .before .before .before .before .before .before .before .before .loop in
+    let a = c .before .before .before .before .before .before .before .before .before .before .before .before .args in
+    let e = c .before .before .scan-export .ensures in
+    let h = c .before .before .before .before .before .before .if1 .taken in (
+      omega (arith, h),
+      more (a .b .now) (a .s .now) (a .n) (a .limit) (a .v) (l .inv .1) (e .0) (e .1 .0) (e .1 .1),
+    )
+
+same-length-2 : tie.Need-same-length-2 Inv-loop μ-loop
+same-length-2 c = c .before .before .loop .inv .1 .size
+
+returns-2 : tie.Need-returns-2 Inv-loop μ-loop
+returns-2 c =
+    let l = c .before .before .loop in
+    let s = c .before .before .before .before .before .before in
+    let a = s .args in (
+      whole (a .b .now) (a .s .now) (a .n) (a .limit) (a .v) (l .inv .1) (s .pre .0 .0) (omega (arith, l .inv .0, c .if1 .left)),
+      (grown-more (l .inv .0) (l .inv .1 .grown), l .inv .1 .size),
+    )
+
+pub scan-exports-spec : {M : Type 1} → statement M
+scan-exports-spec =
+    tie.close
+    (tie.spec
+    Inv-loop
+    μ-loop
+    loop-holds
+    same-length
+    returns
+    scan-export-requires
+    (search needs)
+    (search needs)
+    loop-again
+    same-length-2
+    returns-2)
