@@ -11,3 +11,10 @@ pub mod TableLaws
 -- ---- Laws of lowering
 pub mod LowerLaws
 pub mod LatinLaws
+-- ---- Lowering by rules, with no table at hand
+pub mod Quick
+pub mod QuickLaws
+pub mod Runs
+-- ---- What lowering A to Z lowers right
+pub mod Caseless
+pub mod CaselessLaws

@@ -57,3 +57,21 @@ pub fn lower_latin(c: u32) -> u32
     }
     lower_extended(c)
 }
+
+// The lower-case form of a byte of Latin-1: 32 is added to A to Z and to C0 to DE but for the multiplication sign D7, with no branch, so that
+// the compiler can take many bytes a turn.
+pub fn lower_byte(b: u8) -> u8
+    ensures { λ r. ⌜ r ≡ lower b ⌝ }
+{
+    let from_a = 65 <= b;
+    let to_z = b <= 90;
+    let from_c0 = 0xC0 <= b;
+    let to_d6 = b <= 0xD6;
+    let from_d8 = 0xD8 <= b;
+    let to_de = b <= 0xDE;
+    b
+        + 32
+            * ((from_a as u8) * (to_z as u8)
+                + (from_c0 as u8) * (to_d6 as u8)
+                + (from_d8 as u8) * (to_de as u8))
+}

@@ -1,3 +1,3 @@
-pub mod AsciiUnits
 pub mod NameLoop
 pub mod NameUnits
+pub mod WideUnits

@@ -1,72 +1,103 @@
 -- Lemmas for the id of a name: its units one by one, their bytes as they are written, and the turns of the hash over them. Assumes nothing.
 use mathlib.Core.Path.{_≡_, refl, sym, _∙_, ap}
-use mathlib.Core.Bool.{Bool, true, _&&_, and-eq-true-iff}
+use mathlib.Core.Bool.{Bool, true, false}
 use mathlib.Core.List.{List, [], _∷_, _++_, append-assoc, append-nil}
-use mathlib.Core.Logic.{_⊎_, inl, inr}
+use mathlib.Core.Logic.{_⊎_, inl, inr, by-cases}
 use Prim.Native.Nat.{ℕ, zero, suc, _+_, _*_, _-_, _/_, _%_, _≤_, _<_}
 use native.Mathlib.Numerals.{add-one}
+use native.Mathlib.Decide.{decLt}
 use native.Mathlib.Omega.{arith}
-use borrow.Author.Tests.{ltb-true}
-use lib.Dec.{ltb, lit≤}
-use lib.ListN.{length, set, getD, take, drop, length-append, length-take, length-drop, drop-of-length-le, List·getD-append}
-use lib.Seq.{take-suc, take-all, getD-append-add, getD-take, getD-drop}
+use lib.Dec.{lit≤}
+use lib.ListN.{length, set, getD, take, drop, length-append, length-take, length-drop, drop-of-length-le}
+use lib.Seq.{take-suc, take-all, take-add, take-append-le, take-append-add, drop-drop, drop-append-le, drop-append-add, getD-drop}
 use Rattle.base.specs.Number.{leAt}
 use Rattle.base.specs.NumberLaws.{Bytes, leAt-part}
 use Rattle.base.specs.Output.{over, Wrote}
-use Rattle.base.specs.OutputLaws.{wrote-byte, wrote-as, wrote-count, wrote-taken}
+use Rattle.base.specs.OutputLaws.{wrote-byte, wrote-as, wrote-count, wrote-taken, wrote-rest}
 use Rattle.text.specs.Utf16.{isWell, encode16, unitBytes}
+use Rattle.text.specs.Utf16Cases.{High, Low}
 use Rattle.text.specs.Name.{decoded, base}
-use Rattle.lower.specs.Table.{pairs}
-use Rattle.lower.specs.Lower.{lowered, flat}
-use Rattle.text.specs.LowerLaws.{lowered-units, lowered-unit}
+use Rattle.lower.specs.Lower.{lowered}
+use Rattle.text.specs.LowerLaws.{lowered-units, lowered-unit, narrow-units}
 use Rattle.city.specs.City.{turn, turns, start, finish, cityHash64}
 use Rattle.city.specs.CityLaws.{turns-at, long-is}
 use Rattle.city.specs.declared.city.State.{State}
-use Rattle.text.specs.Units.{unitsOf, loweredUnit, allLatin, TableFor, nameUnits}
-use Rattle.text.specs.UnitsLaws.{base-units}
+use Rattle.text.specs.Units.{unitsOf, loweredUnit, nameUnits}
+use Rattle.text.specs.UnitsLaws.{base-units, unitsOf-narrow}
 use Rattle.text.specs.IdLaws.{unitBytes-length, unitBytes-append, unitBytes-take, unitBytes-drop}
 
--- a test of each unit of a list, that it is below k, says so of each
-pub all-below : (test : List ℕ → Bool) (k : ℕ) → 0 < k → ((c : ℕ) (t : List ℕ) → test (c ∷ t) ≡ (ltb c k && test t)) → (us : List ℕ) (i : ℕ)
-    → test us ≡ true → getD us i 0 < k
-all-below test k z is [] i e = z
-all-below test k z is (u ∷ us) zero e = ltb-true u k (and-eq-true-iff (ltb u k) (test us) .0 (sym (is u us) ∙ e) .0)
-all-below test k z is (u ∷ us) (suc i) e = all-below test k z is us i (and-eq-true-iff (ltb u k) (test us) .0 (sym (is u us) ∙ e) .1)
-
--- a unit behind n units
-pub behind : (us vs : List ℕ) {n : ℕ} → length us ≡ n → (i : ℕ) → n ≤ i → getD (us ++ vs) i 0 ≡ getD vs (i - n) 0
-behind us vs {n} l i h = let e : i ≡ length us + (i - n) = omega arith in ap (λ (k : ℕ). getD (us ++ vs) k 0) e ∙ getD-append-add us vs (i - n) 0
-
-module _ (wide : Bool) (part suffix : List ℕ) (b : Bytes part) (w : isWell (decoded wide part) ≡ true) where
+module _ (wide : Bool) (part : List ℕ) (b : Bytes part) (w : isWell (decoded wide part) ≡ true) where
   -- lowering keeps the number of units
-  base-length : length (encode16 (lowered (base wide part))) ≡ length (unitsOf wide part)
-  base-length = rw (lowered-units, base-units wide part b w .0)
+  pub part-length : length (encode16 (lowered (base wide part))) ≡ length (unitsOf wide part)
+  part-length = rw (lowered-units, base-units wide part b w .0)
 
-  pub name-length : length (nameUnits (base wide part) suffix) ≡ length (unitsOf wide part) + length suffix
+  -- a unit of the part, lowered by itself and the unit before it; a trailing surrogate stands behind a leading one
+  pub place : (i : ℕ) → i < length (unitsOf wide part)
+      → (getD (encode16 (lowered (base wide part))) i 0 ≡ loweredUnit (getD (0 ∷ unitsOf wide part) i 0) (getD (unitsOf wide part) i 0))
+      × (Low (getD (unitsOf wide part) i 0) → High (getD (0 ∷ unitsOf wide part) i 0))
+  place i h = let u = base-units wide part b w in rw (← u .0) (lowered-unit 0 (base wide part) (u .1) i (rw (u .0) h))
+
+  pub name-length : (suffix : List ℕ) → length (nameUnits (base wide part) suffix) ≡ length (unitsOf wide part) + length suffix
   unfolding nameUnits
-  name-length = rw (length-append, base-length)
+  name-length suffix = rw (length-append, part-length)
 
-  -- a unit of the part, in the lowered text, and by itself and the unit before it
-  pub part-unit : (i : ℕ) → i < length (unitsOf wide part) → getD (nameUnits (base wide part) suffix) i 0 ≡ getD (encode16 (lowered (base wide part))) i 0
-  unfolding nameUnits
-  part-unit i h = List·getD-append (encode16 (lowered (base wide part))) suffix 0 i (rw base-length h)
+-- one-byte text: its bytes, lowered
+pub narrow-is : {wide : Bool} → wide ≡ false → (part : List ℕ) → Bytes part → encode16 (lowered (base wide part)) ≡ lowered part
+unfolding decoded
+narrow-is {wide} e part b = rw e (narrow-units part b)
 
-  pub part-lowered : (i : ℕ) → i < length (unitsOf wide part)
-      → getD (nameUnits (base wide part) suffix) i 0 ≡ loweredUnit (getD (0 ∷ unitsOf wide part) i 0) (getD (unitsOf wide part) i 0)
-  part-lowered i h =
-      let u = base-units wide part b w in
-      part-unit i h ∙ (rw (u .0) at (lowered-unit 0 (base wide part) (u .1) i (rw (u .0) h) .0))
+pub narrow-count : {wide : Bool} → wide ≡ false → (part : List ℕ) → length (unitsOf wide part) ≡ length part
+narrow-count {wide} e part = rw (e, unitsOf-narrow part)
 
-  -- a unit of the suffix
-  pub suffix-unit : (i : ℕ) → length (unitsOf wide part) ≤ i → getD (nameUnits (base wide part) suffix) i 0 ≡ getD suffix (i - length (unitsOf wide part)) 0
-  unfolding nameUnits
-  suffix-unit i h = behind (encode16 (lowered (base wide part))) suffix base-length i h
+-- the other of two numbers that it may be
+pub other : {r n m : ℕ} → (r ≡ n) ⊎ (r ≡ m) → r < n → r ≡ m
+other (inl e) h = absurd (omega arith)
+other (inr e) h = e
 
--- what lowering a unit of a window needs at hand
-pub table-unit : (us : List ℕ) (from n : ℕ) {table : List ℕ} → TableFor us from n table → (i : ℕ) → i < n → (table ≡ flat pairs) ⊎ (getD us (from + i) 0 < 0x180)
-table-unit us from n (inl e) i h = inl e
-table-unit us from n (inr e) i h =
-    inr (rw (getD-take n (drop from us) i 0 h, getD-drop from us i 0) at (all-below allLatin 0x180 (omega arith) (λ c t. refl) (take n (drop from us)) i e))
+-- ---- windows
+
+-- units of the first of two lists, which are units of both
+window-first : (us vs : List ℕ) (from n : ℕ) → n ≤ length us - from → take n (drop from us) ≡ take n (drop from (us ++ vs))
+window-first us vs from n h =
+    by-cases (decLt (length us) from)
+    (λ (l : length us < from). let e : n ≡ 0 = omega arith in rw e)
+    (λ (l : ¬ (length us < from)).
+    rw (drop-append-le from us vs (omega arith), take-append-le n (drop from us) vs (simp length-drop (omega arith))))
+
+-- all that the first has from a place on, and units of the second
+window-both : (us vs : List ℕ) (from n k : ℕ) → k ≡ length us - from → k ≤ n
+    → take k (drop from us) ++ take (n - k) (drop (from + k - length us) vs) ≡ take n (drop from (us ++ vs))
+window-both us vs from n k e h =
+    by-cases (decLt (length us) from)
+    (λ (l : length us < from).
+    let z : k ≡ 0 = omega arith in
+    let m : from + 0 - length us ≡ from - length us = omega arith in
+    let f : length us + (from - length us) ≡ from = omega arith in
+    let d : n - 0 ≡ n = omega arith in
+    rw (z, m, d) (ap (take n) (sym (drop-append-add us vs (from - length us)) ∙ ap (λ (j : ℕ). drop j (us ++ vs)) f)))
+    (λ (l : ¬ (length us < from)).
+    let z : from + k - length us ≡ 0 = omega arith in
+    let s : length (drop from us) ≡ k = simp length-drop (omega arith) in
+    let m : length (drop from us) + (n - k) ≡ n = omega arith in
+    rw (z, take-all k (drop from us) (omega arith), drop-append-le from us vs (omega arith))
+    (sym (take-append-add (drop from us) vs (n - k)) ∙ ap (λ (j : ℕ). take j (drop from us ++ vs)) m))
+
+-- the first k of n units, and the rest of them
+pub window-two : (us : List ℕ) (from n k : ℕ) → k ≤ n → take k (drop from us) ++ take (n - k) (drop (from + k) us) ≡ take n (drop from us)
+window-two us from n k h =
+    let e : k + (n - k) ≡ n = omega arith in
+    rw (← drop-drop k from us) (sym (take-add k (n - k) (drop from us)) ∙ ap (λ (j : ℕ). take j (drop from us)) e)
+
+-- the same of a name's units
+pub name-first : (base suffix : List ℕ) (from n : ℕ) → n ≤ length (encode16 (lowered base)) - from
+    → take n (drop from (encode16 (lowered base))) ≡ take n (drop from (nameUnits base suffix))
+unfolding nameUnits
+name-first base suffix from n h = window-first (encode16 (lowered base)) suffix from n h
+
+pub name-both : (base suffix : List ℕ) (from n k count : ℕ) → count ≡ length (encode16 (lowered base)) → k ≡ count - from → k ≤ n
+    → take k (drop from (encode16 (lowered base))) ++ take (n - k) (drop (from + k - count) suffix) ≡ take n (drop from (nameUnits base suffix))
+unfolding nameUnits
+name-both base suffix from n k count c e h = rw c (window-both (encode16 (lowered base)) suffix from n k (rw c at e) h)
 
 -- ---- writing
 
@@ -80,6 +111,20 @@ wrote-unit {s} {o} {at} us from i {u} e w h l =
     (wrote-as (wrote-byte (wrote-byte w (omega arith) (u % 256)) (omega arith) (u / 256))
     (rw (add-one, take-suc (drop from us) i 0 k, unitBytes-append, append-assoc, ← is)))
     (omega arith)
+
+-- the same, where it is a byte
+pub wrote-narrow : {s o : List ℕ} {at : ℕ} (us : List ℕ) (from i : ℕ) {u : ℕ} → u ≡ getD us (from + i) 0 → u < 256 → Wrote s
+    (unitBytes (take i (drop from us))) o at
+    → from + i < length us → at + 2 ≤ length s → Wrote s (unitBytes (take (i + 1) (drop from us))) (set (set o at u) (at + 1) 0) (at + 2)
+wrote-narrow {s} {o} {at} us from i {u} e k w h l =
+    let a : u % 256 ≡ u = omega arith in
+    let b : u / 256 ≡ 0 = omega arith in
+    rw (a, b) at (wrote-unit us from i e w h l)
+
+-- two pieces, one behind the other
+pub wrote-two : {s o p : List ℕ} {r m : ℕ} (us vs ws : List ℕ) → Wrote s (unitBytes us) o r → Wrote (take (length o - r) (drop r o)) (unitBytes vs) p m
+    → us ++ vs ≡ ws → Wrote s (unitBytes ws) (take r o ++ (p ++ drop (length o - r) (drop r o))) (r + m)
+wrote-two us vs ws w v e = wrote-as (wrote-rest w v) (sym (unitBytes-append us vs) ∙ ap unitBytes e)
 
 -- how many bytes n units take
 pub units-size : (us : List ℕ) (from n : ℕ) → from + n ≤ length us → length (unitBytes (take n (drop from us))) ≡ 2 * n

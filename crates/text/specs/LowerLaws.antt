@@ -10,6 +10,7 @@ use lib.ListN.{length, getD}
 use borrow.Author.Tests.{lt-ltb, le-ltb}
 use Rattle.lower.specs.Lower.{lower, lowered}
 use Rattle.lower.specs.LowerLaws.{Alike, lower-alike, lower-single, lower-double}
+use Rattle.base.specs.NumberLaws.{Bytes}
 use Rattle.text.specs.Utf16.{Scalar, Scalars, isHigh, isLow, ofPair, encodeOne, encode16}
 use Rattle.text.specs.Utf16Cases.{High, Low, Single, high, low, low-high, single-high, single-low}
 use Rattle.text.specs.Units.{loweredUnit}
@@ -39,6 +40,22 @@ lowered-append (c ∷ t) u = ap (λ (s : List ℕ). lower c ∷ s) (lowered-appe
 one-unit : (c : ℕ) (t : List ℕ) → c < 0x10000 → encode16 (c ∷ t) ≡ c ∷ encode16 t
 unfolding encodeOne encode16
 one-unit c t h = rw (lt-ltb c 0x10000 h)
+
+-- one-byte text has one unit for each byte, lowered too
+pub narrow-units : (t : List ℕ) → Bytes t → encode16 (lowered t) ≡ lowered t
+unfolding encode16
+narrow-units [] b = refl
+narrow-units (c ∷ t) b =
+    one-unit (lower c) (lowered t) (lower-single c (omega (arith, b 0))) ∙ ap (λ (s : List ℕ). lower c ∷ s) (narrow-units t (λ i. b (suc i)))
+
+pub lowered-length : (t : List ℕ) → length (lowered t) ≡ length t
+lowered-length [] = refl
+lowered-length (c ∷ t) = ap suc (lowered-length t)
+
+pub lowered-at : (t : List ℕ) (i : ℕ) → i < length t → getD (lowered t) i 0 ≡ lower (getD t i 0)
+lowered-at [] i h = absurd (omega arith)
+lowered-at (c ∷ t) zero h = refl
+lowered-at (c ∷ t) (suc i) h = lowered-at t i (omega arith)
 
 -- a scalar value of two
 leading : ℕ → ℕ

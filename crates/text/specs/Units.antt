@@ -1,16 +1,11 @@
 -- A part of a block as units: the bytes of one-byte text, the 16-bit units of wide text. What the code reads. Assumes nothing.
 use mathlib.Core.Bool.{Bool, true, false, cond, _&&_}
-use mathlib.Core.Path.{_≡_}
-use mathlib.Core.Logic.{_⊎_}
-use mathlib.Core.List.{List, [], _∷_, _++_, map}
+use mathlib.Core.List.{List, [], _∷_, _++_}
 use Prim.Native.Nat.{ℕ, _+_, _-_, _%_}
-use lib.Dec.{ltb}
-use lib.ListN.{take, drop}
 use Rattle.base.specs.Choose.{choose}
 use Rattle.text.specs.Utf16.{isHigh, isLow, ofPair, units, encode16}
-use Rattle.lower.specs.Ascii.{lowerAscii}
-use Rattle.lower.specs.Lower.{lower, lowered, flat}
-use Rattle.lower.specs.Table.{pairs}
+use Rattle.lower.specs.Lower.{lower, lowered}
+use Rattle.lower.specs.Caseless.{caseless}
 use Rattle.text.specs.declared.utf16.Scalar.{Scalar}
 use Rattle.text.specs.declared.utf16.Scalar.the-variants.{One, Two, Ill}
 
@@ -31,18 +26,10 @@ scalarOf (u ∷ v ∷ us) =
 unfoldable pub loweredUnit : ℕ → ℕ → ℕ
 loweredUnit before u = cond (isHigh u) u (cond (isLow u) (0xDC00 + (lower (ofPair before u) - 0x10000) % 0x400) (lower u))
 
--- whether all units are below U+0180, where characters are lowered with no table
-abbrev pub allLatin : List ℕ → Bool
-allLatin [] = true
-allLatin (u ∷ us) = ltb u 0x180 && allLatin us
-
--- what lowering n units from a place on needs at hand: the table, or nothing where all are Latin
-abbrev pub TableFor : List ℕ → ℕ → ℕ → List ℕ → Type 0
-TableFor us from n table = (table ≡ flat pairs) ⊎ (allLatin (take n (drop from us)) ≡ true)
-
--- the units of a name with A to Z lowered unit by unit: those of the lowered name, where its text is ASCII
-unfoldable pub asciiUnits : List ℕ → List ℕ → List ℕ
-asciiUnits us suffix = map lowerAscii us ++ suffix
+-- whether A to Z alone are to be lowered in some units
+abbrev pub allCaseless : List ℕ → Bool
+allCaseless [] = true
+allCaseless (u ∷ us) = caseless u && allCaseless us
 
 -- the units of a lowered name: those of its base, lowered as scalar values, and its suffix, which has no letter
 unfoldable pub nameUnits : List ℕ → List ℕ → List ℕ

@@ -2,25 +2,26 @@
 // from the block and the suffix as the hash asks for them, 64 bytes at a time.
 ghost use mathlib.Core.Path.{_≡_};
 ghost use mathlib.Core.Bool.{true};
-ghost use Prim.Native.Nat.{_+_, _*_, _^_, _≤_, _<_};
-ghost use lib.ListN.{length, getD, take, drop};
+ghost use mathlib.Core.List.{map};
 ghost use mathlib.Core.Logic.{_⊎_};
+ghost use Prim.Native.Nat.{_+_, _-_, _*_, _^_, _≤_, _<_};
+ghost use lib.ListN.{length, getD, take, drop};
+ghost use Rattle.lower.specs.Ascii.{lowerAscii};
 ghost use Rattle.lower.specs.Table.{pairs};
-ghost use Rattle.lower.specs.Lower.{flat};
-ghost use Rattle.text.specs.Affix.{allAscii};
+ghost use Rattle.lower.specs.Lower.{lowered, flat};
+ghost use Rattle.lower.specs.Quick.{asks};
 ghost use Rattle.base.specs.Number.{leAt};
 ghost use Rattle.base.specs.Output.{Wrote};
-ghost use Rattle.text.specs.Utf16.{isWell, unitBytes};
+ghost use Rattle.text.specs.Utf16.{isWell, encode16, unitBytes};
 ghost use Rattle.text.specs.Name.{decoded, base, rendered};
 ghost use Rattle.city.specs.City.{cityHash64};
-ghost use Rattle.text.specs.Units.{unitsOf, nameUnits, asciiUnits, TableFor};
+ghost use Rattle.text.specs.Units.{unitsOf, nameUnits, allCaseless};
 ghost use Rattle.text.specs.Id.{idOf};
-use super::lowered::is_latin;
 use super::lowered::lowered_unit;
+use super::lowered::quick_unit;
 use super::name::put_suffix;
 use super::units::unit_at;
 use super::units::unit_count;
-use base::number;
 use base::number::le64;
 use city::city::first_state;
 use city::city::hash_len0to32;
@@ -28,102 +29,173 @@ use city::city::hash_len33up;
 use city::city::last_mix;
 use city::city::one_turn;
 use lower::ascii::lower_ascii;
+use lower::caseless::is_caseless;
+use lower::latin::lower_byte;
 use lower::table::table;
 
-// Unit i of a name with A to Z lowered.
-fn ascii_unit(part: &[u8], wide: bool, suffix: &[u8], i: usize) -> u32
-    requires { ⌜ i < length (asciiUnits (unitsOf wide (now part)) (now suffix)) ⌝ }
-    ensures { λ r. ⌜ (r ≡ getD (asciiUnits (unitsOf wide (now (part .entry))) (now (suffix .entry))) i 0) × (r < 65536) ⌝ }
+// The units of the n bytes of one-byte text from a place on, lowered, in UTF-16LE.
+fn put_narrow(out: &mut [u8], part: &[u8], from: usize, n: usize)
+    requires { ⌜ (n ≤ length (now part) - from) × (2 * n ≤ length (now out)) ⌝ }
+    ensures { λ _. ⌜ Wrote (now (out .entry)) (unitBytes (take n (drop from (lowered (now (part .entry)))))) (now (out .exit)) (2 * n) ⌝ }
 {
-    let n = unit_count(part, wide);
-    if i < n {
-        return lower_ascii(unit_at(part, wide, i));
+    let mut at: usize = 0;
+    let mut i: usize = 0;
+    while i < n {
+        out[at] = lower_byte(part[from + i]);
+        out[at + 1] = 0;
+        at += 2;
+        i += 1;
     }
-    number::wide(suffix[i - n])
 }
 
-// The n units of a name with A to Z lowered, from a place on, in UTF-16LE, and whether they are all ASCII. The loop runs to the end
+// The units of the n bytes of a suffix from a place on.
+fn put_rest(out: &mut [u8], suffix: &[u8], from: usize, n: usize)
+    requires { ⌜ (from + n ≤ length (now suffix)) × (2 * n ≤ length (now out)) ⌝ }
+    ensures { λ _. ⌜ Wrote (now (out .entry)) (unitBytes (take n (drop from (now (suffix .entry))))) (now (out .exit)) (2 * n) ⌝ }
+{
+    let mut at: usize = 0;
+    let mut i: usize = 0;
+    while i < n {
+        out[at] = suffix[from + i];
+        out[at + 1] = 0;
+        at += 2;
+        i += 1;
+    }
+}
+
+// The n units of wide text from a place on with A to Z lowered, and whether that is all there was to lower. The loop runs to the end
 // whatever it meets, so that the compiler can take many units a turn.
-fn put_ascii(out: &mut [u8], part: &[u8], wide: bool, suffix: &[u8], from: usize, n: usize) -> bool
-    requires { ⌜ (from + n ≤ length (asciiUnits (unitsOf wide (now part)) (now suffix))) × (from + n < 2 ^ 64) × (2 * n ≤ length (now out)) ⌝ }
-    ensures { λ r. ⌜ (r ≡ allAscii (take n (drop from (asciiUnits (unitsOf wide (now (part .entry))) (now (suffix .entry))))))
-        × Wrote (now (out .entry)) (unitBytes (take n (drop from (asciiUnits (unitsOf wide (now (part .entry))) (now (suffix .entry))))))
+fn put_caseless(out: &mut [u8], part: &[u8], from: usize, n: usize) -> bool
+    requires { ⌜ (n ≤ length (unitsOf true (now part)) - from) × (from + n < 2 ^ 64) × (2 * n ≤ length (now out)) ⌝ }
+    ensures { λ r. ⌜ (r ≡ allCaseless (take n (drop from (unitsOf true (now (part .entry))))))
+        × Wrote (now (out .entry)) (unitBytes (take n (drop from (map lowerAscii (unitsOf true (now (part .entry))))))) (now (out .exit)) (2 * n) ⌝ }
+{
+    let mut all = true;
+    let mut at: usize = 0;
+    let mut i: usize = 0;
+    while i < n {
+        let u = unit_at(part, true, from + i);
+        let v = lower_ascii(u);
+        out[at] = (v % 256) as u8;
+        out[at + 1] = (v / 256) as u8;
+        all = all & is_caseless(u);
+        at += 2;
+        i += 1;
+    }
+    all
+}
+
+// The n units of lowered wide text from a place on by the rules, up to the first for which the table is to be asked, and how many they are.
+fn put_ruled(out: &mut [u8], part: &[u8], from: usize, n: usize) -> usize
+    requires { ⌜ (isWell (decoded true (now part)) ≡ true) × (n ≤ length (unitsOf true (now part)) - from) × (2 * n ≤ length (now out)) ⌝ }
+    ensures { λ r. ⌜ (r ≤ n) × Wrote (now (out .entry)) (unitBytes (take r (drop from (encode16 (lowered (base true (now (part .entry))))))))
+        (now (out .exit)) (2 * r)
+        × ((r ≡ n) ⊎ (asks (getD (unitsOf true (now (part .entry))) (from + r) 0) ≡ true)) ⌝ }
+{
+    let mut at: usize = 0;
+    let mut i: usize = 0;
+    while i < n {
+        let u = quick_unit(part, true, from + i);
+        if 0xFFFF < u {
+            return i;
+        }
+        out[at] = (u % 256) as u8;
+        out[at + 1] = (u / 256) as u8;
+        at += 2;
+        i += 1;
+    }
+    n
+}
+
+// The same by the table, all n of them.
+fn put_lowered(out: &mut [u8], part: &[u8], table: &[u32], from: usize, n: usize)
+    requires { ⌜ (isWell (decoded true (now part)) ≡ true) × (n ≤ length (unitsOf true (now part)) - from) × (2 * n ≤ length (now out))
+        × (now table ≡ flat pairs) ⌝ }
+    ensures { λ _. ⌜ Wrote (now (out .entry)) (unitBytes (take n (drop from (encode16 (lowered (base true (now (part .entry))))))))
         (now (out .exit)) (2 * n) ⌝ }
 {
-    let mut all: u16 = 0;
     let mut at: usize = 0;
     let mut i: usize = 0;
     while i < n {
-        let u = ascii_unit(part, wide, suffix, from + i);
-        out[at] = (u % 256) as u8;
-        out[at + 1] = (u / 256) as u8;
-        all = all | (u as u16);
-        at += 2;
-        i += 1;
-    }
-    all < 128
-}
-
-// Unit i of a lowered name.
-fn name_unit(part: &[u8], wide: bool, suffix: &[u8], table: &[u32], i: usize) -> u32
-    requires { ⌜ (isWell (decoded wide (now part)) ≡ true) × (i < length (nameUnits (base wide (now part)) (now suffix)))
-        × ((now table ≡ flat pairs) ⊎ (getD (unitsOf wide (now part)) i 0 < 0x180)) ⌝ }
-    ensures { λ r. ⌜ (r ≡ getD (nameUnits (base wide (now (part .entry))) (now (suffix .entry))) i 0) × (r < 65536) ⌝ }
-{
-    let n = unit_count(part, wide);
-    if i < n {
-        return lowered_unit(part, wide, table, i);
-    }
-    number::wide(suffix[i - n])
-}
-
-// The n units of a lowered name from a place on, in UTF-16LE, with what their lowering needs at hand.
-fn put_lowered(
-    out: &mut [u8],
-    part: &[u8],
-    wide: bool,
-    suffix: &[u8],
-    table: &[u32],
-    from: usize,
-    n: usize,
-) -> usize
-    requires { ⌜ (isWell (decoded wide (now part)) ≡ true) × (from + n ≤ length (nameUnits (base wide (now part)) (now suffix)))
-        × (2 * n ≤ length (now out)) × TableFor (unitsOf wide (now part)) from n (now table) ⌝ }
-    ensures { λ r. ⌜ Wrote (now (out .entry)) (unitBytes (take n (drop from (nameUnits (base wide (now (part .entry))) (now (suffix .entry))))))
-        (now (out .exit)) r ⌝ }
-{
-    let mut at: usize = 0;
-    let mut i: usize = 0;
-    while i < n {
-        let u = name_unit(part, wide, suffix, table, from + i);
+        let u = lowered_unit(part, true, table, from + i);
         out[at] = (u % 256) as u8;
         out[at + 1] = (u / 256) as u8;
         at += 2;
         i += 1;
     }
-    at
 }
 
-// The same, by the table.
-fn put_tabled(
-    out: &mut [u8],
-    part: &[u8],
-    wide: bool,
-    suffix: &[u8],
-    from: usize,
-    n: usize,
-) -> usize
-    requires { ⌜ (isWell (decoded wide (now part)) ≡ true) × (from + n ≤ length (nameUnits (base wide (now part)) (now suffix)))
-        × (2 * n ≤ length (now out)) ⌝ }
-    ensures { λ r. ⌜ Wrote (now (out .entry)) (unitBytes (take n (drop from (nameUnits (base wide (now (part .entry))) (now (suffix .entry))))))
-        (now (out .exit)) r ⌝ }
+// The same, with the table bound here.
+fn put_tabled(out: &mut [u8], part: &[u8], from: usize, n: usize)
+    requires { ⌜ (isWell (decoded true (now part)) ≡ true) × (n ≤ length (unitsOf true (now part)) - from) × (2 * n ≤ length (now out)) ⌝ }
+    ensures { λ _. ⌜ Wrote (now (out .entry)) (unitBytes (take n (drop from (encode16 (lowered (base true (now (part .entry))))))))
+        (now (out .exit)) (2 * n) ⌝ }
 {
     let pairs = table();
-    put_lowered(out, part, wide, suffix, &pairs, from, n)
+    put_lowered(out, part, &pairs, from, n);
 }
 
-// The same, where some unit is not ASCII. The table is bound only where a unit asks for it.
-fn put_beyond(
+// The n units of lowered wide text from a place on: with A to Z lowered where that is enough, else by the rules, and from the first unit
+// on for which the table is to be asked, by the table.
+fn put_wide(out: &mut [u8], part: &[u8], from: usize, n: usize)
+    requires { ⌜ (isWell (decoded true (now part)) ≡ true) × (n ≤ length (unitsOf true (now part)) - from) × (from + n < 2 ^ 64)
+        × (2 * n ≤ length (now out)) ⌝ }
+    ensures { λ _. ⌜ Wrote (now (out .entry)) (unitBytes (take n (drop from (encode16 (lowered (base true (now (part .entry))))))))
+        (now (out .exit)) (2 * n) ⌝ }
+{
+    if put_caseless(out, part, from, n) {
+        return;
+    }
+    let k = put_ruled(out, part, from, n);
+    if k < n {
+        put_tabled(&mut out[2 * k..], part, from + k, n - k);
+    }
+}
+
+// How many of n units from a place on are among the first `count`.
+fn part_units(count: usize, from: usize, n: usize) -> usize
+    ensures { λ r. ⌜ (r ≤ n) × (r ≤ count - from) × ((r ≡ n) ⊎ (r ≡ count - from)) ⌝ }
+{
+    if count <= from {
+        return 0;
+    }
+    if n < count - from {
+        return n;
+    }
+    count - from
+}
+
+// The n units of the lowered base of a name from a place on.
+fn put_part(out: &mut [u8], part: &[u8], wide: bool, from: usize, n: usize)
+    requires { ⌜ (isWell (decoded wide (now part)) ≡ true) × (n ≤ length (unitsOf wide (now part)) - from) × (from + n < 2 ^ 64)
+        × (2 * n ≤ length (now out)) ⌝ }
+    ensures { λ _. ⌜ Wrote (now (out .entry)) (unitBytes (take n (drop from (encode16 (lowered (base wide (now (part .entry))))))))
+        (now (out .exit)) (2 * n) ⌝ }
+{
+    if wide {
+        put_wide(out, part, from, n);
+        return;
+    }
+    put_narrow(out, part, from, n);
+}
+
+// The n units of a lowered name from a place on, in UTF-16LE, of its base and of its suffix.
+fn put_mixed(out: &mut [u8], part: &[u8], wide: bool, suffix: &[u8], from: usize, n: usize)
+    requires { ⌜ (isWell (decoded wide (now part)) ≡ true) × (from + n ≤ length (nameUnits (base wide (now part)) (now suffix)))
+        × (from + n < 2 ^ 64) × (2 * n ≤ length (now out)) ⌝ }
+    ensures { λ _. ⌜ Wrote (now (out .entry)) (unitBytes (take n (drop from (nameUnits (base wide (now (part .entry))) (now (suffix .entry))))))
+        (now (out .exit)) (2 * n) ⌝ }
+{
+    let count = unit_count(part, wide);
+    let k = part_units(count, from, n);
+    put_part(out, part, wide, from, k);
+    if k < n {
+        put_rest(&mut out[2 * k..], suffix, from + k - count, n - k);
+    }
+}
+
+// The n units of a lowered name from a place on, in UTF-16LE. Those of one-byte text are written at once.
+pub fn put_units(
     out: &mut [u8],
     part: &[u8],
     wide: bool,
@@ -136,37 +208,30 @@ fn put_beyond(
     ensures { λ r. ⌜ Wrote (now (out .entry)) (unitBytes (take n (drop from (nameUnits (base wide (now (part .entry))) (now (suffix .entry))))))
         (now (out .exit)) r ⌝ }
 {
-    if is_latin(part, wide, from, n) {
-        let none = [0u32; 1];
-        return put_lowered(out, part, wide, suffix, &none, from, n);
+    if !wide {
+        if from + n <= part.len() {
+            put_narrow(out, part, from, n);
+            return 2 * n;
+        }
     }
-    put_tabled(out, part, wide, suffix, from, n)
+    put_mixed(out, part, wide, suffix, from, n);
+    2 * n
 }
 
-// The n units of a lowered name from a place on, in UTF-16LE.
-fn put_units(out: &mut [u8], part: &[u8], wide: bool, suffix: &[u8], from: usize, n: usize) -> usize
-    requires { ⌜ (isWell (decoded wide (now part)) ≡ true) × (from + n ≤ length (nameUnits (base wide (now part)) (now suffix)))
-        × (2 * n ≤ length (now out)) ⌝ }
-    ensures { λ r. ⌜ Wrote (now (out .entry)) (unitBytes (take n (drop from (nameUnits (base wide (now (part .entry))) (now (suffix .entry))))))
-        (now (out .exit)) r ⌝ }
-{
-    if put_ascii(out, part, wide, suffix, from, n) {
-        return 2 * n;
-    }
-    put_beyond(out, part, wide, suffix, from, n)
-}
-
-// The 64 bytes of the 32 units of a lowered name from a place on. `put_units` is written out here: with one caller `put_beyond` and its
-// large frame would become part of that caller, and ASCII names would pay for it.
+// The 64 bytes of the 32 units of a lowered name from a place on. `put_units` is written out here: the compiler keeps `put_mixed` apart, as
+// one-byte text wants it, because it has two callers.
 fn chunk_at(part: &[u8], wide: bool, suffix: &[u8], from: usize) -> [u8; 64]
     requires { ⌜ (isWell (decoded wide (now part)) ≡ true) × (from + 32 ≤ length (nameUnits (base wide (now part)) (now suffix))) ⌝ }
     ensures { λ r. ⌜ r ≡ unitBytes (take 32 (drop from (nameUnits (base wide (now (part .entry))) (now (suffix .entry))))) ⌝ }
 {
     let mut chunk = [0u8; 64];
-    if put_ascii(&mut chunk, part, wide, suffix, from, 32) {
-        return chunk;
+    if !wide {
+        if from + 32 <= part.len() {
+            put_narrow(&mut chunk, part, from, 32);
+            return chunk;
+        }
     }
-    put_beyond(&mut chunk, part, wide, suffix, from, 32);
+    put_mixed(&mut chunk, part, wide, suffix, from, 32);
     chunk
 }
 

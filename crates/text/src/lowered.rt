@@ -1,39 +1,20 @@
 // A part of a block as the units of its lowered text.
 ghost use mathlib.Core.Path.{_≡_};
-ghost use mathlib.Core.Bool.{true};
+ghost use mathlib.Core.Bool.{true, cond};
 ghost use mathlib.Core.List.{_∷_};
-ghost use mathlib.Core.Logic.{_⊎_};
-ghost use Prim.Native.Nat.{_+_, _^_, _<_};
-ghost use lib.ListN.{length, getD, take, drop};
+ghost use Prim.Native.Nat.{_<_};
+ghost use lib.ListN.{length, getD};
 ghost use Rattle.lower.specs.Table.{pairs};
 ghost use Rattle.lower.specs.Lower.{lowered, flat};
+ghost use Rattle.lower.specs.Quick.{asks};
 ghost use Rattle.text.specs.Utf16.{isWell, encode16};
 ghost use Rattle.text.specs.Utf16Cases.{High, Low};
 ghost use Rattle.text.specs.Name.{decoded, base};
-ghost use Rattle.text.specs.Units.{unitsOf, loweredUnit, allLatin};
+ghost use Rattle.text.specs.Units.{unitsOf, loweredUnit};
 use super::units::unit_at;
-use super::units::unit_count;
-use lower::latin::lower_latin;
+use lower::rules::lower_pair;
+use lower::rules::lower_quick;
 use lower::search::lower_in;
-
-// Whether the n units of a part from a place on, as many as it has, are all Latin.
-pub fn is_latin(part: &[u8], wide: bool, from: usize, n: usize) -> bool
-    requires { ⌜ from + n < 2 ^ 64 ⌝ }
-    ensures { λ r. ⌜ r ≡ allLatin (take n (drop from (unitsOf wide (now (part .entry))))) ⌝ }
-{
-    let count = unit_count(part, wide);
-    let mut i: usize = 0;
-    while i < n {
-        if count <= from + i {
-            return true;
-        }
-        if 0x180 <= unit_at(part, wide, from + i) {
-            return false;
-        }
-        i += 1;
-    }
-    true
-}
 
 // A unit lowered by the table, when the one before it is known.
 fn lower_by(table: &[u32], before: u32, u: u32) -> u32
@@ -64,14 +45,39 @@ fn unit_before(part: &[u8], wide: bool, i: usize) -> u32
     unit_at(part, wide, i - 1)
 }
 
-// Unit i of a lowered part.
+// Unit i of a lowered part, by the table.
 pub fn lowered_unit(part: &[u8], wide: bool, table: &[u32], i: usize) -> u32
-    requires { ⌜ (isWell (decoded wide (now part)) ≡ true) × (i < length (unitsOf wide (now part))) × ((now table ≡ flat pairs) ⊎ (getD (unitsOf wide (now part)) i 0 < 0x180)) ⌝ }
+    requires { ⌜ (isWell (decoded wide (now part)) ≡ true) × (i < length (unitsOf wide (now part))) × (now table ≡ flat pairs) ⌝ }
     ensures { λ r. ⌜ (r ≡ getD (encode16 (lowered (base wide (now (part .entry))))) i 0) × (r < 65536) ⌝ }
 {
     let u = unit_at(part, wide, i);
-    if u < 0x180 {
-        return lower_latin(u);
-    }
     lower_by(table, unit_before(part, wide, i), u)
+}
+
+// A trailing surrogate lowered by the rules, with the leading one before it.
+fn lower_trailing(before: u32, u: u32) -> u32
+    requires { ⌜ Low u × High before ⌝ }
+    ensures { λ r. ⌜ r ≡ loweredUnit before u ⌝ }
+{
+    let c = 0x1_0000 + (before - 0xD800) * 0x400 + (u - 0xDC00);
+    0xDC00 + (lower_pair(c) - 0x1_0000) % 0x400
+}
+
+// Unit i of a lowered part, by the rules; where the table is to be asked, a number that no unit has.
+pub fn quick_unit(part: &[u8], wide: bool, i: usize) -> u32
+    requires { ⌜ (isWell (decoded wide (now part)) ≡ true) × (i < length (unitsOf wide (now part))) ⌝ }
+    ensures { λ r. ⌜ r ≡ cond (asks (getD (unitsOf wide (now (part .entry))) i 0)) 0x110000
+        (getD (encode16 (lowered (base wide (now (part .entry))))) i 0) ⌝ }
+{
+    let u = unit_at(part, wide, i);
+    if u < 0xD800 {
+        return lower_quick(u);
+    }
+    if u < 0xDC00 {
+        return u;
+    }
+    if u < 0xE000 {
+        return lower_trailing(unit_before(part, wide, i), u);
+    }
+    lower_quick(u)
 }

@@ -1,43 +1,38 @@
 -- `id::put_lowered`: after i turns the buffer's front has the bytes of the first i units, 2 * i of them. Assumes nothing.
-use mathlib.Core.Path.{_≡_}
+use mathlib.Core.Path.{_≡_, refl, sym, _∙_, ap}
+use mathlib.Core.Bool.{true}
 use mathlib.Core.List.{List}
-use Prim.Native.Nat.{ℕ, _*_, _-_, _≤_}
+use Prim.Native.Nat.{ℕ, _+_, _*_, _-_, _≤_, _<_}
 use native.Mathlib.Omega.{arith}
 use borrow.Author.Needs.{needs}
 use lib.ListN.{length, take, drop, length-set}
-use Rattle.base.specs.NumberLaws.{Bytes}
 use Rattle.base.specs.Output.{Wrote}
-use Rattle.base.specs.OutputLaws.{wrote-none}
-use Rattle.text.specs.Utf16.{unitBytes}
+use Rattle.base.specs.OutputLaws.{wrote-none, wrote-count}
+use Rattle.text.specs.Utf16.{encode16, unitBytes}
+use Rattle.lower.specs.Lower.{lowered}
+use Rattle.base.specs.NumberLaws.{Bytes}
 use Rattle.text.specs.Name.{base}
-use Rattle.text.specs.Units.{unitsOf, nameUnits}
+use Rattle.text.specs.Units.{unitsOf}
 use Rattle.text.specs.UnitsLaws.{unitsOf-bound}
-use Rattle.text.proofs.NameUnits.{name-length, table-unit, wrote-unit}
+use Rattle.text.proofs.NameUnits.{part-length, wrote-unit}
 use Rattle.text.proofs.id.put_lowered.Statement.{statement}
 use Rattle.text.proofs.id.put_lowered.Tie as tie
 
 abbrev Inv-loop : tie.InvT-loop
-Inv-loop out₀ part wide suffix table from n at₀ i₀ out at i =
-    (i ≤ n) × (at ≡ 2 * i) × Wrote out₀ (unitBytes (take i (drop from (nameUnits (base wide part) suffix)))) out at × (length out ≡ length out₀)
+Inv-loop out₀ part table from n at₀ i₀ out at i =
+    (i ≤ n) × (at ≡ 2 * i) × Wrote out₀ (unitBytes (take i (drop from (encode16 (lowered (base true part)))))) out at × (length out ≡ length out₀)
 
 abbrev μ-loop : tie.MeasureT-loop
-μ-loop out₀ part wide suffix table from n at₀ i₀ out at i = n - i
+μ-loop out₀ part table from n at₀ i₀ out at i = n - i
 
 loop-holds : tie.Need-loop-holds Inv-loop μ-loop
 loop-holds c = (search needs, search needs, wrote-none _, search needs)
 
-add-name-unit : tie.Need-add-name-unit Inv-loop μ-loop
-add-name-unit c =
-    let k = c .before .before .before .before in
-    let a = k .before .before .args in
-    let b : Bytes (a .part .now) = λ j. k .shared-slice-known .given j .fits in
-    omega (arith, name-length (a .wide) (a .part .now) (a .suffix .now) b (k .before .before .pre .0), unitsOf-bound (a .wide) (a .part .now))
+add-lowered-unit : tie.Need-add-lowered-unit Inv-loop μ-loop
+add-lowered-unit c = omega (arith, unitsOf-bound true (c .before .before .before .before .before .args .part .now))
 
-name-unit-requires : tie.Need-name-unit-requires Inv-loop μ-loop
-name-unit-requires c κs =
-    let a = c .before .before .before .before .before .before .args in
-    let p = c .before .before .before .before .before .before .pre in
-    (search needs, omega arith, table-unit (unitsOf (a .wide) (a .part .now)) (a .from) (a .n) (p .3) (c .before .loop .i) (search needs))
+lowered-unit-requires : tie.Need-lowered-unit-requires Inv-loop μ-loop
+lowered-unit-requires c κs = (search needs, omega arith, search needs)
 
 cast-out : tie.Need-cast-out Inv-loop μ-loop
 cast-out c = omega arith
@@ -65,12 +60,15 @@ loop-less c = omega arith
 
 loop-again : tie.Need-loop-again Inv-loop μ-loop
 loop-again c =
-    let a = c .before .before .before .before .before .before .before .args in
-    let us : List ℕ = nameUnits (base (a .wide) (a .part .now)) (a .suffix .now) in
+    let k = c .before .before .before .before in
+    let s = k .before .before in
+    let a = s .args in
+    let b : Bytes (a .part .now) = λ j. k .shared-slice-known .given j .fits in
     let l = c .before .before .loop in (
       omega arith,
       omega arith,
-      wrote-unit us (a .from) (l .i) (c .name-unit .ensures .0) (l .inv .2) (omega arith) (omega arith),
+      wrote-unit (encode16 (lowered (base true (a .part .now)))) (a .from) (l .i) (c .lowered-unit .ensures .0) (l .inv .2)
+          (omega (arith, part-length true (a .part .now) b (s .pre .0))) (omega arith),
       simp length-set (omega arith),
     )
 
@@ -79,8 +77,9 @@ same-length c = omega arith
 
 returns : tie.Need-returns Inv-loop μ-loop
 returns c =
-    let e : c .before .before .before .before .before .before .args .n ≡ c .before .loop .i = omega arith in
-    rw e (c .before .loop .inv .2)
+    let l = c .before .loop in
+    let e : c .before .before .before .before .before .args .n ≡ l .i = omega arith in
+    rw e (wrote-count (l .inv .2) (omega arith))
 
 pub put-lowered-spec : {M : Type 1} → statement M
 put-lowered-spec =
@@ -89,8 +88,8 @@ put-lowered-spec =
     Inv-loop
     μ-loop
     loop-holds
-    add-name-unit
-    name-unit-requires
+    add-lowered-unit
+    lowered-unit-requires
     cast-out
     slice-write-out
     cast-out-2

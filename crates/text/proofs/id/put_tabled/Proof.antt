@@ -1,5 +1,4 @@
 -- `id::put_tabled`: the table is at hand. Assumes nothing.
-use mathlib.Core.Logic.{inl}
 use borrow.Author.Needs.{needs}
 use Rattle.text.proofs.id.put_tabled.Statement.{statement}
 use Rattle.text.proofs.id.put_tabled.Tie as tie
@@ -11,7 +10,7 @@ slice-aggregate-put-lowered : tie.Need-slice-aggregate-put-lowered
 slice-aggregate-put-lowered c = search needs
 
 put-lowered-requires : tie.Need-put-lowered-requires
-put-lowered-requires c κs = (search needs, search needs, search needs, inl (search needs))
+put-lowered-requires c κs = (search needs, search needs, search needs, search needs)
 
 same-length : tie.Need-same-length
 same-length c = search needs
@@ -22,4 +21,9 @@ returns c = search needs
 pub put-tabled-spec : {M : Type 1} → statement M
 put-tabled-spec =
     tie.close
-    (tie.spec table-requires slice-aggregate-put-lowered put-lowered-requires same-length returns)
+    (tie.spec
+    table-requires
+    slice-aggregate-put-lowered
+    put-lowered-requires
+    same-length
+    returns)

@@ -22,8 +22,8 @@ module _ (k : tie.After-shared-slice-known) where
 
   count : length units ≡ length (unitsOf (k .before .args .wide) (k .before .args .part .now)) + length (k .before .args .suffix .now)
   count =
-      name-length (k .before .args .wide) (k .before .args .part .now) (k .before .args .suffix .now)
-      (λ j. k .shared-slice-known .given j .fits) (k .before .pre .0)
+      name-length (k .before .args .wide) (k .before .args .part .now)
+      (λ j. k .shared-slice-known .given j .fits) (k .before .pre .0) (k .before .args .suffix .now)
 
 -- the bytes of all of them are in front of the chunk
 written : (c : tie.After-put-units) → take (c .put-units .result) (c .put-units .last .0) ≡ unitBytes (units (c .before .before .before .before .before))
