@@ -34,6 +34,16 @@ pub record OuterRead (w : List ℕ) (u v : Object) (limit : ℕ) : Type 0 where
   pub more : u .outer ≡ 1 → ⊥
   pub is : (c : List ℕ) (p : Objects) → ObjectsIn c p w → v ≡ objectNo c p (u .outer - 2)
 
+-- that outer is the outermost object, and the buffer has room for the path of u
+pub record TwoRoom (b : List ℕ) (u v : Object) (limit : ℕ) (out : List ℕ) : Type 0 where
+  pub objects : Objects
+  pub work : List ℕ
+  pub number : ℕ
+  pub stands : Stands b objects work number u
+  pub read : OuterRead work u v limit
+  pub top : v .outer ≡ 1
+  pub room : length (pathBytes (pathNo limit objects number)) ≤ length out
+
 module _ {b : List ℕ} {o : Objects} {w : List ℕ} {i : ℕ} {u : Object} (st : Stands b o w i u) where
   outer-is : u .outer ≡ linkOf o (entryNo o i .outer)
   outer-is = ap (λ (v : Object). v .outer) (st .is) ∙ outer-no b o i

@@ -11,6 +11,7 @@ ghost use Rattle.meaning.specs.Path.{separator};
 ghost use Rattle.objects.specs.Numbers.{pathNo};
 ghost use Rattle.objects.specs.Work.{ObjectsIn, Linked, placeOf, Stands};
 ghost use Rattle.objects.specs.Told.{told, pathBytes, Written, Roomy};
+ghost use Rattle.objects.specs.PutLaws.{OuterRead, TwoRoom};
 use super::object::Object;
 use super::object::object_at;
 use super::object::place_of;
@@ -80,6 +81,20 @@ fn put_next(out: &mut [u8], b: &[u8], u: Object, depth: usize) -> usize
     1 + n
 }
 
+// The path of an object whose outer, with the columns v, is the outermost object.
+fn put_two(out: &mut [u8], b: &[u8], u: Object, v: Object, limit: usize) -> Path
+    requires { ⌜ TwoRoom (now b) u v limit (now out) ⌝ }
+    ensures { λ r. ⌜ ((o : Objects) (w : List ℕ) (i : ℕ) → Stands (now (b .entry)) o w i u → OuterRead w u v limit
+        → length (pathBytes (pathNo limit o i)) ≤ length (now (out .entry)) → Written (pathNo limit o i) (now (out .entry)) (now (out .exit)) r) ⌝ }
+{
+    if limit == 1 {
+        return Path::Unknown;
+    }
+    let at = put_name(out, b, v);
+    let n = put_next(&mut out[at..], b, u, 1);
+    Path::Known(at + n, 2)
+}
+
 // The path of an object, from the innermost object on: each name is written after its outer's path. Nothing is written where it is unknown.
 pub fn put_path(out: &mut [u8], b: &[u8], w: &[u8], u: Object, limit: usize) -> Path
     requires { ⌜ Roomy (now b) (now w) u limit (now out) ⌝ }
@@ -96,7 +111,11 @@ pub fn put_path(out: &mut [u8], b: &[u8], w: &[u8], u: Object, limit: usize) -> 
     if outer == 1 {
         return Path::Known(put_name(out, b, u), 1);
     }
-    let above = put_path(out, b, w, object_at(w, outer - 2), limit - 1);
+    let v = object_at(w, outer - 2);
+    if v.outer == 1 {
+        return put_two(out, b, u, v, limit);
+    }
+    let above = put_path(out, b, w, v, limit - 1);
     match above {
         Path::Unknown => Path::Unknown,
         Path::Known(at, depth) => {

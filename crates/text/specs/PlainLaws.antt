@@ -89,35 +89,35 @@ word-ascii s i b h =
     let e : length (take 8 (drop i s)) ≡ 8 = length-take-le 8 (drop i s) (simp length-drop (omega arith)) in
     rw (leAt-is 8 s i) (rw e at (marks-ascii (take 8 (drop i s)) (bytes-part 8 i s b)))
 
--- eight bytes more
-pub ascii-more : (s : List ℕ) (i : ℕ) → allAscii (take i s) ≡ true → allAscii (take 8 (drop i s)) ≡ true → allAscii (take (i + 8) s) ≡ true
-ascii-more s i e f = rw (take-add i 8 s, ascii-both (take i s) (take 8 (drop i s)), e, f)
+-- k bytes more, by whether they are
+pub ascii-more : (k : ℕ) (s : List ℕ) (i : ℕ) → allAscii (take (i + k) s) ≡ (allAscii (take i s) && allAscii (take k (drop i s)))
+ascii-more k s i = ap allAscii (take-add i k s) ∙ ascii-both (take i s) (take k (drop i s))
 
--- eight bytes more, by whether they are
-pub ascii-eight : (s : List ℕ) (i : ℕ) → allAscii (take (i + 8) s) ≡ (allAscii (take i s) && allAscii (take 8 (drop i s)))
-ascii-eight s i = ap allAscii (take-add i 8 s) ∙ ascii-both (take i s) (take 8 (drop i s))
+-- sixteen bytes are twice eight
+pub ascii-pair : (s : List ℕ) (i : ℕ) → allAscii (take 16 (drop i s)) ≡ (allAscii (take 8 (drop i s)) && allAscii (take 8 (drop (i + 8) s)))
+ascii-pair s i = rw (← drop-drop 8 i s) (ascii-more 8 (drop i s) 8)
 
--- eight bytes that are not
-pub ascii-not : (s : List ℕ) (i : ℕ) → allAscii (take 8 (drop i s)) ≡ false → allAscii s ≡ false
-ascii-not s i f =
-    rw (← take-append-drop i s, ascii-both (take i s) (drop i s), ← take-append-drop 8 (drop i s), ascii-both (take 8 (drop i s)) (drop 8 (drop i s)), f) (go (allAscii (take i s)))
+-- k bytes that are not
+pub ascii-not : (k : ℕ) (s : List ℕ) (i : ℕ) → allAscii (take k (drop i s)) ≡ false → allAscii s ≡ false
+ascii-not k s i f =
+    rw (← take-append-drop i s, ascii-both (take i s) (drop i s), ← take-append-drop k (drop i s), ascii-both (take k (drop i s)) (drop k (drop i s)), f) (go (allAscii (take i s)))
   where
     go : (b : Bool) → (b && false) ≡ false
     go true = refl
     go false = refl
 
--- the last eight, some of which may be among those before
-pub ascii-cover : (s : List ℕ) (i last : ℕ) → last + 8 ≡ length s → last ≤ i → (allAscii (take i s) && allAscii (take 8 (drop last s))) ≡ allAscii s
-ascii-cover s i last e h =
+-- the last k, some of which may be among those before
+pub ascii-cover : (k : ℕ) (s : List ℕ) (i last : ℕ) → last + k ≡ length s → last ≤ i → (allAscii (take i s) && allAscii (take k (drop last s))) ≡ allAscii s
+ascii-cover k s i last e h =
     let x = take last s in
     let y = take (i - last) (drop last s) in
     let z = drop (i - last) (drop last s) in
-    let short : length (drop last s) ≤ 8 = simp length-drop (omega arith) in
+    let short : length (drop last s) ≤ k = simp length-drop (omega arith) in
     let d : i ≡ last + (i - last) = omega arith in
     let f : allAscii (take i s) ≡ (allAscii x && allAscii y) = ap (λ (k : ℕ). allAscii (take k s)) d ∙ ap allAscii (take-add last (i - last) s) ∙ ascii-both x y in
     let g : allAscii (drop last s) ≡ (allAscii y && allAscii z) = ap allAscii (sym (take-append-drop (i - last) (drop last s))) ∙ ascii-both y z in
     let t : allAscii s ≡ (allAscii x && allAscii (drop last s)) = ap allAscii (sym (take-append-drop last s)) ∙ ascii-both x (drop last s) in
-    rw (take-all 8 (drop last s) short, f, t, g) (go (allAscii x) (allAscii y) (allAscii z))
+    rw (take-all k (drop last s) short, f, t, g) (go (allAscii x) (allAscii y) (allAscii z))
   where
     go : (a b d : Bool) → ((a && b) && (b && d)) ≡ (a && (b && d))
     go true true d = refl
@@ -125,8 +125,8 @@ ascii-cover s i last e h =
     go false b d = refl
 
 -- where those before are
-pub ascii-end : (s : List ℕ) (i last : ℕ) → last + 8 ≡ length s → last ≤ i → allAscii (take i s) ≡ true → allAscii (take 8 (drop last s)) ≡ allAscii s
-ascii-end s i last e h f = rw f at (ascii-cover s i last e h)
+pub ascii-end : (k : ℕ) (s : List ℕ) (i last : ℕ) → last + k ≡ length s → last ≤ i → allAscii (take i s) ≡ true → allAscii (take k (drop last s)) ≡ allAscii s
+ascii-end k s i last e h f = rw f at (ascii-cover k s i last e h)
 
 -- ---- what is written
 

@@ -32,14 +32,15 @@ pub fn put_decimal(out: &mut [u8], n: u64) -> usize
     at + 1
 }
 
-fn hex_digit(d: u64) -> u8
+// A digit, in eight bits, so that the compiler can make many at once.
+fn hex_digit(d: u8) -> u8
     requires { ⌜ d < 16 ⌝ }
     ensures { λ r. ⌜ r ≡ hexDigit d ⌝ }
 {
     if d < 10 {
-        return (48 + d) as u8;
+        return 48 + d;
     }
-    (87 + d) as u8
+    87 + d
 }
 
 // The last k hexadecimal digits of a number, from the last one on.
@@ -51,7 +52,7 @@ pub fn put_hex(out: &mut [u8], n: u64, k: usize) -> usize
     let mut left = k;
     while 0 < left {
         left -= 1;
-        out[left] = hex_digit(rest % 16);
+        out[left] = hex_digit((rest % 16) as u8);
         rest = rest / 16;
     }
     k

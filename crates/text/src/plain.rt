@@ -23,6 +23,14 @@ fn is_word(part: &[u8], i: usize) -> bool
     le64(part, i) & 0x8080_8080_8080_8080 == 0
 }
 
+// Whether the sixteen bytes from a place on are ASCII.
+fn is_pair(part: &[u8], i: usize) -> bool
+    requires { ⌜ i + 16 ≤ length (now part) ⌝ }
+    ensures { λ r. ⌜ r ≡ allAscii (take 16 (drop i (now (part .entry)))) ⌝ }
+{
+    is_word(part, i) & is_word(part, i + 8)
+}
+
 // Whether a few bytes are all ASCII.
 fn is_short(part: &[u8]) -> bool
     ensures { λ r. ⌜ r ≡ allAscii (now (part .entry)) ⌝ }
@@ -36,7 +44,20 @@ fn is_short(part: &[u8]) -> bool
     all < 128
 }
 
-// Whether bytes are all ASCII, eight a turn; the last eight may have some of those before them.
+// Whether bytes are all ASCII, by the first and the last of them, which may have some in common: eight each up to 16 bytes, sixteen each from there.
+fn is_ends(part: &[u8]) -> bool
+    requires { ⌜ (8 ≤ length (now part)) × (length (now part) ≤ 32) ⌝ }
+    ensures { λ r. ⌜ r ≡ allAscii (now (part .entry)) ⌝ }
+{
+    let n = part.len();
+    if n < 16 {
+        return is_word(part, 0) & is_word(part, n - 8);
+    }
+    is_pair(part, 0) & is_pair(part, n - 16)
+}
+
+// Whether bytes are all ASCII, sixteen a turn; the last sixteen may have some of those before them. Lengths up to 32 have no turns, since a
+// turn more or less is a branch that can't be foreseen.
 fn is_plain(part: &[u8]) -> bool
     ensures { λ r. ⌜ r ≡ allAscii (now (part .entry)) ⌝ }
 {
@@ -44,15 +65,18 @@ fn is_plain(part: &[u8]) -> bool
     if n < 8 {
         return is_short(part);
     }
-    let last = n - 8;
+    if n <= 32 {
+        return is_ends(part);
+    }
+    let last = n - 16;
     let mut i = 0;
     while i < last {
-        if !is_word(part, i) {
+        if !is_pair(part, i) {
             return false;
         }
-        i += 8;
+        i += 16;
     }
-    is_word(part, last)
+    is_pair(part, last)
 }
 
 // The eight bytes of src from a place on, to the same place: all are read before one is written, so that they go as one word.
@@ -78,6 +102,15 @@ fn put_eight(out: &mut [u8], src: &[u8], at: usize)
     out[at + 7] = h;
 }
 
+// The sixteen bytes of src from a place on, to the same place.
+fn put_sixteen(out: &mut [u8], src: &[u8], at: usize)
+    requires { ⌜ (at + 16 ≤ length (now src)) × (at + 16 ≤ length (now out)) ⌝ }
+    ensures { λ _. ⌜ now (out .exit) ≡ paste (now (out .entry)) at (drop at (now (src .entry))) 16 ⌝ }
+{
+    put_eight(out, src, at);
+    put_eight(out, src, at + 8);
+}
+
 // A few bytes, and whether they are all ASCII.
 fn put_short(out: &mut [u8], part: &[u8]) -> bool
     requires { ⌜ length (now part) ≤ length (now out) ⌝ }
@@ -94,7 +127,22 @@ fn put_short(out: &mut [u8], part: &[u8]) -> bool
     all < 128
 }
 
-// Bytes, and whether they are all ASCII: eight a turn; the last eight may have some of those before them.
+// Bytes, the first and the last of them, which may have some in common: eight each up to 16 bytes, sixteen each from there.
+fn put_ends(out: &mut [u8], part: &[u8])
+    requires { ⌜ (8 ≤ length (now part)) × (length (now part) ≤ 32) × (length (now part) ≤ length (now out)) ⌝ }
+    ensures { λ _. ⌜ Wrote (now (out .entry)) (now (part .entry)) (now (out .exit)) (length (now (part .entry))) ⌝ }
+{
+    let n = part.len();
+    if n < 16 {
+        put_eight(out, part, 0);
+        put_eight(out, part, n - 8);
+        return;
+    }
+    put_sixteen(out, part, 0);
+    put_sixteen(out, part, n - 16);
+}
+
+// Bytes, and whether they are all ASCII: sixteen a turn; the last sixteen may have some of those before them.
 fn put_plain(out: &mut [u8], part: &[u8]) -> bool
     requires { ⌜ length (now part) ≤ length (now out) ⌝ }
     ensures { λ r. ⌜ (r ≡ allAscii (now (part .entry))) × Wrote (now (out .entry)) (now (part .entry)) (now (out .exit)) (length (now (part .entry))) ⌝ }
@@ -103,16 +151,20 @@ fn put_plain(out: &mut [u8], part: &[u8]) -> bool
     if n < 8 {
         return put_short(out, part);
     }
-    let last = n - 8;
+    if n <= 32 {
+        put_ends(out, part);
+        return is_ends(part);
+    }
+    let last = n - 16;
     let mut plain = true;
     let mut i = 0;
     while i < last {
-        plain = plain & is_word(part, i);
-        put_eight(out, part, i);
-        i += 8;
+        plain = plain & is_pair(part, i);
+        put_sixteen(out, part, i);
+        i += 16;
     }
-    put_eight(out, part, last);
-    plain & is_word(part, last)
+    put_sixteen(out, part, last);
+    plain & is_pair(part, last)
 }
 
 // How many bytes of UTF-8 the base takes.

@@ -17,6 +17,7 @@ use Rattle.objects.proofs.path.put_path.Kinds as put-path-kinds
 use Rattle.objects.proofs.path.+put_path.Lts-put_path as lts
 use Rattle.objects.proofs.object.object_at.Reads as object-at-reads
 use Rattle.objects.proofs.path.put_name.Reads as put-name-reads
+use Rattle.objects.proofs.path.put_two.Reads as put-two-reads
 use Rattle.objects.proofs.path.put_next.Reads as put-next-reads
 use Rattle.objects.proofs.path.+put_path.{statement}
 use Rattle.objects.proofs.path.+put_path.Tie.{close}
@@ -33,7 +34,7 @@ put-path-below t =
 
 -- what the calls ask and bring
 abbrev calls : ℕ → lts.Claims
-calls t = (put-name-reads.Asked, put-name-reads.Learnt, object-at-reads.Asked, object-at-reads.Learnt, put-path-below t, put-path.Post, put-next-reads.Asked, put-next-reads.Learnt)
+calls t = (put-name-reads.Asked, put-name-reads.Learnt, object-at-reads.Asked, object-at-reads.Learnt, put-two-reads.Asked, put-two-reads.Learnt, put-path-below t, put-path.Post, put-next-reads.Asked, put-next-reads.Learnt)
 
 module _ (t : ℕ) where
   returns : lts.Need-returns (calls t) (put-path-at t) put-path.Post
@@ -65,31 +66,44 @@ module _ (t : ℕ) where
 
   object-at-requires : lts.Need-object-at-requires (calls t) (put-path-at t) put-path.Post
   object-at-requires c κs =
-      let r = c .before .before .before .before .before .before .before .pre .1 in
-      (stands-linked (r .stands), outer-inside (r .stands) (c .before .before .if2 .left) (c .before .if3 .left))
+      let r = c .before .before .before .before .before .before .pre .1 in
+      (stands-linked (r .stands), outer-inside (r .stands) (c .before .if2 .left) (c .if3 .left))
 
   -- the outer's columns are read
   outer-read : (c : lts.After-object-at (calls t) (put-path-at t) put-path.Post)
       → OuterRead
-      (c .before .before .before .before .before .before .before .before .args .w .now)
-      (c .before .before .before .before .before .before .before .before .args .u)
+      (c .before .before .before .before .before .before .before .args .w .now)
+      (c .before .before .before .before .before .before .before .args .u)
       (c .object-at .result)
-      (c .before .before .before .before .before .before .before .before .args .limit)
-  outer-read c = record { some = c .before .before .before .before .if1 .left; there = c .before .before .before .if2 .left; more = c .before .before .if3 .left; is = c .object-at .ensures }
+      (c .before .before .before .before .before .before .before .args .limit)
+  outer-read c = record { some = c .before .before .before .if1 .left; there = c .before .before .if2 .left; more = c .before .if3 .left; is = c .object-at .ensures }
+
+  put-two-requires : lts.Need-put-two-requires (calls t) (put-path-at t) put-path.Post
+  put-two-requires c κs =
+      let a = c .before .before .before in
+      let s = a .before .before .before .before .before .before .before in
+      let r = s .pre .1 in
+      record { objects = r .objects; work = s .args .w .now; number = r .number; stands = r .stands; read = outer-read a; top = c .before .if4 .taken; room = r .room }
+
+  same-length-2 : lts.Need-same-length-2 (calls t) (put-path-at t) put-path.Post
+  same-length-2 c = c .before .before .put-two .kept .0
+
+  returns-4 : lts.Need-returns-4 (calls t) (put-path-at t) put-path.Post
+  returns-4 c = λ o i st room. c .before .before .put-two .ensures o _ i st (outer-read (c .before .before .before .before .before .before)) room
 
   sub-put-path : lts.Need-sub-put-path (calls t) (put-path-at t) put-path.Post
   sub-put-path c = omega arith
 
   put-path-requires : lts.Need-put-path-requires (calls t) (put-path-at t) put-path.Post
   put-path-requires c κs =
-      let s = c .before .before .before .before .before .before .before .before in
+      let s = c .before .before .before .before .before .before .before .before .before .before in
       let r = s .pre .1 in (
         omega arith,
         record {
           objects = r .objects;
           number = s .args .u .outer - 2;
-          stands = up-stands (r .stands) (outer-read c) (s .args .out .now) (r .room);
-          room = up-room (r .stands) (outer-read c) (s .args .out .now) (r .room);
+          stands = up-stands (r .stands) (outer-read (c .before .before .before)) (s .args .out .now) (r .room);
+          room = up-room (r .stands) (outer-read (c .before .before .before)) (s .args .out .now) (r .room);
         },
       )
 
@@ -102,18 +116,18 @@ module _ (t : ℕ) where
   -- the outer's path is written
   outer-wrote : (c : lts.After-known-told (calls t) (put-path-at t) put-path.Post)
       → Wrote
-      (c .before .before .before .before .before .before .before .before .before .before .before .before .before .before .args .out .now)
+      (c .before .before .before .before .before .before .before .before .before .before .before .before .before .before .before .before .args .out .now)
       (pathBytes (pathNo
-      (c .before .before .before .before .before .before .before .before .before .before .before .before .before .before .args .limit - 1)
-      (c .before .before .before .before .before .before .before .before .before .before .before .before .before .before .pre .1 .objects)
-      (c .before .before .before .before .before .before .before .before .before .before .before .before .before .before .args .u .outer - 2)))
+      (c .before .before .before .before .before .before .before .before .before .before .before .before .before .before .before .before .args .limit - 1)
+      (c .before .before .before .before .before .before .before .before .before .before .before .before .before .before .before .before .pre .1 .objects)
+      (c .before .before .before .before .before .before .before .before .before .before .before .before .before .before .before .before .args .u .outer - 2)))
       (c .before .before .before .before .before .put-path .last .0)
       (c .before .above .given .0 .0)
   outer-wrote c =
       let p = c .before .before .before .before .before in
-      let s = p .before .before .before .before .before .before .before .before .before in
+      let s = p .before .before .before .before .before .before .before .before .before .before .before in
       let r = s .pre .1 in
-      up-wrote (r .stands) (outer-read (p .before)) (s .args .out .now) (r .room) (p .put-path .ensures) _ _ (c .before .above .given .1)
+      up-wrote (r .stands) (outer-read (p .before .before .before .before)) (s .args .out .now) (r .room) (p .put-path .ensures) _ _ (c .before .above .given .1)
 
   sub-put-next : lts.Need-sub-put-next (calls t) (put-path-at t) put-path.Post
   sub-put-next c = let w = outer-wrote c in omega (arith, w .fits, wrote-length w)
@@ -127,8 +141,8 @@ module _ (t : ℕ) where
   put-next-requires : lts.Need-put-next-requires (calls t) (put-path-at t) put-path.Post
   put-next-requires c κs =
       let p = c .before .before .before .before .before .before in
-      let a = outer-read (p .before) in
-      let k = p .before .before .before .before .before .before .before in
+      let a = outer-read (p .before .before .before .before) in
+      let k = p .before .before .before .before .before .before .before .before .before in
       let s = k .before .before in
       let r = s .pre .1 in
       let e = c .before .before .above .given .1 in
@@ -136,32 +150,32 @@ module _ (t : ℕ) where
       let n = up-next (r .stands) a (s .args .out .now) (r .room) (p .put-path .ensures) _ _ e in
       ((stands-holds (r .stands) (λ j. k .shared-slice-known .given j .fits), d .0), n)
 
-  add-t22 : lts.Need-add-t22 (calls t) (put-path-at t) put-path.Post
-  add-t22 c = omega (arith, wrote-rest (outer-wrote (c .before .before .before .before)) (c .before .before .put-next .ensures) .fits)
+  add-t23 : lts.Need-add-t23 (calls t) (put-path-at t) put-path.Post
+  add-t23 c = omega (arith, wrote-rest (outer-wrote (c .before .before .before .before)) (c .before .before .put-next .ensures) .fits)
 
-  add-t25 : lts.Need-add-t25 (calls t) (put-path-at t) put-path.Post
-  add-t25 c =
+  add-t26 : lts.Need-add-t26 (calls t) (put-path-at t) put-path.Post
+  add-t26 c =
       let p = c .before .before .before .before .before .before .before .before .before in
-      let s = p .before .before .before .before .before .before .before .before .before in
+      let s = p .before .before .before .before .before .before .before .before .before .before .before in
       let r = s .pre .1 in
-      let d = up-deep (r .stands) (outer-read (p .before)) (s .args .out .now) (r .room) (p .put-path .ensures) _ _ (c .before .before .before .before .before .above .given .1) in
+      let d = up-deep (r .stands) (outer-read (p .before .before .before .before)) (s .args .out .now) (r .room) (p .put-path .ensures) _ _ (c .before .before .before .before .before .above .given .1) in
       omega (arith, d .1, s .fits .limit)
 
-  same-length-2 : lts.Need-same-length-2 (calls t) (put-path-at t) put-path.Post
-  same-length-2 c = c .before .before .before .before .put-path .kept .0
-
-  returns-4 : lts.Need-returns-4 (calls t) (put-path-at t) put-path.Post
-  returns-4 c = λ o i st room.
-      let p = c .before .before .before .before in
-      up-lost st (outer-read (p .before)) (p .before .before .before .before .before .before .before .before .before .args .out .now) room (p .put-path .ensures) (c .enum-told .given .1)
-
   same-length-3 : lts.Need-same-length-3 (calls t) (put-path-at t) put-path.Post
-  same-length-3 c = wrote-length (wrote-rest (outer-wrote (c .before .before .before .before)) (c .before .before .put-next .ensures))
+  same-length-3 c = c .before .before .before .before .put-path .kept .0
 
   returns-5 : lts.Need-returns-5 (calls t) (put-path-at t) put-path.Post
   returns-5 c = λ o i st room.
+      let p = c .before .before .before .before in
+      up-lost st (outer-read (p .before .before .before .before)) (p .before .before .before .before .before .before .before .before .before .before .before .args .out .now) room (p .put-path .ensures) (c .enum-told .given .1)
+
+  same-length-4 : lts.Need-same-length-4 (calls t) (put-path-at t) put-path.Post
+  same-length-4 c = wrote-length (wrote-rest (outer-wrote (c .before .before .before .before)) (c .before .before .put-next .ensures))
+
+  returns-6 : lts.Need-returns-6 (calls t) (put-path-at t) put-path.Post
+  returns-6 c = λ o i st room.
       let p = c .before .before .before .before .before .before .before .before .before in
-      up-more st (outer-read (p .before)) (p .before .before .before .before .before .before .before .before .before .args .out .now) room (p .put-path .ensures) _ _ (c .before .before .before .before .before .above .given .1) (c .before .before .put-next .ensures)
+      up-more st (outer-read (p .before .before .before .before)) (p .before .before .before .before .before .before .before .before .before .before .before .args .out .now) room (p .put-path .ensures) _ _ (c .before .before .before .before .before .above .given .1) (c .before .before .put-next .ensures)
 
 pub +put-path-spec : {M : Type 1} → statement M
 +put-path-spec =
@@ -174,6 +188,9 @@ pub +put-path-spec : {M : Type 1} → statement M
     (returns-3 t)
     (sub-object-at t)
     (object-at-requires t)
+    (put-two-requires t)
+    (same-length-2 t)
+    (returns-4 t)
     (sub-put-path t)
     (put-path-requires t)
     (enum-told t)
@@ -182,9 +199,9 @@ pub +put-path-spec : {M : Type 1} → statement M
     (part-put-next-start t)
     (part-put-next-end t)
     (put-next-requires t)
-    (add-t22 t)
-    (add-t25 t)
-    (same-length-2 t)
-    (returns-4 t)
+    (add-t23 t)
+    (add-t26 t)
     (same-length-3 t)
     (returns-5 t)
+    (same-length-4 t)
+    (returns-6 t)

@@ -4,6 +4,7 @@ use mathlib.Core.List.{List, [], _∷_, _++_, append-assoc, append-nil}
 use Prim.Native.Nat.{ℕ, zero, suc, _-_, _/_, _%_, _≤_, _<_}
 use native.Mathlib.Numerals.{sub-one}
 use native.Mathlib.Omega.{arith}
+use borrow.Author.Needs.{needs}
 use lib.ListN.{length, set, getD, take, drop, length-set, take-append-drop}
 use lib.Seq.{take-suc, set-at, length-take-le}
 use Rattle.base.specs.Output.{over, Wrote}
@@ -48,6 +49,9 @@ loop-holds c = let a = c .before .args in (omega arith, refl, ([], sym (append-n
 sub-left : tie.Need-sub-left Inv-loop μ-loop
 sub-left c = omega arith
 
+cast-hex-digit : tie.Need-cast-hex-digit Inv-loop μ-loop
+cast-hex-digit c = search needs
+
 hex-digit-requires : tie.Need-hex-digit-requires Inv-loop μ-loop
 hex-digit-requires c κs = omega arith
 
@@ -86,6 +90,7 @@ put-hex-spec =
     μ-loop
     loop-holds
     sub-left
+    cast-hex-digit
     hex-digit-requires
     slice-write-out
     loop-less
