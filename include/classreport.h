@@ -1,5 +1,6 @@
 /*
- * The class report of a corpus of package headers: one call, its answer, and what a refusal means.
+ * The class report of a corpus of package headers, and the check of its own hashes: the calls, their answers, and what a
+ * refusal means.
  *
  * Link with target/staticlib/libcapi.a, which `rt staticlib capi` writes (x86-64 Linux).
  *
@@ -34,6 +35,47 @@ extern "C" {
 uint64_t class_report(const uint8_t *corpus, size_t corpus_len, uint8_t *work, size_t work_len, uint8_t *report,
                       size_t report_len);
 
+/*
+ * Compares the hashes of `corpus` with its names. Writes what it finds to the front of `out` and returns its length, 25 and
+ * one for each package, or returns a refusal (below) and leaves `out` as it was. Bytes of `out` behind that are left as they
+ * were. Big-endian, with a count where `enum classreport_verified` says:
+ *
+ *     4 bytes   the length of the rest
+ *     1 byte    the version, 1
+ *     4 bytes   how many script objects there are
+ *     4 bytes   how many of them have a known path: all others count above alone
+ *     4 bytes   how many of those have the hash of their path for a global index (its low 62 bits)
+ *     4 bytes   how many have another; both together are all with a known path
+ *     4 bytes   how many packages there are
+ *     1 byte    for each package, in the order of the corpus: 1 where its id is that of its name, else 0
+ *
+ * - The questions are the report's, but 25 is not asked, and 26 is of `out`: has it the length? classreport_verify_enough()
+ *   gives one that is always enough.
+ * - `work` may have any length. The answer never depends on it, only the time does: classreport_work_enough(), twice the
+ *   corpus's length, is always enough for speed.
+ * - All else is as for class_report.
+ */
+uint64_t class_verify(const uint8_t *corpus, size_t corpus_len, uint8_t *work, size_t work_len, uint8_t *out,
+                      size_t out_len);
+
+/* Where class_verify writes what. */
+enum classreport_verified {
+    CLASSREPORT_OBJECTS_AT = 5,
+    CLASSREPORT_RESOLVED_AT = 9,
+    CLASSREPORT_MATCHES_AT = 13,
+    CLASSREPORT_MISMATCHES_AT = 17,
+    CLASSREPORT_PACKAGES_AT = 21,
+    CLASSREPORT_FLAGS_AT = 25
+};
+
+/* A count that class_verify wrote: classreport_count(out, CLASSREPORT_MISMATCHES_AT). */
+static inline uint32_t classreport_count(const uint8_t *out, enum classreport_verified at) {
+    return (uint32_t)out[at] << 24 | (uint32_t)out[at + 1] << 16 | (uint32_t)out[at + 2] << 8 | out[at + 3];
+}
+
+/* A length of class_verify's `out` that is enough for every corpus of this length: a package has 12 bytes or more. */
+static inline size_t classreport_verify_enough(size_t corpus_len) { return CLASSREPORT_FLAGS_AT + corpus_len / 12; }
+
 /* The longest report that there can be. */
 #define CLASSREPORT_LONGEST UINT64_C(4294967299)
 
@@ -45,7 +87,7 @@ static inline size_t classreport_work_enough(size_t corpus_len) {
 /* Whether the answer is a refusal: bit 63. */
 static inline int classreport_refused(uint64_t answer) { return (int)(answer >> 63); }
 
-/* The report's length, where the answer is none. */
+/* The length of what was written, where the answer is none. */
 static inline uint64_t classreport_length(uint64_t answer) { return classreport_refused(answer) ? 0 : answer; }
 
 /* The question that failed, 1 to 26 (23 is retired), or 0 where none did: bits 32 to 39. */
@@ -118,7 +160,7 @@ enum classreport_refusal {
     CLASSREPORT_KEY_TWICE = 24,
     /* Has the work buffer at least 64 bytes for each script object, class and candidate? */
     CLASSREPORT_WORK = 25,
-    /* Is the report at most 4,294,967,299 bytes long, and within its buffer? */
+    /* Is the report, or what class_verify writes, at most 4,294,967,299 bytes long, and within its buffer? */
     CLASSREPORT_REPORT = 26
 };
 

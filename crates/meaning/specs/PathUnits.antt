@@ -78,7 +78,7 @@ digits-slashed (suc f) n =
       slash-other (48 + n % 10) (λ e. omega arith) (λ e. omega arith),
     ))
 
-suffix-slashed : (n : ℕ) → slashed (suffix n) ≡ suffix n
+pub suffix-slashed : (n : ℕ) → slashed (suffix n) ≡ suffix n
 unfolding decimal
 suffix-slashed zero = refl
 suffix-slashed (suc n) = rw (digits-slashed 20 n)

@@ -108,7 +108,7 @@ module _ {b : List ℕ} {o : Objects} {w : List ℕ} (t : ObjectsIn b o w) where
     place-base = name-text b (o .layout) (parts-of (t .all)) (entryNo o i .index) index-lt ∙ rw (names-of (t .all .read))
 
 -- the place, from its columns
-unpacked : (p : Place) → record { start = p .start; size = packed p / 2; wide = eqb (packed p % 2) 1 } ≡ p
+pub unpacked : (p : Place) → record { start = p .start; size = packed p / 2; wide = eqb (packed p % 2) 1 } ≡ p
 unpacked p = go (p .wide) refl
   where
     go : (x : Bool) → p .wide ≡ x → record { start = p .start; size = packed p / 2; wide = eqb (packed p % 2) 1 } ≡ p

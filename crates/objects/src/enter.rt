@@ -24,7 +24,7 @@ use zen::script::entry_in;
 use zen::texts::place_len;
 
 // Twice a place's size, and 1 if it is UTF-16.
-fn packed(p: Place) -> usize
+pub fn packed(p: Place) -> usize
     requires { ⌜ p .size < 65536 ⌝ }
     ensures { λ r. ⌜ r ≡ packed p ⌝ }
 {

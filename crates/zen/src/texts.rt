@@ -15,7 +15,7 @@ ghost use Rattle.zen.specs.Holds.{textAt, nameAt, Holds, placeWithout};
 use super::places::Place;
 
 // The bytes at a place.
-fn part_of(b: &[u8], p: Place) -> &[u8]
+pub fn part_of(b: &[u8], p: Place) -> &[u8]
     requires { ⌜ p .start + p .size ≤ length (now b) ⌝ }
     ensures { λ r. ⌜ now r ≡ partAt (now (b .entry)) p ⌝ }
 {

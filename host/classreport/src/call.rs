@@ -24,6 +24,11 @@ pub fn report_into<'a>(
     out: &'a mut [u8],
 ) -> Result<&'a [u8], Refusal> {
     let number = report::class_report(corpus, work, out);
+    written(number, out)
+}
+
+/// What a call wrote to the front of its output buffer, or the refusal, by the number that it returned.
+pub(crate) fn written(number: u64, out: &[u8]) -> Result<&[u8], Refusal> {
     match Refusal::of_number(number) {
         Some(refusal) => Err(refusal),
         None => Ok(&out[..number as usize]),

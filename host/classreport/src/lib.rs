@@ -15,6 +15,8 @@
 //! # Ok::<(), Box<dyn std::error::Error>>(())
 //! ```
 //!
+//! [`verify`] asks whether a build has the hashes of its own names.
+//!
 //! Everything that a report says was worked out by the proved call. [`chain`] follows the same classes a second time, to
 //! show the way; it decides nothing.
 #![warn(missing_docs)]
@@ -28,6 +30,7 @@ mod parsed;
 mod question;
 mod refusal;
 mod row;
+mod verify;
 
 pub use call::{LONGEST, report, report_into};
 pub use fields::Malformed;
@@ -36,3 +39,4 @@ pub use parsed::{Report, Rows, Section, Sections};
 pub use question::{QUESTIONS, Question};
 pub use refusal::Refusal;
 pub use row::{ClassKind, Kind, Row};
+pub use verify::{Verified, verify, verify_into};

@@ -4,7 +4,7 @@ use std::path::{Path, PathBuf};
 use std::process::{Command, Output};
 
 use classreport::QUESTIONS;
-use corpus::generate::{dense, generate};
+use corpus::generate::{dense, generate, hashed};
 
 const CRATE: &str = env!("CARGO_MANIFEST_DIR");
 const PLACE: &str = env!("CARGO_TARGET_TMPDIR");
@@ -36,21 +36,35 @@ fn compiled() -> Option<PathBuf> {
     Some(program)
 }
 
-/// Runs it, with a corpus in a file where one is given.
-fn run(program: &Path, corpus: Option<&[u8]>) -> Output {
+/// Runs it with these words behind a corpus in a file, where one is given.
+fn run(program: &Path, corpus: Option<&[u8]>, words: &[&str]) -> Output {
     let mut command = Command::new(program);
     if let Some(corpus) = corpus {
         let file = program.with_extension("corpus");
         fs::write(&file, corpus).expect("a file for the corpus");
-        command.arg(file);
+        command.arg(file).args(words);
     }
     command.output().expect("the program in C")
+}
+
+/// Whether it wrote this, or said why there is nothing.
+fn answered(given: &Output, answer: &answer::Answer) {
+    match answer {
+        Ok(written) => assert!(given.status.success() && given.stdout == *written),
+        Err((question, block)) => {
+            assert_eq!(given.status.code(), Some(1));
+            let start = format!("refused {question} in block {block}: ");
+            let said = String::from_utf8_lossy(&given.stderr).into_owned();
+            assert!(said.starts_with(&start), "{said}");
+            assert!(given.stdout.is_empty());
+        }
+    }
 }
 
 #[test]
 fn a_host_in_c() {
     let Some(program) = compiled() else { return };
-    let own = run(&program, None);
+    let own = run(&program, None, &[]);
     assert_eq!(String::from_utf8_lossy(&own.stderr), "");
     assert!(own.status.success());
     let told = |q: &classreport::Question| format!("{} {}\n", q.number, q.failed);
@@ -58,6 +72,7 @@ fn a_host_in_c() {
     assert_eq!(String::from_utf8_lossy(&own.stdout), all);
 
     let corpora = [
+        hashed(1).bytes(),
         generate(1, 20_000),
         dense(1),
         dense(2),
@@ -65,16 +80,9 @@ fn a_host_in_c() {
         Vec::new(),
     ];
     for corpus in corpora {
-        let given = run(&program, Some(&corpus));
-        match model::class_report(&corpus, u64::MAX, u64::MAX) {
-            Ok(report) => assert!(given.status.success() && given.stdout == report),
-            Err((question, block)) => {
-                assert_eq!(given.status.code(), Some(1));
-                let start = format!("refused {question} in block {block}: ");
-                let said = String::from_utf8_lossy(&given.stderr).into_owned();
-                assert!(said.starts_with(&start), "{said}");
-                assert!(given.stdout.is_empty());
-            }
-        }
+        let report = model::class_report(&corpus, u64::MAX, u64::MAX);
+        answered(&run(&program, Some(&corpus), &[]), &report);
+        let found = model::class_verify(&corpus, u64::MAX);
+        answered(&run(&program, Some(&corpus), &["verify"]), &found);
     }
 }

@@ -1,7 +1,9 @@
 //! The library against the model (document 01 read afresh) on generated corpora.
 use classreport::chain::{End, Headers, LineEnd};
-use classreport::{Corpus, CorpusBuilder, Refusal, Report, Row, report, report_into};
-use corpus::generate::{LARGE, dense, generate, ladder, sized, spelt};
+use classreport::{
+    Corpus, CorpusBuilder, Refusal, Report, Row, Verified, report, report_into, verify, verify_into,
+};
+use corpus::generate::{LARGE, dense, generate, hashed, ladder, sized, spelt};
 
 fn model(corpus: &[u8]) -> Result<Vec<u8>, Refusal> {
     let answer = model::class_report(corpus, u64::MAX, u64::MAX);
@@ -95,6 +97,49 @@ fn lent_buffers_too_short() {
     assert_eq!((short.question, short.block), (26, 0));
     assert!(out.iter().all(|byte| *byte == 7), "left as it was");
     assert!(report_into(&corpus, &mut work, &mut out).is_ok());
+}
+
+/// Counts and flags are the model's, whatever the work buffer.
+#[test]
+fn hashes_are_verified_as_by_the_model() {
+    let mut accepted = 0;
+    for seed in 700_000..702_000 {
+        let corpus = hashed(seed).bytes();
+        let output = model::class_verify(&corpus, u64::MAX);
+        let given = verify(&corpus);
+        let Ok(output) = output.map_err(|(question, block)| Refusal { question, block }) else {
+            assert!(given.is_err());
+            continue;
+        };
+        let verified = given.expect("accepted");
+        let mut out = vec![7; output.len() + 1];
+        let written = verify_into(&corpus, &mut [], &mut out).map(<[u8]>::to_vec);
+        assert_eq!(written.as_ref(), Ok(&output));
+        assert_eq!(out[output.len()], 7, "left as it was");
+        assert_eq!(verified_bytes(&verified), output);
+        let short = verify_into(&corpus, &mut [], &mut out[1..output.len()]).unwrap_err();
+        assert_eq!((short.question, short.block), (26, 0));
+        accepted += 1;
+    }
+    assert!(accepted > 1_000);
+}
+
+/// The output's bytes, written from what was parsed.
+fn verified_bytes(verified: &Verified) -> Vec<u8> {
+    let flags = &verified.flags;
+    let mut out = vec![1];
+    for count in [
+        verified.objects,
+        verified.resolved,
+        verified.matches,
+        verified.mismatches,
+        flags.len() as u32,
+    ] {
+        out.extend(count.to_be_bytes());
+    }
+    out.extend(flags.iter().copied().map(u8::from));
+    let length = (out.len() as u32).to_be_bytes();
+    [&length[..], &out].concat()
 }
 
 /// Follows every chain of an accepted corpus, which compares them with the rows; gives what each ended in.

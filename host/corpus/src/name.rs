@@ -1,4 +1,5 @@
-//! Names in Rust's own terms: the text of a name's bytes, its instance number, its id.
+//! Names in Rust's own terms: the text of a name's bytes, its instance number, its id; the index of a path.
+use crate::script_index;
 
 /// The text of a name's bytes, or `None` where it is wide and ill-formed.
 pub fn decoded(bytes: &[u8], wide: bool) -> Option<String> {
@@ -37,4 +38,9 @@ pub fn id(text: &str) -> u64 {
     let lowered: String = text.chars().map(lower).collect();
     let units: Vec<[u8; 2]> = lowered.encode_utf16().map(u16::to_le_bytes).collect();
     cityhasher::hash(units.as_flattened())
+}
+
+/// The global index that a build gives the script object with this path: the id's low 62 bits, `.` and `:` turned to `/`.
+pub fn path_index(path: &str) -> u64 {
+    script_index(id(&path.replace(['.', ':'], "/")) % (1 << 62))
 }

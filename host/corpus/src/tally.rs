@@ -1,13 +1,8 @@
 //! How often each refusal, class kind and pair of known flags was answered.
+use crate::refusals::Refusals;
 use crate::rows::{rows, sections};
 use answer::Refusal;
 use std::fmt;
-
-/// The last refusal.
-const LAST: usize = 26;
-
-/// The refusal that is retired: nobody answers it any more.
-const RETIRED: usize = 23;
 
 /// Class kind, class known, native known: what `resolve` can answer.
 pub const CLASSES: [(u8, u8, u8); 10] = [
@@ -25,8 +20,7 @@ pub const CLASSES: [(u8, u8, u8); 10] = [
 
 #[derive(Debug, Default)]
 pub struct Tally {
-    /// at 0 the accepted
-    pub refusals: [u64; LAST + 1],
+    pub refusals: Refusals,
     /// rows for each of `CLASSES`
     pub classes: [u64; CLASSES.len()],
     /// rows of candidate kind 1 and 2, and those numbered
@@ -36,21 +30,10 @@ pub struct Tally {
 impl Tally {
     /// Counts a refusal, or a report with its rows.
     pub fn add(&mut self, answer: Result<&[u8], Refusal>) {
-        match answer {
-            Err((refusal, _)) => self.add_refusal(refusal.into()),
-            Ok(report) => {
-                self.refusals[0] += 1;
-                sections(report)
-                    .iter()
-                    .flat_map(|s| rows(s))
-                    .for_each(|row| self.add_row(row));
-            }
-        }
-    }
-
-    fn add_refusal(&mut self, refusal: usize) {
-        assert_ne!(refusal, RETIRED, "a refusal that is retired");
-        self.refusals[refusal] += 1;
+        self.refusals.add(&answer);
+        let sections = answer.map(sections).unwrap_or_default();
+        let rows = sections.iter().flat_map(|section| rows(section));
+        rows.for_each(|row| self.add_row(row));
     }
 
     fn add_row(&mut self, row: &[u8]) {
@@ -61,49 +44,35 @@ impl Tally {
         self.candidates[2] += u64::from(row[2]);
     }
 
-    pub fn answers(&self) -> u64 {
-        self.refusals.iter().sum()
-    }
-
     /// What was never answered.
     pub fn missing(&self) -> Vec<String> {
-        let refusals = self.refusals.iter().enumerate();
         let classes = CLASSES.iter().zip(&self.classes);
         let candidates = ["kind 1", "kind 2", "numbered"].iter().zip(self.candidates);
-        refusals
-            .filter(|(i, n)| **n == 0 && *i != RETIRED)
-            .map(|(i, _)| format!("refusal {i}"))
-            .chain(
-                classes
-                    .filter(|(_, n)| **n == 0)
-                    .map(|(c, _)| format!("class kind and flags {c:?}")),
-            )
-            .chain(
-                candidates
-                    .filter(|(_, n)| *n == 0)
-                    .map(|(c, _)| format!("candidate {c}")),
-            )
-            .collect()
+        let mut out = self.refusals.missing(&[]);
+        out.extend(
+            classes
+                .filter(|(_, n)| **n == 0)
+                .map(|(c, _)| format!("class kind and flags {c:?}")),
+        );
+        out.extend(
+            candidates
+                .filter(|(_, n)| *n == 0)
+                .map(|(c, _)| format!("candidate {c}")),
+        );
+        out
     }
 }
 
 impl fmt::Display for Tally {
     fn fmt(&self, f: &mut fmt::Formatter) -> fmt::Result {
-        let refusals = self.refusals.iter().enumerate();
-        let refusals = refusals.filter(|(refusal, _)| ![0, RETIRED].contains(refusal));
-        let classes = CLASSES.iter().zip(&self.classes);
-        let lines = refusals
-            .map(|(refusal, n)| format!("refusal {refusal}: {n}\n"))
-            .chain(classes.map(|((kind, class, native), n)| {
-                format!("class kind {kind}, known {class} {native}: {n} rows\n")
-            }));
+        write!(f, "{}", self.refusals)?;
+        for ((kind, class, native), n) in CLASSES.iter().zip(&self.classes) {
+            writeln!(f, "class kind {kind}, known {class} {native}: {n} rows")?;
+        }
         let [first, second, numbered] = self.candidates;
         write!(
             f,
-            "{} answers, {} accepted\n{}candidates: {first} of kind 1 ({numbered} numbered), {second} of kind 2",
-            self.answers(),
-            self.refusals[0],
-            lines.collect::<String>()
+            "candidates: {first} of kind 1 ({numbered} numbered), {second} of kind 2"
         )
     }
 }

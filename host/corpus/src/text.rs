@@ -23,6 +23,14 @@ impl Text {
         Text::Utf16(s.encode_utf16().collect())
     }
 
+    /// The text; U+FFFD for whatever is ill-formed.
+    pub fn text(&self) -> String {
+        match self {
+            Text::Latin1(bytes) => bytes.iter().copied().map(char::from).collect(),
+            Text::Utf16(units) => String::from_utf16_lossy(units),
+        }
+    }
+
     /// The two-byte header: the width's bit, then the length in units.
     pub fn header(&self) -> [u8; 2] {
         let (flag, units) = match self {

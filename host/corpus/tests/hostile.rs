@@ -1,6 +1,7 @@
 //! Hostile shapes are what their names say.
 use corpus::census::{Census, census};
 use corpus::decode::{Corpus, decode};
+use corpus::generate::heavy;
 use corpus::generate::hostile::{SHAPES, bucket, object_key};
 use corpus::script_index;
 use std::collections::BTreeSet;
@@ -24,6 +25,43 @@ fn one_bucket() {
         assert!(keys.all(|(lo, hi)| bucket(n.into(), lo, hi) == 0));
         assert_eq!(counted.candidates, u64::from(n));
     }
+}
+
+/// Each has as many objects as it says, as deep, and with names as long.
+#[test]
+fn heavy_shapes() {
+    let found = heavy::SHAPES.map(|(name, shape)| {
+        let corpus = shape(1_000);
+        let paths: Vec<_> = corpus.paths().filter_map(|(_, path)| path).collect();
+        let deepest = paths.iter().map(|path| path.names.len()).max();
+        let longest = corpus.names.iter().map(|name| name.text().chars().count());
+        let names = corpus.names.len()
+            + corpus
+                .packages
+                .iter()
+                .map(|(_, p)| p.names.len())
+                .sum::<usize>();
+        (
+            name,
+            paths.len(),
+            deepest.unwrap_or(0),
+            longest.max().unwrap_or(0),
+            names,
+        )
+    });
+    let wanted = [
+        ("chains of 65 objects in one bucket", 1_000, 65, 1, 1_000),
+        ("objects below 64 others", 1_064, 65, 5, 2),
+        ("objects below 64 long names", 65, 65, 8_191, 2),
+        ("long wide names of objects", 10, 1, 32_767, 1),
+        ("long names of objects beyond ASCII", 10, 1, 32_767, 1),
+        ("objects by the last of many names", 1_000, 1, 4, 10_000),
+        ("a package by the last of many names", 0, 0, 0, 10_001),
+    ];
+    assert_eq!(found, wanted);
+    let chains = heavy::SHAPES[0].1(1_000);
+    let mut keys = chains.entries.iter().map(|entry| object_key(entry.global));
+    assert!(keys.all(|(lo, hi)| bucket(1_000, lo, hi) == 0));
 }
 
 /// From every row's class 64 supers lead to a native class.

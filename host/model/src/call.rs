@@ -24,7 +24,7 @@ pub const BASE: Limits = Limits {
 };
 
 /// The longest report: its 4-byte length counts what follows.
-const MOST: u64 = 4_294_967_299;
+pub const MOST: u64 = 4_294_967_299;
 
 /// The report, or the refusal and the block; `work` and `buffer` are the two buffers' lengths.
 pub fn class_report(corpus: &[u8], work: u64, buffer: u64) -> Answer {
@@ -33,13 +33,8 @@ pub fn class_report(corpus: &[u8], work: u64, buffer: u64) -> Answer {
 
 /// The call with limits of its own.
 pub fn class_report_within(limits: Limits, corpus: &[u8], work: u64, buffer: u64) -> Answer {
-    let frame = frame(corpus)?;
-    let script = &script_block(frame.script)?;
-    let mut packages = Vec::new();
-    for (block, (id, bytes)) in (2..).zip(frame.packages) {
-        packages.push(package_block(bytes, id, block)?);
-    }
-    let classes = classes(&packages, script, limits)?;
+    let (script, packages) = &blocks(corpus)?;
+    let classes = classes(packages, script, limits)?;
     let candidates: Vec<Vec<Candidate>> = packages.iter().map(candidates).collect();
     let rows: usize = candidates.iter().map(Vec::len).sum();
     if work < 64 * (script.count() + classes.len() + rows) as u64 {
@@ -50,11 +45,22 @@ pub fn class_report_within(limits: Limits, corpus: &[u8], work: u64, buffer: u64
         classes,
         limits,
     };
-    report(&world, &packages, &candidates, MOST.min(buffer))
+    report(&world, packages, &candidates, MOST.min(buffer))
+}
+
+/// The script block and the packages: questions 1, 2 and those of the blocks.
+pub fn blocks(corpus: &[u8]) -> Result<(Script, Vec<Package>), Refusal> {
+    let frame = frame(corpus)?;
+    let script = script_block(frame.script)?;
+    let mut packages = Vec::new();
+    for (block, (id, bytes)) in (2..).zip(frame.packages) {
+        packages.push(package_block(bytes, id, block)?);
+    }
+    Ok((script, packages))
 }
 
 /// The classes by key; question 24: no class key twice?
-fn classes<'a>(
+pub fn classes<'a>(
     packages: &'a [Package],
     script: &Script,
     limits: Limits,

@@ -70,7 +70,7 @@ fn local(package: &Package, index: u64) -> Reference {
 }
 
 /// CityHash64 of the name in UTF-16LE, lowered.
-fn package_id(name: &[u8]) -> u64 {
+pub fn package_id(name: &[u8]) -> u64 {
     let name = str::from_utf8(name).expect("texts are UTF-8");
     let mut bytes = Vec::new();
     for c in name.chars() {

@@ -62,6 +62,11 @@ impl Script {
         self.objects.len()
     }
 
+    /// The objects' global indices.
+    pub fn globals(&self) -> impl Iterator<Item = u64> {
+        self.objects.keys().copied()
+    }
+
     /// The path of the object with this index, of at most `limit` objects, all known.
     pub fn path_of(&self, index: u64, limit: u32) -> Option<Text> {
         self.path_and_depth(index, limit).map(|(path, _)| path)

@@ -6,3 +6,4 @@ pub mod question;
 pub mod report;
 mod row;
 pub mod stages;
+pub mod verify;

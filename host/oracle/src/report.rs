@@ -10,7 +10,7 @@ use crate::zen::PackageHeader;
 pub use crate::frame::{Parts, parts};
 
 /// The longest report: its 4-byte length counts what follows.
-const MOST: u64 = 4_294_967_299;
+pub const MOST: u64 = 4_294_967_299;
 
 /// The call; `work` and `buffer` are the two buffers' lengths.
 pub fn class_report(corpus: &[u8], work: u64, buffer: u64) -> Answer {

@@ -1,8 +1,12 @@
-//! The proved report call, for safe Rust.
+//! The proved calls, for safe Rust.
 #![expect(
     unsafe_code,
     reason = "calls a proved function through its C interface"
 )]
+
+mod verify;
+
+pub use verify::class_verify;
 
 mod c {
     // SAFETY: as crates/capi declares it. A slice of Rattle's is a pointer and then a length.

@@ -39,6 +39,22 @@ impl Disagreement {
     }
 }
 
+impl Disagreement {
+    /// Compares how many the call counted and how many were found here.
+    pub(super) fn unless_counted(
+        agreed: bool,
+        what: &str,
+        [call, host]: &[usize; 2],
+    ) -> Result<(), Disagreement> {
+        if agreed {
+            return Ok(());
+        }
+        Err(Disagreement(format!(
+            "{call} {what} by the call, but {host} by the host's own reading"
+        )))
+    }
+}
+
 impl fmt::Display for Disagreement {
     fn fmt(&self, f: &mut fmt::Formatter) -> fmt::Result {
         write!(f, "the chains are not shown: {}", self.0)

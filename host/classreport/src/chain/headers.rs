@@ -25,8 +25,8 @@ use crate::{ClassKind, Corpus, Row, Section};
 /// # Ok::<(), Box<dyn std::error::Error>>(())
 /// ```
 pub struct Headers {
-    objects: Objects,
-    packages: Vec<Header>,
+    pub(super) objects: Objects,
+    pub(super) packages: Vec<Header>,
     /// every class by its key: package and export, both from 0
     classes: HashMap<Key, (usize, usize)>,
     /// a package of each id

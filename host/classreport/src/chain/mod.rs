@@ -4,6 +4,7 @@
 //! chain is followed again, to be shown. Every end is compared with the row that the proved call gave: where they differ
 //! there is a [`Disagreement`] and no chain.
 mod agree;
+mod hashes;
 mod header;
 mod headers;
 mod index;
@@ -13,6 +14,7 @@ mod reader;
 mod reference;
 
 pub use agree::Disagreement;
+pub use hashes::{Findings, Flagged};
 pub use headers::Headers;
 pub use objects::{Line, LineEnd, MOST_OBJECTS};
 

@@ -72,6 +72,11 @@ impl Objects {
         Some(Objects(objects))
     }
 
+    /// Each object's index, and its own name.
+    pub(super) fn each(&self) -> impl Iterator<Item = (u64, &str)> {
+        self.0.iter().map(|(index, object)| (*index, &*object.name))
+    }
+
     /// The object with this index, and its outers.
     pub(super) fn line(&self, index: u64) -> Line {
         let mut seen = Vec::new();

@@ -1,4 +1,5 @@
-/* Calls the report call by the header, as a host in C would. `call CORPUS` writes the report to stdout. */
+/* Makes the calls by the header, as a host in C would. `call CORPUS` writes the report to stdout, `call CORPUS verify` what
+   class_verify finds. */
 #include "classreport.h"
 
 #include <stdio.h>
@@ -44,6 +45,24 @@ static void refused(void) {
     expect(classreport_question(answer) == CLASSREPORT_REPORT, "a report buffer too short");
 }
 
+static void verified(void) {
+    uint8_t corpus[sizeof EMPTY], work[1], out[26];
+    memset(out, 0xaa, sizeof out);
+    expect(classreport_verify_enough(sizeof EMPTY) == 26, "enough for what is found");
+    uint64_t answer = class_verify(EMPTY, sizeof EMPTY, work, 0, out, sizeof out);
+    expect(answer == 25 && classreport_length(answer) == 25, "25 bytes and no package");
+    expect(out[0] == 0 && out[3] == 21 && out[4] == 1 && out[25] == 0xaa, "what is found, and the byte behind it");
+    expect(classreport_count(out, CLASSREPORT_OBJECTS_AT) == 0, "no objects");
+    out[CLASSREPORT_MISMATCHES_AT] = 0x80, out[CLASSREPORT_MISMATCHES_AT + 3] = 7;
+    expect(classreport_count(out, CLASSREPORT_MISMATCHES_AT) == UINT32_C(0x80000007), "a count is big-endian");
+    answer = class_verify(EMPTY, sizeof EMPTY, work, 0, out, 24);
+    expect(classreport_question(answer) == CLASSREPORT_REPORT, "a buffer of 24 bytes is too short");
+    memcpy(corpus, EMPTY, sizeof corpus);
+    corpus[4] = 2;
+    answer = class_verify(corpus, sizeof corpus, work, 0, out, sizeof out);
+    expect(classreport_question(answer) == CLASSREPORT_VERSION, "version 2 is refused here too");
+}
+
 static void unpacked(void) {
     uint64_t answer = UINT64_C(0x8000001100000008);
     expect(classreport_question(answer) == CLASSREPORT_OFFSET_ORDER, "17");
@@ -71,14 +90,17 @@ static uint8_t *read_file(const char *name, size_t *length) {
     return bytes;
 }
 
-static int report_of(const char *name) {
+/* Either call. */
+typedef uint64_t call(const uint8_t *, size_t, uint8_t *, size_t, uint8_t *, size_t);
+
+static int output_of(call *made, const char *name) {
     size_t length = 0, work_length, room = 1 << 24;
     uint8_t *corpus = read_file(name, &length);
     work_length = classreport_work_enough(length);
     uint8_t *work = malloc(work_length + 1), *report = malloc(room);
     if (corpus == NULL || work == NULL || report == NULL)
         return 3;
-    uint64_t answer = class_report(corpus, length, work, work_length, report, room);
+    uint64_t answer = made(corpus, length, work, work_length, report, room);
     if (classreport_refused(answer)) {
         unsigned question = classreport_question(answer), block = classreport_block(answer);
         fprintf(stderr, "refused %u in block %u: %s\n", question, block, classreport_failed(question));
@@ -92,10 +114,11 @@ static int report_of(const char *name) {
 }
 
 int main(int argc, char **argv) {
-    if (argc == 2)
-        return report_of(argv[1]);
+    if (argc > 1)
+        return output_of(argc == 2 ? class_report : class_verify, argv[1]);
     accepted();
     refused();
+    verified();
     unpacked();
     return failures != 0;
 }

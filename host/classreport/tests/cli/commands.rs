@@ -176,7 +176,8 @@ fn help_and_version() {
     let overview = place.done(&["--help"]);
     assert_eq!(place.done(&["help"]), overview);
     for name in [
-        "show", "check", "summary", "why", "diff", "explain", "report", "pack", "unpack", "example",
+        "show", "check", "summary", "why", "verify", "diff", "explain", "report", "pack", "unpack",
+        "example",
     ] {
         assert!(overview.contains(&format!("\n  {name} ")), "{name}");
         let help = place.done(&[name, "--help"]);

@@ -10,3 +10,4 @@ mod rows;
 mod texts;
 mod tool;
 mod usage;
+mod verify;

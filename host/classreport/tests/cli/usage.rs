@@ -33,6 +33,11 @@ fn bad_arguments_are_told() {
             "--format: 'html' is none of table, csv, tsv, jsonl",
         ),
         (
+            &["verify", "booth", "-f", "csv"],
+            "--format: 'csv' is none of table, json",
+        ),
+        (&["verify"], "usage: classreport verify BUILD|CORPUS"),
+        (
             &["show", "booth", "--unknown=1"],
             "--unknown takes no value",
         ),

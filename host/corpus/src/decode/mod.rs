@@ -39,7 +39,7 @@ impl Corpus {
 }
 
 /// A big-endian number of n bytes.
-pub(crate) fn be(bytes: &[u8], at: usize, n: usize) -> u64 {
+pub fn be(bytes: &[u8], at: usize, n: usize) -> u64 {
     (bytes[at..at + n].iter()).fold(0, |v, b| v << 8 | u64::from(*b))
 }
 

@@ -8,7 +8,7 @@ use crate::{Described, Export, NULL, Package, Text, import_index, script_index};
 const ROW: &str = "Row_GEN_VARIABLE";
 
 /// The longest name, in units.
-const LONGEST: usize = 32_767;
+pub const LONGEST: usize = 32_767;
 
 /// A name, and a corpus with so much of it.
 pub type Shape = (&'static str, fn(u32) -> Described);
@@ -101,7 +101,7 @@ pub fn object_key(global: u64) -> (u64, u64) {
 
 /// Global indices below 2^32 with this upper half that fall into the first of n buckets. Products of consecutive numbers
 /// and a factor go round in even steps, so from one that is low the next is one of three numbers of steps away.
-fn first_bucket(n: u64, half: u64) -> impl Iterator<Item = u64> {
+pub fn first_bucket(n: u64, half: u64) -> impl Iterator<Item = u64> {
     let mixed = half.wrapping_mul(FACTOR);
     let global = move |u: u64| half << 32 | (u ^ (mixed % (1 << 32)));
     let low = move |u: u64| {

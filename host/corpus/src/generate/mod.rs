@@ -1,7 +1,10 @@
 //! Corpora from a seed. `generate` makes large ones like a game's build, `dense` small ones in which everything meets,
-//! `spelt` small ones about the spelling of names, `ladder` those that go step by step to a limit, `hostile` those that are
-//! meant to be slow; `sized` one whose report has a wanted length.
+//! `spelt` small ones about the spelling of names, `hashed` small ones with the hashes of their names, `natives` large script
+//! blocks, `ladder` those that go step by step to a limit, `heavy` and `hostile` those that are meant to be slow; `sized` one
+//! whose report has a wanted length.
 mod dense;
+mod hashed;
+pub mod heavy;
 pub mod hostile;
 pub mod ladder;
 mod names;
@@ -14,6 +17,8 @@ mod spelt;
 
 pub use crate::random::Random;
 pub use dense::{dense, dense_described};
+pub use hashed::hashed;
+pub use objects::natives;
 pub use sized::{sized, sized_edges};
 pub use spelt::spelt;
 

@@ -47,6 +47,18 @@ impl Objects {
     }
 }
 
+/// A script block of about so many bytes, as a build has it: each object with the hash of its path.
+pub fn natives(seed: u64, bytes: usize) -> Described {
+    let mut maker = Maker {
+        random: &mut Random(seed),
+        corpus: Described::default(),
+    };
+    let engine = maker.add(Text::of("/Script/Engine"), 0, NULL);
+    // An object is some 56 bytes, its name's included.
+    maker.forest(engine, bytes / 56);
+    maker.corpus.hashed()
+}
+
 impl Maker<'_> {
     /// A global index that no object has: its low bits count.
     fn fresh(&mut self) -> u64 {

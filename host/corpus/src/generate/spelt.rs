@@ -15,8 +15,8 @@ static LETTERS: LazyLock<Vec<char>> = LazyLock::new(|| {
 });
 
 /// A name and an instance number.
-struct Known {
-    name: String,
+pub(super) struct Known {
+    pub(super) name: String,
     number: u32,
 }
 
@@ -43,7 +43,7 @@ pub fn spelt(seed: u64) -> Described {
 }
 
 /// A name of a word beyond ASCII, of letters of all scripts, or of characters of all planes.
-fn name(random: &mut Random) -> Known {
+pub(super) fn name(random: &mut Random) -> Known {
     let most = if random.chance(10) { 80 } else { 12 };
     let length = random.below(most);
     let word: String = match random.below(10) {

@@ -5,13 +5,18 @@ use answer::Answer;
 pub(crate) fn both(corpus: &[u8], work: u64, buffer: u64) -> Answer {
     let model = model::class_report(corpus, work, buffer);
     let oracle = oracle::report::class_report(corpus, work, buffer);
+    agreed(corpus, [work, buffer], model, &oracle)
+}
+
+/// The answer of both to a corpus with buffers of these lengths.
+pub(crate) fn agreed(corpus: &[u8], lengths: [u64; 2], model: Answer, oracle: &Answer) -> Answer {
     assert!(
-        oracle == model,
-        "oracle: {}; model: {}; work {work}, buffer {buffer}, corpus {corpus:02x?}",
-        told(&oracle),
+        *oracle == model,
+        "oracle: {}; model: {}; work and output buffer {lengths:?}, corpus {corpus:02x?}",
+        told(oracle),
         told(&model),
     );
-    oracle
+    model
 }
 
 /// An answer as a failing test prints it.

@@ -1,12 +1,12 @@
-//! What was asked of call, oracle and model, and answered by all three.
+//! What was asked of a call, oracle and model, and answered by all three.
 use std::collections::BTreeMap;
 
 use answer::Answer;
 use corpus::census::census;
 use corpus::generate::Random;
-use corpus::tally::Tally;
 
-use crate::both::{both, told};
+use crate::both::told;
+use crate::judged::Judged;
 use crate::lent::Caller;
 
 /// Room for any report and any table, where only its length is asked.
@@ -27,8 +27,8 @@ fn works(sum: usize, part: usize) -> Vec<(&'static str, usize)> {
     fixed.into_iter().chain(less).collect()
 }
 
-/// Lengths of the report's buffer, of a corpus whose report has so many bytes.
-fn reports(length: usize) -> [(&'static str, usize); 4] {
+/// Lengths of the output buffer, of a corpus whose output has so many bytes.
+fn rooms(length: usize) -> [(&'static str, usize); 4] {
     [
         ("0", 0),
         ("the length less 1", length - 1),
@@ -38,32 +38,32 @@ fn reports(length: usize) -> [(&'static str, usize); 4] {
 }
 
 /// Asks, compares and counts.
-pub(crate) struct Asked {
+pub(crate) struct Asked<J> {
     pub(crate) caller: Caller,
     random: Random,
     pub(crate) corpora: u64,
-    pub(crate) tally: Tally,
+    tally: J,
     /// how often each two lengths of the buffers were asked of an accepted corpus
     lengths: BTreeMap<(&'static str, &'static str), u64>,
 }
 
-impl Asked {
-    pub(crate) fn new(seed: u64) -> Asked {
+impl<J: Judged> Asked<J> {
+    pub(crate) fn new(seed: u64) -> Asked<J> {
         Asked {
-            caller: Caller::new(seed),
+            caller: Caller::new(J::call, seed),
             random: Random(seed),
             corpora: 0,
-            tally: Tally::default(),
+            tally: J::default(),
             lengths: BTreeMap::new(),
         }
     }
 
     /// The call's answer, which has to be the one that is expected.
-    fn same(&mut self, corpus: &[u8], work: usize, report: usize, expected: &Answer) {
-        let given = self.caller.ask(corpus, work, report);
+    fn same(&mut self, corpus: &[u8], work: usize, room: usize, expected: &Answer) {
+        let given = self.caller.ask(corpus, work, room);
         assert!(
             given == *expected,
-            "call {}, oracle and model {}; work {work}, report {report}, corpus {}",
+            "call {}, oracle and model {}; work {work}, room {room}, corpus {}",
             told(&given),
             told(expected),
             shown(corpus)
@@ -72,18 +72,18 @@ impl Asked {
     }
 
     /// All three about a corpus with these buffers.
-    pub(crate) fn ask(&mut self, corpus: &[u8], work: usize, report: usize) -> Answer {
-        let expected = both(corpus, work as u64, report as u64);
-        self.same(corpus, work, report, &expected);
+    pub(crate) fn ask(&mut self, corpus: &[u8], work: usize, room: usize) -> Answer {
+        let expected = J::both(corpus, work as u64, room as u64);
+        self.same(corpus, work, room, &expected);
         expected
     }
 
     /// All three about another corpus, with buffers of many lengths; whether it is accepted where there is room.
     pub(crate) fn ask_closely(&mut self, corpus: &[u8]) -> bool {
         self.corpora += 1;
-        let answer = both(corpus, ROOM, ROOM);
+        let answer = J::both(corpus, ROOM, ROOM);
         match &answer {
-            Ok(report) => self.accepted(corpus, report),
+            Ok(output) => self.accepted(corpus, output),
             Err(_) => self.refused(corpus, &answer),
         }
         answer.is_ok()
@@ -99,40 +99,48 @@ impl Asked {
     }
 
     /// An accepted corpus with every two lengths that are near a limit; oracle and model are asked about one of them.
-    fn accepted(&mut self, corpus: &[u8], report: &[u8]) {
+    fn accepted(&mut self, corpus: &[u8], output: &[u8]) {
         let sum = census(corpus).work() as usize;
         let works = works(sum, self.random.below(1_000) as usize);
         let judged = self.random.below(4 * works.len() as u64);
-        let both_of = |work| reports(report.len()).map(|report| (work, report));
+        let both_of = |work| rooms(output.len()).map(|room| (work, room));
         let lengths = works.into_iter().flat_map(both_of);
-        for (i, ((work_name, work), (report_name, length))) in (0..).zip(lengths) {
-            let expected = if work < sum {
+        for (i, ((work_name, work), (room_name, room))) in (0..).zip(lengths) {
+            let expected = if J::ASKS_WORK && work < sum {
                 Err((25, 0))
-            } else if length < report.len() {
+            } else if room < output.len() {
                 Err((26, 0))
             } else {
-                Ok(report.to_vec())
+                Ok(output.to_vec())
             };
-            self.same(corpus, work, length, &expected);
-            *self.lengths.entry((work_name, report_name)).or_default() += 1;
+            self.same(corpus, work, room, &expected);
+            *self.lengths.entry((work_name, room_name)).or_default() += 1;
             if i == judged {
-                assert!(both(corpus, work as u64, length as u64) == expected);
+                assert!(J::both(corpus, work as u64, room as u64) == expected);
             }
         }
     }
 
     /// What never was asked or answered.
-    pub(crate) fn missing(&self) -> Vec<String> {
+    fn missing(&self) -> Vec<String> {
         let mut out = self.tally.missing();
         out.extend(self.caller.missing());
         for (work, _) in works(64, 0) {
-            for (report, _) in reports(9) {
-                if !self.lengths.contains_key(&(work, report)) {
-                    out.push(format!("work {work}, report {report}"));
+            for (room, _) in rooms(9) {
+                if !self.lengths.contains_key(&(work, room)) {
+                    out.push(format!("work {work}, room {room}"));
                 }
             }
         }
         out
+    }
+
+    /// Tells what was asked and answered: at least so many corpora, and all that there is to ask and to answer.
+    pub(crate) fn all_of(&self, least: u64) {
+        let (corpora, calls) = (self.corpora, self.caller.calls);
+        println!("{corpora} corpora, {calls} calls: {}", self.tally.told());
+        assert_eq!(self.missing(), Vec::<String>::new());
+        assert!(corpora >= least);
     }
 }
 

@@ -3,6 +3,7 @@ use corpus::damage::{Fault, accents, faults, sound};
 use corpus::draft::Draft;
 
 use crate::both::both;
+use crate::judged::{Judged, Reports};
 use crate::lent::Caller;
 
 /// Asks about a draft with some faults, of which the first decides.
@@ -17,7 +18,7 @@ fn first_decides(caller: &mut Caller, base: &Draft, all: &[&Fault]) {
 
 #[test]
 fn each_alone_and_the_first_of_two() {
-    let mut caller = Caller::new(3);
+    let mut caller = Caller::new(Reports::call, 3);
     for seed in 40..42 {
         let base = sound(seed);
         let all = faults(&base);
@@ -35,7 +36,7 @@ fn each_alone_and_the_first_of_two() {
 /// Imported names beyond ASCII are accepted, and whatever fault is beside them decides.
 #[test]
 fn accents_are_no_fault() {
-    let mut caller = Caller::new(8);
+    let mut caller = Caller::new(Reports::call, 8);
     let base = sound(43);
     for accent in accents(&base) {
         let mut draft = base.clone();

@@ -55,8 +55,12 @@ fn noise(seed: u8, i: usize) -> u8 {
     seed.wrapping_add((i as u8).wrapping_mul(29)) ^ (i >> 8) as u8
 }
 
+/// A corpus, a work buffer and an output buffer give a number.
+pub(crate) type Call = fn(&[u8], &mut [u8], &mut [u8]) -> u64;
+
 /// Calls with buffers that start anywhere and hold anything.
 pub(crate) struct Caller {
+    of: Call,
     random: Random,
     corpus: Buffer,
     work: Buffer,
@@ -67,8 +71,9 @@ pub(crate) struct Caller {
 }
 
 impl Caller {
-    pub(crate) fn new(seed: u64) -> Caller {
+    pub(crate) fn new(of: Call, seed: u64) -> Caller {
         Caller {
+            of,
             random: Random(seed),
             corpus: Buffer::default(),
             work: Buffer::default(),
@@ -120,7 +125,7 @@ impl Caller {
     fn call(&mut self, corpus: &[u8]) -> u64 {
         self.calls += 1;
         let (work, report) = (self.work.lent(), self.report.lent());
-        let number = report::class_report(self.corpus.lent(), work, report);
+        let number = (self.of)(self.corpus.lent(), work, report);
         let intact = [&self.corpus, &self.work, &self.report].map(Buffer::intact);
         assert_eq!(intact, [true; 3], "around corpus, work and report");
         assert!(self.corpus.lent() == corpus, "the corpus was written to");

@@ -1,4 +1,4 @@
-//! The report call against oracle and model, with buffers of every kind.
+//! The calls against oracle and model, with buffers of every kind.
 mod agree;
 mod asked;
 #[path = "../../../oracle/tests/both/mod.rs"]
@@ -6,6 +6,8 @@ mod both;
 mod demand3;
 mod faults;
 mod hostile;
+mod judged;
 mod lent;
 mod recorded;
 mod sized;
+mod verify;

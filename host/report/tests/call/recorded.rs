@@ -2,6 +2,7 @@
 use corpus::list::read;
 use corpus::tally::Tally;
 
+use crate::judged::{Judged, Reports};
 use crate::lent::Caller;
 
 #[test]
@@ -12,7 +13,7 @@ fn answers_as_recorded() {
     );
     let list = std::fs::read(list).expect("the recorded list");
     let cases = read(&list).expect("a whole list");
-    let mut caller = Caller::new(4);
+    let mut caller = Caller::new(Reports::call, 4);
     let mut tally = Tally::default();
     for (i, case) in cases.iter().enumerate() {
         let given = caller.ask(&case.corpus, case.work as usize, case.buffer as usize);

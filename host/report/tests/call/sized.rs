@@ -3,9 +3,10 @@ use corpus::census::census;
 use corpus::generate::{sized, sized_edges};
 
 use crate::asked::Asked;
+use crate::judged::Reports;
 
 /// Accepted with a buffer of just that length, refused with a byte less.
-fn has(asked: &mut Asked, length: usize) {
+fn has(asked: &mut Asked<Reports>, length: usize) {
     let corpus = sized(length as u64).bytes();
     let work = census(&corpus).work() as usize;
     let report = asked.ask(&corpus, work, length).expect("room for it");

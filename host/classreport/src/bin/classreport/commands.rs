@@ -3,7 +3,7 @@ use std::fmt::Write;
 
 use crate::args::{Flag, Words};
 use crate::failure::Failure;
-use crate::{diff, explain, files, show, summary, why};
+use crate::{diff, explain, files, show, summary, verify, why};
 
 pub struct Command {
     pub name: &'static str,
@@ -55,7 +55,8 @@ Everywhere:
   -h, --help            this
   -V, --version         the version
 
-Exit status: 0 done, 1 refused or differing, 2 usage, 3 input or output, 4 malformed file.
+Exit status: 0 done, 1 refused or differing, 2 usage, 3 input or output, 4 malformed file, 5 a hash or id that does not
+match (`verify`).
 ";
 
 /// What the inputs are.
@@ -65,7 +66,7 @@ packages.tsv lists them (ID, a tab, the file; in corpus order, ids may repeat). 
 what `report` writes. INPUT is any of them, - is standard input.
 ";
 
-pub static COMMANDS: [Command; 10] = [
+pub static COMMANDS: [Command; 11] = [
     Command {
         name: "show",
         operands: "INPUT",
@@ -144,6 +145,32 @@ Examples:
   classreport why --package '/Game/Booth/*' build Bulb
 ",
         run: why::run,
+    },
+    Command {
+        name: "verify",
+        operands: "BUILD|CORPUS",
+        count: (1, 1),
+        flags: &[FORMAT, EXAMPLE, WIDTH],
+        about: "whether a build has the hashes of its own names",
+        help: "\
+Compares the global index of each script object with the hash of its path, and the id of each package with that of its
+name. The counts and the flags are the proved call's; which objects they are is found by the program and compared.
+
+Options:
+  -f, --format FORMAT   table, or json: one object, with all that was found
+      --width COLUMNS   how wide a table may be; a terminal's own width otherwise
+      --example         the example in place of the input
+
+Packages that do not match stand first in the table; json has them in corpus order. Where anything does not match, a line
+on standard error says how much it is, and the exit status is 5. Objects whose path is not known are shown too; they are no
+fault. With -q no table is written.
+
+Examples:
+  classreport verify build
+  classreport verify -q build || echo 'do not start the campaign'
+  classreport verify -f json build | jq '.mismatched'
+",
+        run: verify::run,
     },
     Command {
         name: "diff",

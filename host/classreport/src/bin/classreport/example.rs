@@ -1,5 +1,5 @@
 //! A small build of a listening booth, with what an engineer looks for: two speakers of one name, chains through several
-//! packages, a package that is missing and a ring.
+//! packages, a package that is missing and a ring. Its indices and ids are the hashes of its names.
 use corpus::name::id;
 use corpus::{Described, Export, NULL, Package, Text, import_index, script_index};
 
@@ -143,6 +143,7 @@ pub fn corpus() -> Vec<u8> {
     build.packages = drafts
         .map(|draft| (id(draft.name), draft.package))
         .collect();
+    let mut build = build.hashed();
     build.packages.sort_by_key(|(id, _)| *id);
     build.bytes()
 }

@@ -26,6 +26,8 @@ enum Kind {
     Usage,
     Files,
     Malformed,
+    /// hashes or ids that are not those of the names
+    Mismatch,
     /// nobody reads what is written
     Closed,
 }
@@ -46,6 +48,11 @@ impl Failure {
 
     pub fn malformed(message: impl Into<String>) -> Failure {
         Failure::new(Kind::Malformed, message)
+    }
+
+    /// Hashes or ids that are not those of the names.
+    pub fn mismatch(message: impl Into<String>) -> Failure {
+        Failure::new(Kind::Mismatch, message)
     }
 
     /// A refusal, and the id of the package that it names.
@@ -88,7 +95,7 @@ impl Failure {
         self
     }
 
-    /// 0 done, 1 refused or differing, 2 usage, 3 input or output, 4 malformed file.
+    /// 0 done, 1 refused or differing, 2 usage, 3 input or output, 4 malformed file, 5 mismatch.
     pub fn status(&self) -> u8 {
         match self.kind {
             Kind::Closed => 0,
@@ -96,6 +103,7 @@ impl Failure {
             Kind::Usage => 2,
             Kind::Files => 3,
             Kind::Malformed => 4,
+            Kind::Mismatch => 5,
         }
     }
 
@@ -128,6 +136,7 @@ impl Failure {
             Kind::Usage => "usage",
             Kind::Files => "files",
             Kind::Malformed => "malformed",
+            Kind::Mismatch => "mismatch",
             Kind::Closed => "closed",
         };
         let mut fields = vec![

@@ -3,7 +3,7 @@ use std::ffi::{OsStr, OsString};
 use std::io::{self, Read};
 use std::path::{Path, PathBuf};
 
-use classreport::{Corpus, Refusal, Report};
+use classreport::{Corpus, Refusal, Report, Verified};
 
 use crate::args::Words;
 use crate::example;
@@ -13,7 +13,7 @@ use crate::progress::Progress;
 
 /// A corpus, and where it came from.
 pub struct Source {
-    name: PathBuf,
+    pub name: PathBuf,
     pub bytes: Vec<u8>,
     /// of a build: the files of its blocks
     files: Vec<PathBuf>,
@@ -29,9 +29,19 @@ pub struct Subject {
 impl Source {
     /// The report of the call.
     pub fn report(&self, words: &Words) -> Result<Report<'static>, Failure> {
-        let (name, size) = (self.name.display(), self.bytes.len() / 1_000_000);
-        let _shown = Progress::start(words, format!("{name}: the call reads {size} MB"));
+        let _shown = self.progress(words);
         classreport::report(&self.bytes).map_err(|refusal| self.refused(refusal))
+    }
+
+    /// What the call finds about the hashes of its names.
+    pub fn verified(&self, words: &Words) -> Result<Verified, Failure> {
+        let _shown = self.progress(words);
+        classreport::verify(&self.bytes).map_err(|refusal| self.refused(refusal))
+    }
+
+    fn progress(&self, words: &Words) -> Progress {
+        let (name, size) = (self.name.display(), self.bytes.len() / 1_000_000);
+        Progress::start(words, format!("{name}: the call reads {size} MB"))
     }
 
     /// A refusal, told with the file and the id of its package.

@@ -1,26 +1,48 @@
-//! Rows as JSON lines (RFC 8259, one object to a line).
+//! Rows as JSON lines (RFC 8259, one object to a line), or as an array.
 use std::fmt::Write as _;
 use std::io::{self, Write};
 
 use crate::sheet::{Cell, Rows, shown_id};
 
 pub fn write(rows: &dyn Rows, out: &mut dyn Write) -> io::Result<()> {
-    let names: Vec<String> = rows.header().into_iter().map(quoted).collect();
+    let names = names(rows);
     let mut line = String::new();
     rows.each(&mut |cells| {
         line.clear();
-        line.push('{');
-        for (place, (name, cell)) in names.iter().zip(cells).enumerate() {
-            if place > 0 {
-                line.push(',');
-            }
-            line.push_str(name);
-            line.push(':');
-            put(&mut line, cell);
-        }
-        line.push_str("}\n");
+        put_object(&mut line, &names, cells);
+        line.push('\n');
         out.write_all(line.as_bytes())
     })
+}
+
+/// All rows as a JSON array.
+pub fn array(rows: &dyn Rows) -> io::Result<String> {
+    let names = names(rows);
+    let mut all = Vec::new();
+    rows.each(&mut |cells| {
+        let mut object = String::new();
+        put_object(&mut object, &names, cells);
+        all.push(object);
+        Ok(())
+    })?;
+    Ok(format!("[{}]", all.join(",")))
+}
+
+fn names(rows: &dyn Rows) -> Vec<String> {
+    rows.header().into_iter().map(quoted).collect()
+}
+
+fn put_object(line: &mut String, names: &[String], cells: &[Cell]) {
+    line.push('{');
+    for (place, (name, cell)) in names.iter().zip(cells).enumerate() {
+        if place > 0 {
+            line.push(',');
+        }
+        line.push_str(name);
+        line.push(':');
+        put(line, cell);
+    }
+    line.push('}');
 }
 
 fn put(line: &mut String, cell: &Cell) {

@@ -26,6 +26,7 @@ mod summary;
 mod table;
 mod terminal;
 mod text;
+mod verify;
 mod why;
 
 use std::env;
