@@ -4,7 +4,8 @@
  *
  * Link with target/staticlib/libcapi.a, which `rt staticlib capi` writes (x86-64 Linux).
  *
- *     uint64_t answer = class_report(corpus, corpus_len, work, work_len, report, report_len);
+ *     uint64_t answer = class_report(corpus, corpus_len, CLASSREPORT_MOST_LOOKUPS, CLASSREPORT_MOST_OBJECTS,
+ *                                    work, work_len, report, report_len);
  *     if (classreport_refused(answer))
  *         fprintf(stderr, "refused %u in block %u: %s\n", classreport_question(answer),
  *                 classreport_block(answer), classreport_failed(classreport_question(answer)));
@@ -21,6 +22,11 @@
 extern "C" {
 #endif
 
+/* The greatest limits of a call: how many classes a chain may look up, and how many objects a path may have, its own
+   counted. The booths have these; the teaching rooms have 8 and 4. */
+#define CLASSREPORT_MOST_LOOKUPS UINT32_C(64)
+#define CLASSREPORT_MOST_OBJECTS UINT32_C(65)
+
 /*
  * Writes the report of `corpus` to the front of `report` and returns its length, or returns a refusal (below) and
  * leaves `report` as it was. Bytes of `report` behind the report are left as they were.
@@ -30,10 +36,12 @@ extern "C" {
  * - `work` may hold anything before and does after. It needs 64 bytes for each script object, class and candidate of
  *   the corpus (question 25); classreport_work_enough() gives a length that is always enough.
  * - `report` needs the report's length (question 26). No report is longer than CLASSREPORT_LONGEST.
+ * - `lookups` is 1 to CLASSREPORT_MOST_LOOKUPS and `objects` 1 to CLASSREPORT_MOST_OBJECTS; any other number is
+ *   refused before the corpus is looked at (question 29).
  * - No other condition: any bytes may be handed in. Several threads may call at a time with buffers of their own.
  */
-uint64_t class_report(const uint8_t *corpus, size_t corpus_len, uint8_t *work, size_t work_len, uint8_t *report,
-                      size_t report_len);
+uint64_t class_report(const uint8_t *corpus, size_t corpus_len, uint32_t lookups, uint32_t objects, uint8_t *work,
+                      size_t work_len, uint8_t *report, size_t report_len);
 
 /*
  * Compares the hashes of `corpus` with its names. Writes what it finds to the front of `out` and returns its length, 25 and
@@ -49,7 +57,8 @@ uint64_t class_report(const uint8_t *corpus, size_t corpus_len, uint8_t *work, s
  *     4 bytes   how many packages there are
  *     1 byte    for each package, in the order of the corpus: 1 where its id is that of its name, else 0
  *
- * - The questions are the report's, but 25 is not asked, and 26 is of `out`: has it the length? classreport_verify_enough()
+ * - The questions are the report's at its greatest limits, but 25 and 29 are not asked, and 26 is of `out`: has it the
+ *   length? classreport_verify_enough()
  *   gives one that is always enough.
  * - `work` may have any length. The answer never depends on it, only the time does: classreport_work_enough(), twice the
  *   corpus's length, is always enough for speed.
@@ -90,7 +99,7 @@ static inline int classreport_refused(uint64_t answer) { return (int)(answer >> 
 /* The length of what was written, where the answer is none. */
 static inline uint64_t classreport_length(uint64_t answer) { return classreport_refused(answer) ? 0 : answer; }
 
-/* The question that failed, 1 to 26 (23 is retired), or 0 where none did: bits 32 to 39. */
+/* The question that failed, 1 to 26 (23 is retired) or 29, or 0 where none did: bits 32 to 39. */
 static inline unsigned classreport_question(uint64_t answer) {
     return classreport_refused(answer) ? (unsigned)(answer >> 32 & 0xff) : 0;
 }
@@ -106,7 +115,8 @@ static inline uint32_t classreport_package(uint64_t answer) {
     return block > 1 ? block - 1 : 0;
 }
 
-/* The questions. They are asked in this order, except that 3 to 7 and 10 are asked wherever their field is read. */
+/* The questions. They are asked in this order, except that 29 is the first, and 3 to 7 and 10 are asked wherever their
+   field is read. */
 enum classreport_refusal {
     CLASSREPORT_NONE = 0,
     /* Does the corpus's length equal 4 plus its first length, with at least the version byte? Does every further
@@ -161,7 +171,9 @@ enum classreport_refusal {
     /* Has the work buffer at least 64 bytes for each script object, class and candidate? */
     CLASSREPORT_WORK = 25,
     /* Is the report, or what class_verify writes, at most 4,294,967,299 bytes long, and within its buffer? */
-    CLASSREPORT_REPORT = 26
+    CLASSREPORT_REPORT = 26,
+    /* Is the lookup limit 1 to 64, and the object limit 1 to 65? */
+    CLASSREPORT_LIMITS = 29
 };
 
 /* What is wrong where a question failed, in a few words. */
@@ -192,6 +204,7 @@ static inline const char *classreport_failed(unsigned question) {
     case CLASSREPORT_KEY_TWICE: return "a class key comes twice";
     case CLASSREPORT_WORK: return "the work buffer is too short";
     case CLASSREPORT_REPORT: return "the report is too long";
+    case CLASSREPORT_LIMITS: return "a limit is out of its range";
     default: return "nothing";
     }
 }

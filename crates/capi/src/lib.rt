@@ -1,18 +1,26 @@
 // The call as C sees it (document 01): each slice is a pointer and a length.
 ghost use Rattle.claims.specs.Claims.{Called};
 ghost use Rattle.claims.specs.Verify as Verify;
+use base::answer::refuse;
+use limits::in_range;
 
-// This version's limits: "64 lookups at most", "at most 65 objects".
-const LOOKUPS: usize = 64;
+mod limits; // question 29
 
-const OBJECTS: usize = 65;
-
-// The class report of a corpus. What `work` holds in the end is free.
+// The class report of a corpus, within so many lookups and objects. What `work` holds in the end is free.
 #[no_mangle]
-pub extern "C" fn class_report(corpus: &[u8], work: &mut [u8], report: &mut [u8]) -> u64
-    ensures { λ r. ⌜ Called (now (corpus .entry)) (now (work .entry)) (now (report .entry)) r (now (report .exit)) ⌝ }
+pub extern "C" fn class_report(
+    corpus: &[u8],
+    lookups: u32,
+    objects: u32,
+    work: &mut [u8],
+    report: &mut [u8],
+) -> u64
+    ensures { λ r. ⌜ Called (now (corpus .entry)) lookups objects (now (work .entry)) (now (report .entry)) r (now (report .exit)) ⌝ }
 {
-    report::call::class_report(corpus, work, report, LOOKUPS, OBJECTS)
+    if in_range(lookups, objects) {
+        return report::call::class_report(corpus, work, report, lookups as usize, objects as usize);
+    }
+    refuse(29, 0)
 }
 
 // A build's own hashes (document 02, Q-2): its counts, and a flag for each package. `work` may have any length, and the answer is the same; with twice

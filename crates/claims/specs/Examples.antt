@@ -1,5 +1,6 @@
 -- CLAUSE D: "The examples above form one theorem about the definitions". Document 01's "Table of proved examples" and its "Mistaken readings", in
--- their order; `answer limits corpus work room` is the definition, `asked corpus` the same with buffers that are long enough.
+-- their order; `answerWithin limits corpus work room` is the definition with document 01's limits, 64 and 65, `asked corpus`
+-- the same with buffers that are long enough.
 use mathlib.Core.Path.{_≡_}
 use mathlib.Core.List.{List, [], _∷_, _++_}
 use Prim.Native.Nat.{ℕ, zero, suc, _+_}
@@ -12,7 +13,8 @@ use Rattle.base.specs.Literal.{quoted}
 use Rattle.text.specs.Name.{suffix}
 use Rattle.zen.specs.Written.{le4, le8, scriptIndex, nullIndex, object, scriptBytes, packageWith, packageBytes}
 use Rattle.zen.specs.declared.tables.Export.{Export}
-use Rattle.meaning.specs.Call.{refusedIn, accepted, answer, numberOf, limits}
+use Rattle.meaning.specs.Call.{refusedIn, accepted, numberOf, limits}
+use Rattle.meaning.specs.Limited.{answerWithin}
 use Rattle.meaning.specs.Computed.{asked}
 use Rattle.meaning.specs.Written.{corpusFrom, corpusOf, reported, texts}
 use Rattle.meaning.specs.Examples.{Examples, examples, noObjects, twoObjects, plain, withTone, toneRow, classWith}
@@ -22,11 +24,11 @@ pub clause-d : Examples
 clause-d = examples
 
 -- "Corpus `00 00 00 11 01 00 00 00 08` + 12 zero bytes: report `00 00 00 05 01 00 00 00 00`."
-pub example-least : answer limits (0 ∷ 0 ∷ 0 ∷ 0x11 ∷ 1 ∷ 0 ∷ 0 ∷ 0 ∷ 8 ∷ replicate 12 0) 0 9 ≡ accepted (0 ∷ 0 ∷ 0 ∷ 5 ∷ 1 ∷ 0 ∷ 0 ∷ 0 ∷ 0 ∷ [])
+pub example-least : answerWithin limits (0 ∷ 0 ∷ 0 ∷ 0x11 ∷ 1 ∷ 0 ∷ 0 ∷ 0 ∷ 8 ∷ replicate 12 0) 0 9 ≡ accepted (0 ∷ 0 ∷ 0 ∷ 5 ∷ 1 ∷ 0 ∷ 0 ∷ 0 ∷ 0 ∷ [])
 example-least = examples .least-report
 
 -- "Version 2 there: 2."
-pub example-version : numberOf (answer limits (0 ∷ 0 ∷ 0 ∷ 0x11 ∷ 2 ∷ 0 ∷ 0 ∷ 0 ∷ 8 ∷ replicate 12 0) 0 9) ≡ 0x8000_0002_0000_0000
+pub example-version : numberOf (answerWithin limits (0 ∷ 0 ∷ 0 ∷ 0x11 ∷ 2 ∷ 0 ∷ 0 ∷ 0 ∷ 8 ∷ replicate 12 0) 0 9) ≡ 0x8000_0002_0000_0000
 example-version = examples .version-2-number
 
 -- "Package named `A`, all offsets 87, header 91: section of 21 bytes; header 92 in 91 bytes: 15."

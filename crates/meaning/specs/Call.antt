@@ -126,7 +126,8 @@ unfoldable pub bufferAfter : Answer (List ℕ) → List ℕ → List ℕ
 bufferAfter (refusedIn q j) old = old
 bufferAfter (accepted report) old = over old report
 
--- THE CALL: the number that it returns and what the report buffer then holds; of the work buffer only the length counts
+-- THE CALL within limits that it may have (Limited.antt: question 29): the number that it returns and what the report buffer then holds; of the work
+-- buffer only the length counts
 pub record Outcome : Type 0 where
   pub number : ℕ
   pub report : List ℕ
@@ -137,6 +138,6 @@ outcome m corpus work old = record {
   report = bufferAfter (answer m corpus (length work) (length old)) old;
 }
 
--- this version's limits: "64 lookups at most", "at most 65 objects"
+-- "64 lookups at most", "at most 65 objects": document 01's limits, and those of a later call "without limits of its own"
 abbrev pub limits : Limits
 limits = record { lookups = 64; objects = 65 }

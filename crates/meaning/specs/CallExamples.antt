@@ -8,7 +8,8 @@ use Rattle.base.specs.Output.{over}
 use Rattle.zen.specs.Written.{scriptIndex, nullIndex, object, scriptBytes, packageBytes}
 use Rattle.zen.specs.declared.tables.Export.{Export}
 use Rattle.meaning.specs.Frame.{Part}
-use Rattle.meaning.specs.Call.{refusedIn, accepted, answer, bufferAfter, outcome, limits}
+use Rattle.meaning.specs.Call.{refusedIn, accepted, bufferAfter, limits}
+use Rattle.meaning.specs.Limited.{answerWithin, outcomeWithin}
 use Rattle.meaning.specs.Bytes.{partBytes, packagesBytes, corpusRest, corpusBytes}
 use Rattle.meaning.specs.Computed.{asked}
 use Rattle.meaning.specs.Written.{corpusFrom, reported}
@@ -84,24 +85,24 @@ pub record CallExamples : Type 0 where
   -- within one package, and whatever the buffers; an export of that hash that is no class, or that hash under another id, is none
   pub blocks-before-24 : asked (corpusFrom twoObjects (holds 8 (class 1 ∷ class 1 ∷ []) ∷ short ∷ [])) ≡ refusedIn 3 3
   pub key-twice-within : asked (corpusFrom twoObjects (holds 8 (class 1 ∷ []) ∷ holds 9 (class 1 ∷ class 2 ∷ class 1 ∷ []) ∷ [])) ≡ refusedIn 24 3
-  pub key-twice-first : answer limits (corpusFrom twoObjects (holds 8 (class 1 ∷ class 1 ∷ []) ∷ [])) 0 0 ≡ refusedIn 24 2
+  pub key-twice-first : answerWithin limits (corpusFrom twoObjects (holds 8 (class 1 ∷ class 1 ∷ []) ∷ [])) 0 0 ≡ refusedIn 24 2
   pub key-of-no-class : asked (corpusFrom twoObjects (holds 9 (class 1 ∷ noClass ∷ []) ∷ [])) ≡ accepted (reported "P" 2 [])
   -- "Work at least 64 × (script objects + classes + candidates) bytes? 25"; "One export may be class and candidate"
-  pub work-575 : answer limits weighty 575 0 ≡ refusedIn 25 0
-  pub work-576 : answer limits weighty 576 0 ≡ refusedIn 26 0
+  pub work-575 : answerWithin limits weighty 575 0 ≡ refusedIn 25 0
+  pub work-576 : answerWithin limits weighty 576 0 ≡ refusedIn 26 0
   -- "Accepted: the report's length. Refused: bit 63 set, the refusal in bits 32 to 39, the block in bits 0 to 31, all else 0"; "bytes past the
   -- report and the whole buffer on refusal being unchanged, and only the work buffer's final bytes are free"
   pub accepted-outcome :
-      outcome limits (least 1) [] (replicate 11 7) ≡ record { number = 9; report = 0 ∷ 0 ∷ 0 ∷ 5 ∷ 1 ∷ 0 ∷ 0 ∷ 0 ∷ 0 ∷ 7 ∷ 7 ∷ [] }
-  pub refused-outcome : outcome limits (least 1) [] (replicate 8 7) ≡ record { number = 0x8000_001A_0000_0000; report = replicate 8 7 }
+      outcomeWithin limits (least 1) [] (replicate 11 7) ≡ record { number = 9; report = 0 ∷ 0 ∷ 0 ∷ 5 ∷ 1 ∷ 0 ∷ 0 ∷ 0 ∷ 0 ∷ 7 ∷ 7 ∷ [] }
+  pub refused-outcome : outcomeWithin limits (least 1) [] (replicate 8 7) ≡ record { number = 0x8000_001A_0000_0000; report = replicate 8 7 }
   pub refused-block :
-      outcome limits (corpusFrom noObjects (short ∷ [])) [] (7 ∷ []) ≡ record { number = 0x8000_0003_0000_0002; report = 7 ∷ [] }
+      outcomeWithin limits (corpusFrom noObjects (short ∷ [])) [] (7 ∷ []) ≡ record { number = 0x8000_0003_0000_0002; report = 7 ∷ [] }
   pub work-counts :
-      outcome limits (corpusFrom noObjects (record { id = 9; block = withTone [] nullIndex } ∷ [])) (replicate 63 7) (replicate 200 7)
+      outcomeWithin limits (corpusFrom noObjects (record { id = 9; block = withTone [] nullIndex } ∷ [])) (replicate 63 7) (replicate 200 7)
       ≡ record { number = 0x8000_0019_0000_0000; report = replicate 200 7 }
 
 pub call-examples : CallExamples
-unfolding asked corpusBytes corpusRest packagesBytes partBytes outcome bufferAfter over
+unfolding asked corpusBytes corpusRest packagesBytes partBytes outcomeWithin bufferAfter over
 call-examples = record {
   no-bytes = refl;
   three-bytes = refl;

@@ -28,7 +28,7 @@ pub data Outers (o : Objects) : ℕ → List Entry → Type 0 where
   within : {g : ℕ} {e : Entry} {es : List Entry} → List·Memᴰ e (o .entries) → e .global ≡ g → Outers o (e .outer) es → Outers o g (e ∷ es)
 
 -- "some chain, as document 01 defines it, of at most 64 class lookups leads from the row's class reference to a script object whose
--- outer chain, of at most 65 known objects, ends in a null index"
+-- outer chain, of at most 65 known objects, ends in a null index"; document 02, Q-5: "demand 3 counts by both" limits of the call
 pub record NativeKnown (m : Limits) (t : List Class) (o : Objects) (r : Ref) : Type 0 where
   pub classes : List Class
   pub index : ℕ

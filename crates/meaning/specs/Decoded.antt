@@ -23,6 +23,8 @@ use Rattle.meaning.specs.Resolve.{Limits}
 use Rattle.meaning.specs.Call.{Answer, refusedIn, accepted, Placed, placedFrom, answer, numberOf}
 use Rattle.meaning.specs.Accepted.{packagesIn, good-length}
 use Rattle.meaning.specs.Fits.{few-packages, report-short}
+use Rattle.meaning.specs.Limited.{answerWithin}
+use Rattle.meaning.specs.LimitedLaws.{accepted-in, FirstOf, first-of}
 use Rattle.meaning.specs.Order.{FirstFailed, framing, script-block, package-block, key-twice, work-short, report-long, first-failed}
 
 -- ---- what a number says
@@ -89,34 +91,57 @@ refusals m s b work room q j e = go (first-failed m s work room q j .0 e)
     go (work-short h short) = record { question = omega arith; kept = λ z. omega arith; block = omega arith }
     go (report-long h enough long) = record { question = omega arith; kept = λ z. omega arith; block = omega arith }
 
+-- the refusals of a call with its limits: 29 besides
+pub record RefusalWithin (q j : ℕ) : Type 0 where
+  pub question : Within 1 26 q ⊎ (q ≡ 29)
+  pub kept : 22 < q → 24 ≤ q
+  pub block : j < 2 ^ 32
+
+pub refusals-within : (m : Limits) (s : List ℕ) → Bytes s → (work room q j : ℕ) → answerWithin m s work room ≡ refusedIn q j → RefusalWithin q j
+refusals-within m s b work room q j e = go (first-of m s work room q j .0 e)
+  where
+    go : FirstOf m s work room q j → RefusalWithin q j
+    go (inl (o, is, at)) = record { question = inr is; kept = λ z. omega arith; block = omega arith }
+    go (inr (i, f)) =
+        let r = refusals m s b work room q j (first-failed m s work room q j .1 f) in
+        record { question = inl (r .question); kept = r .kept; block = r .block }
+
+question-fits : {q : ℕ} → Within 1 26 q ⊎ (q ≡ 29) → q < 2 ^ 8
+question-fits (inl (l, h)) = omega arith
+question-fits (inr e) = omega arith
+
 -- ---- THE NUMBER says the answer
 
 module _ (m : Limits) (s : List ℕ) (b : Bytes s) (work room : ℕ) where
-  pub number-decodes : decoded (numberOf (answer m s work room)) ≡ inShort (answer m s work room)
+  no-longer : (report : List ℕ) → answerWithin m s work room ≡ accepted report → length report < 2 ^ 63
+  no-longer report e = let (i, h) = accepted-in m s work room report e in omega (arith, report-short m s work room report h)
+
+  pub number-decodes : decoded (numberOf (answerWithin m s work room)) ≡ inShort (answerWithin m s work room)
   unfolding decoded numberOf
-  number-decodes = go (answer m s work room) refl
+  number-decodes = go (answerWithin m s work room) refl
     where
-      go : (a : Answer (List ℕ)) → answer m s work room ≡ a → decoded (numberOf a) ≡ inShort a
+      go : (a : Answer (List ℕ)) → answerWithin m s work room ≡ a → decoded (numberOf a) ≡ inShort a
       go (refusedIn q j) e =
-          let r = refusals m s b work room q j e in
-          rw (refusal-is q j, refusal-question q j (omega arith) (r .block), refusal-block q j (r .block))
-      go (accepted report) e = rw (length-is-none (length report) (omega (arith, report-short m s work room report e)))
+          let r = refusals-within m s b work room q j e in
+          rw (refusal-is q j, refusal-question q j (question-fits (r .question)) (r .block), refusal-block q j (r .block))
+      go (accepted report) e = rw (length-is-none (length report) (no-longer report e))
 
   -- it is one of 64 bits, and of a refusal's all but 63, 39 to 32 and 31 to 0 are 0
-  pub number-fits : numberOf (answer m s work room) < 2 ^ 64
+  pub number-fits : numberOf (answerWithin m s work room) < 2 ^ 64
   unfolding numberOf
-  number-fits = go (answer m s work room) refl
+  number-fits = go (answerWithin m s work room) refl
     where
-      go : (a : Answer (List ℕ)) → answer m s work room ≡ a → numberOf a < 2 ^ 64
-      go (refusedIn q j) e = let r = refusals m s b work room q j e in omega arith
-      go (accepted report) e = omega (arith, report-short m s work room report e)
+      go : (a : Answer (List ℕ)) → answerWithin m s work room ≡ a → numberOf a < 2 ^ 64
+      go (refusedIn q j) e = let r = refusals-within m s b work room q j e in omega (arith, question-fits (r .question), r .block)
+      go (accepted report) e = omega (arith, no-longer report e)
 
-  pub refusal-bits : (q j : ℕ) → answer m s work room ≡ refusedIn q j → numberOf (answer m s work room) / 2 ^ 40 ≡ 2 ^ 23
+  pub refusal-bits : (q j : ℕ) → answerWithin m s work room ≡ refusedIn q j → numberOf (answerWithin m s work room) / 2 ^ 40 ≡ 2 ^ 23
   unfolding numberOf
-  refusal-bits q j e = let r = refusals m s b work room q j e in rw e (omega arith)
+  refusal-bits q j e = let r = refusals-within m s b work room q j e in let few = question-fits (r .question) in rw e (omega (arith, r .block))
 
--- two calls that return one number have one answer, but for the report's bytes
-pub number-determines : (m : Limits) (s t : List ℕ) → Bytes s → Bytes t → (work room work′ room′ : ℕ)
-    → numberOf (answer m s work room) ≡ numberOf (answer m t work′ room′) → inShort (answer m s work room) ≡ inShort (answer m t work′ room′)
-number-determines m s t b b′ work room work′ room′ e =
-    sym (number-decodes m s b work room) ∙ (ap decoded e ∙ number-decodes m t b′ work′ room′)
+-- two calls that return one number have one answer, but for the report's bytes; each may have limits of its own
+pub number-determines : (m n : Limits) (s t : List ℕ) → Bytes s → Bytes t → (work room work′ room′ : ℕ)
+    → numberOf (answerWithin m s work room) ≡ numberOf (answerWithin n t work′ room′)
+    → inShort (answerWithin m s work room) ≡ inShort (answerWithin n t work′ room′)
+number-determines m n s t b b′ work room work′ room′ e =
+    sym (number-decodes m s b work room) ∙ (ap decoded e ∙ number-decodes n t b′ work′ room′)

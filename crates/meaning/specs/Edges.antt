@@ -7,7 +7,8 @@ use Rattle.base.specs.Literal.{quoted as text}
 use Rattle.text.specs.Id.{idOf}
 use Rattle.zen.specs.Written.{scriptIndex, importIndex, nullIndex, packageBytes}
 use Rattle.meaning.specs.Frame.{Part}
-use Rattle.meaning.specs.Call.{refusedIn, accepted, answer, numberOf, limits}
+use Rattle.meaning.specs.Call.{refusedIn, accepted, numberOf, limits}
+use Rattle.meaning.specs.Limited.{answerWithin}
 use Rattle.meaning.specs.Bytes.{partBytes, packagesBytes, corpusRest, corpusBytes}
 use Rattle.meaning.specs.Computed.{asked}
 use Rattle.meaning.specs.Written.{corpusFrom, corpusOf, sectionBytes, reportBytes, texts}
@@ -50,9 +51,9 @@ pub record Edges : Type 0 where
   -- "24 (block of the first class, in package and export order, whose key an earlier one has)"
   pub key-twice : asked (corpusFrom twoObjects (map with-id (8 ∷ 9 ∷ 9 ∷ 8 ∷ []))) ≡ refusedIn 24 4
   -- "Work at least 64 × (script objects + classes + candidates) bytes? 25. Report [..] within its buffer? 26", in this order
-  pub work-short : answer limits (corpusOf noObjects booth) 63 97 ≡ refusedIn 25 0
-  pub report-short : answer limits (corpusOf noObjects booth) 64 97 ≡ refusedIn 26 0
-  pub just-enough : numberOf (answer limits (corpusOf noObjects booth) 64 98) ≡ 98
+  pub work-short : answerWithin limits (corpusOf noObjects booth) 63 97 ≡ refusedIn 25 0
+  pub report-short : answerWithin limits (corpusOf noObjects booth) 64 97 ≡ refusedIn 26 0
+  pub just-enough : numberOf (answerWithin limits (corpusOf noObjects booth) 64 98) ≡ 98
 
 pub edges : Edges
 unfolding asked corpusBytes corpusRest packagesBytes partBytes

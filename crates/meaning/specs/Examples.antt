@@ -11,7 +11,8 @@ use Rattle.text.specs.Id.{idOf}
 use Rattle.text.specs.Name.{suffix}
 use Rattle.zen.specs.Written.{le4, le8, scriptIndex, nullIndex, object, scriptBytes, packageWith, packageBytes}
 use Rattle.zen.specs.declared.tables.Export.{Export}
-use Rattle.meaning.specs.Call.{refusedIn, accepted, answer, numberOf, limits}
+use Rattle.meaning.specs.Call.{refusedIn, accepted, numberOf, limits}
+use Rattle.meaning.specs.Limited.{answerWithin}
 use Rattle.meaning.specs.Bytes.{partBytes, packagesBytes, corpusRest, corpusBytes}
 use Rattle.meaning.specs.Computed.{asked}
 use Rattle.meaning.specs.Written.{corpusFrom, corpusOf, reported, texts}
@@ -28,10 +29,10 @@ abbrev pub twoObjects : List ℕ
 twoObjects = scriptBytes ("Class" ∷ "Speaker" ∷ []) (object 0 (scriptIndex 0) nullIndex ∷ object 1 (scriptIndex 1) nullIndex ∷ [])
 
 -- a package named `A`, with this header size, and the 21 bytes of its section
-abbrev namedA : ℕ → List ℕ
+abbrev pub namedA : ℕ → List ℕ
 namedA size = packageWith size (replicate 7 87) (record { names = "A" ∷ []; hashes = []; exports = []; imported = [] })
 
-abbrev sectionA : List ℕ
+abbrev pub sectionA : List ℕ
 sectionA = 0 ∷ 0 ∷ 0 ∷ 0 ∷ 0 ∷ 0 ∷ 0 ∷ 9 ∷ 0 ∷ 0 ∷ 0 ∷ 1 ∷ 65 ∷ 0 ∷ 0 ∷ 0 ∷ 0 ∷ 0 ∷ 0 ∷ 0 ∷ 0 ∷ []
 
 -- an export with this name of the batch, outer and class, and no more
@@ -111,10 +112,10 @@ rendered-alike =
 
 pub record Examples : Type 0 where
   -- "report `00 00 00 05 01 00 00 00 00`. Version 2 there: 2"
-  pub least-report : answer limits (least 1) 0 9 ≡ accepted (0 ∷ 0 ∷ 0 ∷ 5 ∷ 1 ∷ 0 ∷ 0 ∷ 0 ∷ 0 ∷ [])
-  pub least-number : numberOf (answer limits (least 1) 0 9) ≡ 9
-  pub version-2 : answer limits (least 2) 0 9 ≡ refusedIn 2 0
-  pub version-2-number : numberOf (answer limits (least 2) 0 9) ≡ 0x8000_0002_0000_0000
+  pub least-report : answerWithin limits (least 1) 0 9 ≡ accepted (0 ∷ 0 ∷ 0 ∷ 5 ∷ 1 ∷ 0 ∷ 0 ∷ 0 ∷ 0 ∷ [])
+  pub least-number : numberOf (answerWithin limits (least 1) 0 9) ≡ 9
+  pub version-2 : answerWithin limits (least 2) 0 9 ≡ refusedIn 2 0
+  pub version-2-number : numberOf (answerWithin limits (least 2) 0 9) ≡ 0x8000_0002_0000_0000
   -- "Package named `A`, all offsets 87, header 91: section of 21 bytes; header 92 in 91 bytes: 15"
   pub header-91 : asked (corpusOf noObjects (namedA 91)) ≡ accepted ((0 ∷ 0 ∷ 0 ∷ 26 ∷ 1 ∷ 0 ∷ 0 ∷ 0 ∷ 1 ∷ []) ++ sectionA)
   pub section-length : length sectionA ≡ 21

@@ -9,6 +9,8 @@ pub mod Scan
 pub mod Resolve
 pub mod Report
 pub mod Call
+-- document 02: the call with its limits
+pub mod Limited
 -- document 02's calls: the build's own hashes
 pub mod Verify
 -- a corpus from the writing side, and demand 3's relation of two corpora
@@ -27,6 +29,7 @@ pub mod CallExamples
 pub mod RowExamples
 pub mod LimitExamples
 pub mod RoomExamples
+pub mod RangeExamples
 pub mod VerifyExamples
 -- the own chain, the native class, rows in the report's bytes
 pub mod OwnChain
@@ -59,6 +62,7 @@ pub mod Sanity
 pub mod Shut
 -- ==== Laws and lemmas
 pub mod Answered
+pub mod LimitedLaws
 pub mod KeyLaws
 pub mod Table
 pub mod Repeats

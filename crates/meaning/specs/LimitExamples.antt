@@ -5,8 +5,9 @@ use mathlib.Core.List.{List, [], _∷_}
 use Prim.Native.Nat.{ℕ}
 use Rattle.zen.specs.Written.{scriptIndex, packageBytes}
 use Rattle.zen.specs.declared.tables.Export.{Export}
-use Rattle.meaning.specs.Resolve.{Limits}
-use Rattle.meaning.specs.Call.{refusedIn, accepted, answer}
+use Rattle.meaning.specs.Resolve.{Limits, limitsOf}
+use Rattle.meaning.specs.Call.{refusedIn, accepted}
+use Rattle.meaning.specs.Limited.{answerWithin}
 use Rattle.meaning.specs.Bytes.{partBytes, packagesBytes, corpusRest, corpusBytes}
 use Rattle.meaning.specs.Computed.{asked}
 use Rattle.meaning.specs.Written.{corpusOf, reported}
@@ -14,7 +15,7 @@ use Rattle.meaning.specs.Examples.{toneRow}
 use Rattle.meaning.specs.RowExamples.{engine, class, tone}
 
 abbrev small : Limits
-small = record { lookups = 1; objects = 2 }
+small = limitsOf 1 2
 
 -- a package with these exports
 abbrev holding : List Export → List ℕ
@@ -28,17 +29,17 @@ pub record LimitExamples : Type 0 where
   -- "a lookup is one step from a key to its class's super, the class itself being the first. 64 lookups at most", "at most 65 objects, all
   -- known; a 66th is unknown": the path of `D`'s native class is known with 2 lookups, that of `Part` with 3 objects
   pub lookups-and-objects :
-      answer small derived 640 500
+      answerWithin small derived 640 500
       ≡ accepted
       (reported "P" 6
       (toneRow 4 1 1 "P.C" "/Engine.Speaker" "export:C" ∷ toneRow 4 1 0 "P.D" "?" "export:D"
       ∷ toneRow 0 1 1 "/Engine.Speaker" "/Engine.Speaker" "script:0x4000000000000002" ∷ toneRow 1 0 0 "?" "?" "script:0x4000000000000003" ∷ []))
   -- "Class: [..] a class path whose part ..": it has 2 objects, so that 24 and the sum of 25 count these classes
-  pub key-twice : answer small (corpusOf engine (holding (class 2 (scriptIndex 2) 1 ∷ class 3 0 1 ∷ []))) 0 0 ≡ refusedIn 24 2
-  pub work-short : answer small derived 639 500 ≡ refusedIn 25 0
+  pub key-twice : answerWithin small (corpusOf engine (holding (class 2 (scriptIndex 2) 1 ∷ class 3 0 1 ∷ []))) 0 0 ≡ refusedIn 24 2
+  pub work-short : answerWithin small derived 639 500 ≡ refusedIn 25 0
   -- with 1 object it is unknown, and there is no class
-  pub no-class : answer (record { lookups = 2; objects = 1 }) derived 512 0 ≡ refusedIn 26 0
-  pub no-class-short : answer (record { lookups = 2; objects = 1 }) derived 511 0 ≡ refusedIn 25 0
+  pub no-class : answerWithin (limitsOf 2 1) derived 512 0 ≡ refusedIn 26 0
+  pub no-class-short : answerWithin (limitsOf 2 1) derived 511 0 ≡ refusedIn 25 0
 
 pub limit-examples : LimitExamples
 unfolding asked corpusBytes corpusRest packagesBytes partBytes

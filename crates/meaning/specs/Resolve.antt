@@ -1,5 +1,5 @@
--- `resolve` (document 01): class kinds 0 to 7, class and native class. The limits are arguments: 64 lookups and 65 objects in
--- this version. Assumes nothing.
+-- `resolve` (document 01): class kinds 0 to 7, class and native class. The limits are arguments: those of the
+-- call. Assumes nothing.
 use mathlib.Core.List.{List, [], _∷_}
 use mathlib.Core.Option.{Option, none, some}
 use Prim.Native.Nat.{ℕ, zero, suc, _+_}
@@ -13,6 +13,9 @@ use Rattle.meaning.specs.Scan.{Class}
 pub record Limits : Type 0 where
   pub lookups : ℕ
   pub objects : ℕ
+
+abbrev pub limitsOf : ℕ → ℕ → Limits
+limitsOf lookups objects = record { lookups = lookups; objects = objects }
 
 -- the class that has a key
 abbrev pub look : List Class → Key → Option Class

@@ -5,8 +5,9 @@ use mathlib.Core.List.{List, [], _∷_, _++_}
 use Prim.Native.Nat.{ℕ}
 use Rattle.zen.specs.Written.{scriptIndex, nullIndex, object, scriptBytes, packageBytes}
 use Rattle.zen.specs.declared.tables.Export.{Export}
-use Rattle.meaning.specs.Resolve.{Limits}
-use Rattle.meaning.specs.Call.{Answer, refusedIn, accepted, answer}
+use Rattle.meaning.specs.Resolve.{limitsOf}
+use Rattle.meaning.specs.Call.{Answer, refusedIn, accepted}
+use Rattle.meaning.specs.Limited.{answerWithin}
 use Rattle.meaning.specs.Bytes.{partBytes, packagesBytes, corpusRest, corpusBytes}
 use Rattle.meaning.specs.Computed.{asked}
 use Rattle.meaning.specs.Written.{corpusOf, reported}
@@ -15,7 +16,7 @@ use Rattle.meaning.specs.RowExamples.{tone}
 
 -- with buffers that are long enough
 abbrev pub within : ℕ → ℕ → List ℕ → Answer (List ℕ)
-within lookups objects corpus = answer (record { lookups = lookups; objects = objects }) corpus 65536 65536
+within lookups objects corpus = answerWithin (limitsOf lookups objects) corpus 65536 65536
 
 -- nine classes, each derived from the one before it, and what has the eighth and the ninth for its class
 abbrev pub nineClasses : List ℕ

@@ -3,12 +3,12 @@
 use mathlib.Core.Path.{_≡_, refl, sym, _∙_, ap}
 use mathlib.Core.Logic.{_↔_}
 use mathlib.Core.Bool.{Bool, true, false, _&&_}
-use mathlib.Core.List.{List, [], _∷_}
+use mathlib.Core.List.{List, [], _∷_, _++_}
 use Prim.Native.Nat.{ℕ, zero, suc, _≤_, _<_}
 use native.Mathlib.Omega.{arith}
 use borrow.Author.Tests.{ltb-true}
 use lib.Dec.{T, ltb}
-use lib.ListN.{length, take, getD, replicate, length-replicate}
+use lib.ListN.{length, take, getD, replicate}
 use lib.Seq.{length-take-le}
 use Rattle.base.specs.Answer.{isRefusal}
 use Rattle.base.specs.House.{longestOutput}
@@ -17,23 +17,25 @@ use Rattle.base.specs.NumberLaws.{Bytes}
 use Rattle.zen.specs.Refusals.{script-refusal, package-refusal}
 use Rattle.meaning.specs.Resolve.{Limits}
 use Rattle.meaning.specs.Report.{reportOf}
-use Rattle.meaning.specs.Call.{refusedIn, accepted, Opened, opened, workBytes, answer, Outcome, outcome, limits}
+use Rattle.meaning.specs.Call.{refusedIn, accepted, Opened, opened, workBytes, answer, Outcome}
+use Rattle.meaning.specs.Limited.{answerWithin, outcomeWithin, InRange}
+use Rattle.meaning.specs.LimitedLaws.{answer-in}
 use Rattle.meaning.specs.Bytes.{partBytes, packagesBytes, corpusRest, corpusBytes}
 use Rattle.meaning.specs.Computed.{asked}
 use Rattle.meaning.specs.Written.{corpusOf}
-use Rattle.meaning.specs.Examples.{least, noObjects, booth, examples}
+use Rattle.meaning.specs.Examples.{least, noObjects, namedA, sectionA}
 use Rattle.meaning.specs.Order.{FirstFailed, framing, script-block, package-block, key-twice, work-short, report-long, first-failed}
 use Rattle.meaning.specs.Decoded.{framed-refusal}
 use Rattle.meaning.specs.Outcome.{accepted-number, accepted-front, buffer-length}
 
--- a program takes corpus, work buffer and report buffer; it does what the definition says, whatever bytes the corpus is
+-- a program takes corpus, work buffer and report buffer; it does what the definition says within these limits, whatever bytes the corpus is
 abbrev pub Program : Type 0
 Program = List ℕ → List ℕ → List ℕ → Outcome
 
-abbrev pub Meets : Program → Type 0
-Meets P = (corpus work buffer : List ℕ) → Bytes corpus → P corpus work buffer ≡ outcome limits corpus work buffer
+abbrev pub Meets : Limits → Program → Type 0
+Meets m P = (corpus work buffer : List ℕ) → Bytes corpus → P corpus work buffer ≡ outcomeWithin m corpus work buffer
 
--- ---- two corpora, with reports of 9 and of 98 bytes
+-- ---- two corpora, with reports of 9 and of 30 bytes, whatever the limits
 
 abbrev allBytes : List ℕ → Bool
 allBytes [] = true
@@ -48,37 +50,51 @@ all-bytes (x ∷ s) t i = go (ltb x 256) refl t (all-bytes s) i
     go true l t ih (suc i) = ih t i
     go false l t ih i = absurd t
 
+abbrev named : List ℕ
+named = corpusOf noObjects (namedA 91)
+
 first-bytes : Bytes (least 1)
 first-bytes = all-bytes (least 1) tt
 
-second-bytes : Bytes (corpusOf noObjects booth)
+second-bytes : Bytes named
 unfolding asked corpusBytes corpusRest packagesBytes partBytes
-second-bytes = all-bytes (corpusOf noObjects booth) tt
+second-bytes = all-bytes named tt
 
 abbrev nine : List ℕ
 nine = replicate 9 0
 
-abbrev much : List ℕ
-much = replicate 65536 0
+abbrev thirty : List ℕ
+thirty = replicate 30 0
 
-much-length : length much ≡ 65536
-much-length = length-replicate {A = ℕ} 65536 0
+abbrev first-report : List ℕ
+first-report = 0 ∷ 0 ∷ 0 ∷ 5 ∷ 1 ∷ 0 ∷ 0 ∷ 0 ∷ 0 ∷ []
 
-first-number : outcome limits (least 1) [] nine .number ≡ 9
-first-number = accepted-number limits (least 1) [] nine _ (examples .least-report)
+abbrev second-report : List ℕ
+second-report = (0 ∷ 0 ∷ 0 ∷ 26 ∷ 1 ∷ 0 ∷ 0 ∷ 0 ∷ 1 ∷ []) ++ sectionA
 
-number-at : (s w b : List ℕ) (work room : ℕ) (report : List ℕ) → length w ≡ work → length b ≡ room → answer limits s work room ≡ accepted report
-    → outcome limits s w b .number ≡ length report
-number-at s w b work room report p q h = accepted-number limits s w b report (rw (p, q) h)
-
-second-number : outcome limits (corpusOf noObjects booth) much much .number ≡ 98
+first-answer : (m : Limits) → answer m (least 1) 0 9 ≡ accepted first-report
 unfolding asked
-second-number =
-    number-at (corpusOf noObjects booth) much much 65536 65536 _ much-length much-length (examples .row-tone)
+first-answer m = refl
 
--- ---- the programs
+second-answer : (m : Limits) → answer m named 0 30 ≡ accepted second-report
+unfolding asked corpusBytes corpusRest packagesBytes partBytes
+second-answer m = refl
 
-module _ (P : Program) (meets : Meets P) where
+-- ---- the programs, within any limits that a call may have
+
+module _ (m : Limits) (range : InRange m) (P : Program) (meets : Meets m P) where
+  first-given : answerWithin m (least 1) 0 9 ≡ accepted first-report
+  first-given = rw (answer-in m (least 1) 0 9 range) (first-answer m)
+
+  second-given : answerWithin m named 0 30 ≡ accepted second-report
+  second-given = rw (answer-in m named 0 30 range) (second-answer m)
+
+  first-number : outcomeWithin m (least 1) [] nine .number ≡ 9
+  first-number = accepted-number m (least 1) [] nine first-report first-given
+
+  second-number : outcomeWithin m named [] thirty .number ≡ 30
+  second-number = accepted-number m named [] thirty second-report second-given
+
   pub refuses-each : ((corpus work buffer : List ℕ) → isRefusal (P corpus work buffer .number) ≡ true) → ⊥
   refuses-each h =
       let r = rw (meets (least 1) [] nine first-bytes, first-number) at (h (least 1) [] nine) in
@@ -91,27 +107,24 @@ module _ (P : Program) (meets : Meets P) where
       → ⊥
   fixed-report report h =
       let one = at-first (h (least 1) [] nine) in
-      let two = at-second (h (corpusOf noObjects booth) much much) in
+      let two = at-second (h named [] thirty) in
       omega arith
     where
       at-first : (isRefusal (P (least 1) [] nine .number) ≡ false → take (P (least 1) [] nine .number) (P (least 1) [] nine .report) ≡ report)
           → length report ≡ 9
       at-first h =
           let k = rw (meets (least 1) [] nine first-bytes, first-number) at h in
-          ap length (sym (k refl)) ∙ length-take-le 9 (outcome limits (least 1) [] nine .report) (omega (arith, buffer-length limits (least 1) [] nine))
+          ap length (sym (k refl)) ∙ length-take-le 9 (outcomeWithin m (least 1) [] nine .report) (omega (arith, buffer-length m (least 1) [] nine))
 
-      at-second : (isRefusal (P (corpusOf noObjects booth) much much .number) ≡ false
-          → take (P (corpusOf noObjects booth) much much .number) (P (corpusOf noObjects booth) much much .report) ≡ report) → length report ≡ 98
+      at-second : (isRefusal (P named [] thirty .number) ≡ false → take (P named [] thirty .number) (P named [] thirty .report) ≡ report) → length report ≡ 30
       at-second h =
-          let k = rw (meets (corpusOf noObjects booth) much much second-bytes, second-number) at h in
-          ap length (sym (k refl))
-          ∙ length-take-le 98 (outcome limits (corpusOf noObjects booth) much much .report)
-          (omega (arith, buffer-length limits (corpusOf noObjects booth) much much, much-length))
+          let k = rw (meets named [] thirty second-bytes, second-number) at h in
+          ap length (sym (k refl)) ∙ length-take-le 30 (outcomeWithin m named [] thirty .report) (omega (arith, buffer-length m named [] thirty))
 
   pub no-byte : ((corpus work buffer : List ℕ) → P corpus work buffer .report ≡ buffer) → ⊥
   no-byte h =
       let r = rw (meets (least 1) [] nine first-bytes) at (h (least 1) [] nine) in
-      let front = accepted-front limits (least 1) [] nine _ (examples .least-report) in
+      let front = accepted-front m (least 1) [] nine first-report first-given in
       let same = ap (λ (l : List ℕ). getD l 3 0) (rw r at front) in
       omega arith
 

@@ -8,7 +8,7 @@ use base::number::be64;
 use check::same;
 use libc::STDOUT_FILENO;
 
-// Whether the call answers so: the number, the report, and past it, or where it refuses, the buffer as it was.
+// Whether the call, with 64 lookups and 65 objects, answers so: the number, the report, and past it, or where it refuses, the buffer as it was.
 fn answers(
     corpus: &[u8],
     work: &mut [u8],
@@ -17,7 +17,7 @@ fn answers(
     answer: u64,
     expected: &[u8],
 ) -> bool {
-    if capi::class_report(corpus, work, report) != answer {
+    if capi::class_report(corpus, 64, 65, work, report) != answer {
         return false;
     }
     let n = expected.len();

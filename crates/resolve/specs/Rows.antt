@@ -16,6 +16,7 @@ use Rattle.meaning.specs.Key.{Key, sameKey}
 use Rattle.meaning.specs.Path.{Path}
 use Rattle.meaning.specs.Reference.{Package, Ref, null, refIn, meant}
 use Rattle.meaning.specs.Scan.{Class}
+pub use Rattle.meaning.specs.Resolve.{limitsOf}
 use Rattle.meaning.specs.Resolve.{Limits, look, follow, nativeOf, resolve, pathText}
 use Rattle.meaning.specs.Report.{orUnknown, size}
 use Rattle.table.specs.Words.{stored, Kept as KeptWords}
@@ -174,9 +175,6 @@ pub record SuperOnly (n i : ℕ) (w w′ : List ℕ) : Type 0 where
   pub kept : KeptWords (superAt n i) (superAt n i + 16) w w′
 
 -- ---- how many bytes class and native class of a row take
-
-abbrev pub limitsOf : ℕ → ℕ → Limits
-limitsOf lookups objects = record { lookups = lookups; objects = objects }
 
 unfoldable pub targetSize : Limits → List Class → Objects → Ref → ℕ
 targetSize m xs o r = size (orUnknown (resolve m (look xs) o r .class)) + size (orUnknown (pathText (nativeOf m (look xs) o r)))

@@ -26,15 +26,17 @@ pub mod chain;
 
 mod fields;
 mod frame;
+mod limits;
 mod parsed;
 mod question;
 mod refusal;
 mod row;
 mod verify;
 
-pub use call::{LONGEST, report, report_into};
+pub use call::{LONGEST, report, report_into, report_within};
 pub use fields::Malformed;
 pub use frame::{Corpus, CorpusBuilder, Package, TooLong};
+pub use limits::Limits;
 pub use parsed::{Report, Rows, Section, Sections};
 pub use question::{QUESTIONS, Question};
 pub use refusal::Refusal;

@@ -1,9 +1,9 @@
-//! The questions that a corpus is asked, in order; the first that it fails is the refusal. 23 is retired.
+//! The questions that are asked, 29 before all others; the first that fails is the refusal. 23 is retired.
 
 /// A question, and what it means to fail it.
 #[derive(Debug, Clone, Copy, PartialEq, Eq)]
 pub struct Question {
-    /// 1 to 22, 24 to 26.
+    /// 1 to 22, 24 to 26, 29.
     pub number: u8,
     /// What is wrong where the answer is no, in a few words.
     pub failed: &'static str,
@@ -41,7 +41,7 @@ const fn question(
 }
 
 /// All questions, in the order of their numbers.
-pub const QUESTIONS: [Question; 25] = [
+pub const QUESTIONS: [Question; 26] = [
     question(
         1,
         "the corpus's lengths do not fit its bytes",
@@ -194,5 +194,11 @@ pub const QUESTIONS: [Question; 25] = [
         "Is the report at most 4,294,967,299 bytes long, and within its buffer?",
         "The program that made the call lent too short a report buffer. Where it lent 4,294,967,299 bytes, the build is too \
          large for one report: split it.",
+    ),
+    question(
+        29,
+        "a limit is out of its range",
+        "Is the lookup limit 1 to 64, and the object limit 1 to 65? It is asked before the corpus is looked at.",
+        "The program that made the call gave it a limit of 0, or more than 64 lookups or 65 objects.",
     ),
 ];

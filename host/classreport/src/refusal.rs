@@ -4,7 +4,7 @@ use std::fmt;
 
 use crate::Question;
 
-/// The first question that a corpus fails, and the block that it fails in.
+/// The first question that a call fails, and the block that it fails in.
 ///
 /// ```
 /// let refusal = classreport::report(b"\0\0\0\x01\x02").unwrap_err();
@@ -15,7 +15,7 @@ use crate::Question;
 /// ```
 #[derive(Debug, Clone, Copy, PartialEq, Eq, Hash)]
 pub struct Refusal {
-    /// 1 to 22, 24 to 26: see [`Question`].
+    /// 1 to 22, 24 to 26, 29: see [`Question`].
     pub question: u8,
     /// 0 is the corpus, 1 the script block, j + 1 package j (from 1).
     pub block: u32,

@@ -1,8 +1,7 @@
 //! The library against the model (document 01 read afresh) on generated corpora.
 use classreport::chain::{End, Headers, LineEnd};
-use classreport::{
-    Corpus, CorpusBuilder, Refusal, Report, Row, Verified, report, report_into, verify, verify_into,
-};
+use classreport::{Corpus, CorpusBuilder, Limits, Refusal, Report, Row, Verified};
+use classreport::{report, report_into, report_within, verify, verify_into};
 use corpus::generate::{LARGE, dense, generate, hashed, ladder, sized, spelt};
 
 fn model(corpus: &[u8]) -> Result<Vec<u8>, Refusal> {
@@ -91,12 +90,12 @@ fn lent_buffers_too_short() {
     let corpus = generate(3, 20_000);
     let length = report(&corpus).expect("accepted").bytes().len();
     let (mut work, mut out) = (vec![0; 2 * corpus.len()], vec![7; length]);
-    let short = report_into(&corpus, &mut [], &mut out).unwrap_err();
+    let short = report_into(&corpus, Limits::BOOTHS, &mut [], &mut out).unwrap_err();
     assert_eq!((short.question, short.block), (25, 0));
-    let short = report_into(&corpus, &mut work, &mut out[1..]).unwrap_err();
+    let short = report_into(&corpus, Limits::BOOTHS, &mut work, &mut out[1..]).unwrap_err();
     assert_eq!((short.question, short.block), (26, 0));
     assert!(out.iter().all(|byte| *byte == 7), "left as it was");
-    assert!(report_into(&corpus, &mut work, &mut out).is_ok());
+    assert!(report_into(&corpus, Limits::BOOTHS, &mut work, &mut out).is_ok());
 }
 
 /// Counts and flags are the model's, whatever the work buffer.
@@ -143,10 +142,10 @@ fn verified_bytes(verified: &Verified) -> Vec<u8> {
 }
 
 /// Follows every chain of an accepted corpus, which compares them with the rows; gives what each ended in.
-fn ends(bytes: &[u8]) -> Vec<End> {
-    let report = report(bytes).expect("accepted");
+fn ends(bytes: &[u8], limits: Limits) -> Vec<End> {
+    let report = report_within(bytes, limits).expect("accepted");
     let corpus = Corpus::read(bytes).expect("accepted");
-    let headers = Headers::read(&corpus).expect("agreed");
+    let headers = Headers::read(&corpus, limits).expect("agreed");
     let mut ends = Vec::new();
     for (package, section) in report.sections().enumerate() {
         let components = headers.components(package, &section).expect("agreed");
@@ -166,7 +165,7 @@ fn chains_agree_with_the_rows() {
     let spelt = (0..500).map(|seed| spelt(seed).bytes());
     let all = dense.chain(spelt).chain(ladders);
     for corpus in all.chain([generate(5, LARGE)]) {
-        for end in ends(&corpus) {
+        for end in ends(&corpus, Limits::BOOTHS) {
             seen[match end {
                 End::Script(line) => match line.end {
                     LineEnd::Null => 0,
@@ -186,12 +185,34 @@ fn chains_agree_with_the_rows() {
     assert!(seen.iter().all(|count| *count > 0), "{seen:?}");
 }
 
+/// So they do with other limits, the teaching rooms' among them.
+#[test]
+fn chains_agree_within_other_limits() {
+    let ladders = [
+        ladder::paths(),
+        ladder::chains(),
+        ladder::ring(3),
+        ladder::told(),
+    ];
+    let one = |n| Limits {
+        lookups: n,
+        objects: n,
+    };
+    for corpus in ladders.map(|line| line.bytes()) {
+        for limits in (1..=64).map(one).chain([Limits::TEACHING]) {
+            assert!(!ends(&corpus, limits).is_empty());
+        }
+    }
+    let long = ends(&ladder::chains().bytes(), Limits::TEACHING);
+    assert!(long.contains(&End::TooLong));
+}
+
 /// A row that says something else than the headers is no chain but an error that says so.
 #[test]
 fn a_disagreement_is_an_error() {
     let bytes = ladder::ring(3).bytes();
     let (report, corpus) = (report(&bytes).unwrap(), Corpus::read(&bytes).unwrap());
-    let headers = Headers::read(&corpus).unwrap();
+    let headers = Headers::read(&corpus, Limits::BOOTHS).unwrap();
     let (section, row) = report.rows().next().unwrap();
     let export = headers.components(0, &section).unwrap()[0];
     assert!(headers.chain(0, export, &row).is_ok());

@@ -33,6 +33,16 @@ pub fn rows(section: &[u8]) -> Vec<&[u8]> {
     out
 }
 
+/// The six texts of a row.
+pub fn texts(row: &[u8]) -> [&[u8]; 6] {
+    let mut at = 6;
+    [(); 6].map(|()| {
+        let start = at + 4;
+        at = start + be(row, at, 4) as usize;
+        &row[start..at]
+    })
+}
+
 /// Behind the id, the package's name and the two counts.
 fn first_row(report: &[u8], section: usize) -> usize {
     section + 12 + be(report, section + 8, 4) as usize + 8

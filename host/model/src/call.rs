@@ -11,13 +11,13 @@ use crate::resolve::{Classes, World};
 use crate::script::{Script, script_block};
 
 /// How many class lookups a chain and how many objects a path may have.
-#[derive(Clone, Copy)]
+#[derive(Debug, Clone, Copy)]
 pub struct Limits {
     pub lookups: u32,
     pub objects: u32,
 }
 
-/// The limits of the base call.
+/// The limits of document 01.
 pub const BASE: Limits = Limits {
     lookups: 64,
     objects: 65,
@@ -31,8 +31,11 @@ pub fn class_report(corpus: &[u8], work: u64, buffer: u64) -> Answer {
     class_report_within(BASE, corpus, work, buffer)
 }
 
-/// The call with limits of its own.
+/// The call with limits of its own. Question 29: 1 to 64 lookups, 1 to 65 objects?
 pub fn class_report_within(limits: Limits, corpus: &[u8], work: u64, buffer: u64) -> Answer {
+    if !(1..=64).contains(&limits.lookups) || !(1..=65).contains(&limits.objects) {
+        return Err((29, 0));
+    }
     let (script, packages) = &blocks(corpus)?;
     let classes = classes(packages, script, limits)?;
     let candidates: Vec<Vec<Candidate>> = packages.iter().map(candidates).collect();

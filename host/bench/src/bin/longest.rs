@@ -25,7 +25,7 @@ const JUDGES: [(&str, Call); 3] = [
 /// The call with buffers of these lengths.
 fn call(corpus: &[u8], work: u64, buffer: u64) -> Answer {
     let mut report = vec![0; buffer as usize];
-    let number = report::class_report(corpus, &mut vec![0; work as usize], &mut report);
+    let number = report::class_report(corpus, 64, 65, &mut vec![0; work as usize], &mut report);
     if let Some(refusal) = answer::refusal(number) {
         return Err(refusal);
     }

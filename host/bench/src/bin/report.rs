@@ -55,7 +55,7 @@ fn main() -> ExitCode {
         needs,
         sides: Sides {
             reference,
-            ours: report::class_report,
+            ours: |corpus, work, report| report::class_report(corpus, 64, 65, work, report),
             beside_is: "memcpy",
             beside: copy,
         },

@@ -1,7 +1,7 @@
 //! Which names of a corpus have another hash than they should: the call counts them, here they are found to be shown.
 use super::names::id;
 use super::{Disagreement, Headers};
-use crate::Verified;
+use crate::{Limits, Verified};
 
 /// What a check found, by name.
 #[derive(Debug, Clone, PartialEq, Eq)]
@@ -35,7 +35,7 @@ impl Headers {
     ///
     /// ```
     /// # let bytes = classreport::CorpusBuilder::new(&[0; 8]).unwrap().finish();
-    /// let headers = classreport::chain::Headers::read(&classreport::Corpus::read(&bytes)?)?;
+    /// let headers = classreport::chain::Headers::read(&classreport::Corpus::read(&bytes)?, Default::default())?;
     /// for (path, index) in headers.findings(&classreport::verify(&bytes)?)?.mismatched {
     ///     println!("{path} does not hash to {index:#x}");
     /// }
@@ -56,7 +56,7 @@ impl Headers {
             packages: self.packages.iter().map(flagged).collect(),
         };
         for (index, own) in self.objects.each() {
-            match self.objects.line(index).path() {
+            match self.objects.line(index, Limits::BOOTHS.objects).path() {
                 None => found.unresolved.push((own.to_owned(), index)),
                 Some(path) if hash(&path) != index << 2 >> 2 => {
                     found.mismatched.push((path, index));

@@ -4,18 +4,18 @@ use std::collections::HashMap;
 use super::agree::{Disagreement, agree};
 use super::header::{Export, Header};
 use super::index::{Kind, kind};
-use super::objects::{LineEnd, Objects};
+use super::objects::{Line, LineEnd, Objects};
 use super::reference::{Key, Meaning, Reference, reference};
-use super::{Chain, Class, End, MOST_LOOKUPS};
-use crate::{ClassKind, Corpus, Row, Section};
+use super::{Chain, Class, End};
+use crate::{ClassKind, Corpus, Limits, Row, Section};
 
-/// The headers of an accepted corpus.
+/// The headers of an accepted corpus, to be followed within the limits of its report.
 ///
 /// ```
 /// # let bytes = classreport::CorpusBuilder::new(&[0; 8]).unwrap().finish();
 /// let corpus = classreport::Corpus::read(&bytes)?;
 /// let report = classreport::report(&bytes)?;
-/// let headers = classreport::chain::Headers::read(&corpus)?;
+/// let headers = classreport::chain::Headers::read(&corpus, Default::default())?;
 /// for (package, section) in report.sections().enumerate() {
 ///     for (row, export) in section.rows().zip(headers.components(package, &section)?) {
 ///         let chain = headers.chain(package, export, &row)?;
@@ -25,6 +25,7 @@ use crate::{ClassKind, Corpus, Row, Section};
 /// # Ok::<(), Box<dyn std::error::Error>>(())
 /// ```
 pub struct Headers {
+    limits: Limits,
     pub(super) objects: Objects,
     pub(super) packages: Vec<Header>,
     /// every class by its key: package and export, both from 0
@@ -34,13 +35,14 @@ pub struct Headers {
 }
 
 impl Headers {
-    /// Reads the headers of a corpus that the call accepted.
+    /// Reads the headers of a corpus that the call accepted with these limits.
     ///
     /// # Errors
     /// Where a block can't be read here, though the call read it.
-    pub fn read(corpus: &Corpus) -> Result<Headers, Disagreement> {
+    pub fn read(corpus: &Corpus, limits: Limits) -> Result<Headers, Disagreement> {
         let objects = Objects::read(corpus.script()).ok_or(Disagreement::unreadable(1))?;
         let mut headers = Headers {
+            limits,
             objects,
             packages: Vec::new(),
             classes: HashMap::new(),
@@ -52,6 +54,10 @@ impl Headers {
             headers.add(number, header);
         }
         Ok(headers)
+    }
+
+    fn line(&self, index: u64) -> Line {
+        self.objects.line(index, self.limits.objects)
     }
 
     fn add(&mut self, number: usize, header: Header) {
@@ -74,7 +80,7 @@ impl Headers {
         {
             return false;
         }
-        let line = self.objects.line(export.class);
+        let line = self.line(export.class);
         line.end == LineEnd::Null
             && line
                 .names
@@ -137,7 +143,7 @@ impl Headers {
             let Some((package, export)) = self.classes.get(&key).copied() else {
                 break self.no_class(key);
             };
-            if classes.len() == MOST_LOOKUPS {
+            if classes.len() == self.limits.lookups as usize {
                 break End::TooLong;
             }
             keys.push(key);
@@ -162,7 +168,7 @@ impl Headers {
     /// Where a reference leads that means no class of a package.
     fn end(&self, meaning: &Meaning) -> End {
         match meaning {
-            Meaning::Script(index) => End::Script(self.objects.line(*index)),
+            Meaning::Script(index) => End::Script(self.line(*index)),
             Meaning::Bad => End::Bad,
             _ => End::Null,
         }
@@ -179,7 +185,7 @@ impl Headers {
 
     fn class_kind(&self, class: &Meaning) -> ClassKind {
         match class {
-            Meaning::Script(index) if self.objects.line(*index).end == LineEnd::Null => {
+            Meaning::Script(index) if self.line(*index).end == LineEnd::Null => {
                 ClassKind::ScriptFound
             }
             Meaning::Script(_) => ClassKind::ScriptUnresolved,

@@ -16,12 +16,9 @@ mod reference;
 pub use agree::Disagreement;
 pub use hashes::{Findings, Flagged};
 pub use headers::Headers;
-pub use objects::{Line, LineEnd, MOST_OBJECTS};
+pub use objects::{Line, LineEnd};
 
 use crate::ClassKind;
-
-/// How many classes a chain may have.
-pub const MOST_LOOKUPS: usize = 64;
 
 /// The way from a row's class reference to its native class, or to where it breaks off.
 #[derive(Debug, Clone, PartialEq, Eq)]
@@ -65,7 +62,7 @@ pub enum End {
     },
     /// Back at the class with this number in the chain, from 0.
     Ring(usize),
-    /// At a further class, where the chain already has as many as it may have.
+    /// At a further class, where the chain already has as many as the lookup limit allows.
     TooLong,
     /// At a null reference.
     Null,

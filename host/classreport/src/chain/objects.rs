@@ -5,9 +5,6 @@ use super::index::{Kind, kind};
 use super::names::{Name, batch};
 use super::reader::Reader;
 
-/// How many objects a path may have.
-pub const MOST_OBJECTS: usize = 65;
-
 struct Object {
     name: String,
     outer: u64,
@@ -34,7 +31,7 @@ pub enum LineEnd {
     Missing(u64),
     /// It comes back to the object with this number in the line, from 0.
     Ring(usize),
-    /// It has more objects than a path may have.
+    /// It has more objects than the object limit allows; so many are listed.
     TooDeep,
 }
 
@@ -77,8 +74,8 @@ impl Objects {
         self.0.iter().map(|(index, object)| (*index, &*object.name))
     }
 
-    /// The object with this index, and its outers.
-    pub(super) fn line(&self, index: u64) -> Line {
+    /// The object with this index, and its outers, as far as a path may go.
+    pub(super) fn line(&self, index: u64, most: u32) -> Line {
         let mut seen = Vec::new();
         let mut names = Vec::new();
         let mut at = index;
@@ -92,7 +89,7 @@ impl Objects {
             let Some(object) = self.0.get(&at) else {
                 break LineEnd::Missing(at);
             };
-            if names.len() == MOST_OBJECTS {
+            if names.len() == most as usize {
                 break LineEnd::TooDeep;
             }
             seen.push(at);

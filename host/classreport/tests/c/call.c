@@ -12,6 +12,12 @@ static const uint8_t EMPTY_REPORT[9] = {0, 0, 0, 5, 1, 0, 0, 0, 0};
 
 static int failures;
 
+/* The call with the booths' limits. */
+static uint64_t in_a_booth(const uint8_t *corpus, size_t length, uint8_t *work, size_t work_length, uint8_t *report,
+                           size_t room) {
+    return class_report(corpus, length, CLASSREPORT_MOST_LOOKUPS, CLASSREPORT_MOST_OBJECTS, work, work_length, report, room);
+}
+
 static void expect(int holds, const char *what) {
     if (!holds) {
         fprintf(stderr, "not so: %s\n", what);
@@ -22,7 +28,7 @@ static void expect(int holds, const char *what) {
 static void accepted(void) {
     uint8_t work[1], report[10];
     memset(report, 0xaa, sizeof report);
-    uint64_t answer = class_report(EMPTY, sizeof EMPTY, work, 0, report, sizeof report);
+    uint64_t answer = in_a_booth(EMPTY, sizeof EMPTY, work, 0, report, sizeof report);
     expect(!classreport_refused(answer), "the empty corpus is accepted");
     expect(classreport_length(answer) == sizeof EMPTY_REPORT, "its report has 9 bytes");
     expect(classreport_question(answer) == CLASSREPORT_NONE, "no question failed");
@@ -36,12 +42,12 @@ static void refused(void) {
     corpus[4] = 2;
     memset(before, 0x55, sizeof before);
     memcpy(report, before, sizeof report);
-    uint64_t answer = class_report(corpus, sizeof corpus, work, 0, report, sizeof report);
+    uint64_t answer = in_a_booth(corpus, sizeof corpus, work, 0, report, sizeof report);
     expect(classreport_question(answer) == CLASSREPORT_VERSION, "version 2 is refused");
     expect(classreport_block(answer) == 0 && classreport_package(answer) == 0, "in block 0");
     expect(classreport_length(answer) == 0, "a refusal has no length");
     expect(memcmp(report, before, sizeof report) == 0, "the report's buffer is as it was");
-    answer = class_report(EMPTY, sizeof EMPTY, work, 0, report, 8);
+    answer = in_a_booth(EMPTY, sizeof EMPTY, work, 0, report, 8);
     expect(classreport_question(answer) == CLASSREPORT_REPORT, "a report buffer too short");
 }
 
@@ -63,6 +69,18 @@ static void verified(void) {
     expect(classreport_question(answer) == CLASSREPORT_VERSION, "version 2 is refused here too");
 }
 
+static void limited(void) {
+    uint8_t work[1], report[9];
+    memset(report, 0x55, sizeof report);
+    uint64_t answer = class_report(EMPTY, 0, 0, 4, work, 0, report, sizeof report);
+    expect(answer == UINT64_C(0x8000001d00000000), "no lookups are refused before the corpus is looked at");
+    answer = class_report(EMPTY, sizeof EMPTY, 8, UINT32_MAX, work, 0, report, sizeof report);
+    expect(classreport_question(answer) == CLASSREPORT_LIMITS, "too many objects");
+    expect(report[0] == 0x55, "the report's buffer is as it was");
+    answer = class_report(EMPTY, sizeof EMPTY, 8, 4, work, 0, report, sizeof report);
+    expect(classreport_length(answer) == sizeof EMPTY_REPORT, "the teaching rooms' limits");
+}
+
 static void unpacked(void) {
     uint64_t answer = UINT64_C(0x8000001100000008);
     expect(classreport_question(answer) == CLASSREPORT_OFFSET_ORDER, "17");
@@ -70,9 +88,9 @@ static void unpacked(void) {
     expect(classreport_package(UINT64_C(0x8000000800000001)) == 0, "the script block is no package");
     expect(classreport_length(CLASSREPORT_LONGEST) == CLASSREPORT_LONGEST, "the longest report");
     expect(classreport_work_enough(21) == 42 && classreport_work_enough(SIZE_MAX) == SIZE_MAX, "work");
-    expect(strcmp(classreport_failed(23), classreport_failed(27)) == 0, "23 is no question");
-    for (unsigned question = 1; question <= 26; question++)
-        if (question != 23)
+    expect(strcmp(classreport_failed(23), "nothing") == 0, "23 is no question");
+    for (unsigned question = 1; question <= 0xff; question++)
+        if (strcmp(classreport_failed(question), "nothing") != 0)
             printf("%u %s\n", question, classreport_failed(question));
 }
 
@@ -115,10 +133,11 @@ static int output_of(call *made, const char *name) {
 
 int main(int argc, char **argv) {
     if (argc > 1)
-        return output_of(argc == 2 ? class_report : class_verify, argv[1]);
+        return output_of(argc == 2 ? in_a_booth : class_verify, argv[1]);
     accepted();
     refused();
     verified();
+    limited();
     unpacked();
     return failures != 0;
 }

@@ -187,7 +187,7 @@ fn help_and_version() {
         assert_eq!(place.done(&[name, "-h"]), help);
     }
     assert!(place.done(&["--version"]).starts_with("classreport "));
-    assert_eq!(place.done(&["explain"]).lines().count(), 25);
+    assert_eq!(place.done(&["explain"]).lines().count(), 26);
     let packed = place.done(&["explain", "0x8000001100000008"]);
     assert!(
         packed.starts_with("Refused 17 (block 8, package 7): an offset is below its predecessor")

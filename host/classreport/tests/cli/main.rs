@@ -3,6 +3,7 @@ mod browser;
 mod commands;
 mod diffs;
 mod files;
+mod limits;
 mod pages;
 mod python;
 mod refusals;

@@ -140,7 +140,8 @@ fn the_program_finds_what_the_call_counts() {
             continue;
         };
         let corpus = classreport::Corpus::read(&bytes).expect("accepted");
-        let headers = classreport::chain::Headers::read(&corpus).expect("agreed");
+        let headers = classreport::chain::Headers::read(&corpus, classreport::Limits::BOOTHS)
+            .expect("agreed");
         let found = headers.findings(&verified).expect("agreed");
         wrong += found.mismatched.len();
         lost += found.unresolved.len();

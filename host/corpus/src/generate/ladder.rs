@@ -89,6 +89,56 @@ pub fn chains() -> Described {
     corpus
 }
 
+/// Script objects `D` from 0 on, each in the one before it, and beside each a `Class` (from 100 on), so many deep.
+fn deep_classes(depth: u64) -> Described {
+    let mut corpus = Described::default();
+    let mut outer = NULL;
+    for i in 0..depth {
+        corpus.add_object(Text::of("Class"), 0, script_index(100 + i), outer);
+        outer = corpus.add_object(Text::of("D"), 0, script_index(i), outer);
+    }
+    corpus
+}
+
+/// An export of this hash, told a class by the `Class` that is so many deep.
+fn told_class(depth: u64, hash: u64, super_index: u64) -> Export {
+    Export {
+        class: script_index(99 + depth),
+        hash,
+        ..class(super_index)
+    }
+}
+
+/// Classes that are told so by objects 1 to 66 deep, each the super of the next, and a row for each of them.
+pub fn told() -> Described {
+    let mut corpus = deep_classes(66);
+    let mut p = package("/P");
+    for depth in 1..=66 {
+        let super_index = if depth == 1 {
+            script_index(0)
+        } else {
+            depth - 2
+        };
+        p.exports.push(told_class(depth, depth, super_index));
+    }
+    p.exports.extend((0..66).map(|i| row(i as u32, i)));
+    corpus.packages.push((1, p));
+    corpus
+}
+
+/// Two exports of one hash, each told a class: the first by an object so many deep, the second by one without an outer.
+pub fn told_twice(depth: u64) -> Described {
+    let mut corpus = deep_classes(depth);
+    let mut p = package("/P");
+    p.exports = vec![
+        told_class(depth, 1, script_index(0)),
+        told_class(1, 1, script_index(0)),
+        row(0, 1),
+    ];
+    corpus.packages.push((1, p));
+    corpus
+}
+
 /// Classes in a ring of this many packages, with a row for each; a ring of script objects.
 pub fn ring(packages: u64) -> Described {
     let mut corpus = natives();

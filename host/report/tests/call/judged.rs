@@ -2,6 +2,7 @@
 use answer::{Answer, Refusal};
 use corpus::rows::sections;
 use corpus::tally::Tally;
+use model::Limits;
 
 use crate::both::both;
 
@@ -10,7 +11,7 @@ pub(crate) trait Judged: Default {
     /// Whether 25 is asked of it: is the work buffer long enough?
     const ASKS_WORK: bool;
 
-    fn call(corpus: &[u8], work: &mut [u8], out: &mut [u8]) -> u64;
+    fn call(limits: Limits, corpus: &[u8], work: &mut [u8], out: &mut [u8]) -> u64;
 
     /// What oracle and model answer with buffers of these lengths; panics where they differ.
     fn both(corpus: &[u8], work: u64, room: u64) -> Answer;
@@ -35,8 +36,8 @@ pub(crate) struct Reports(Tally);
 impl Judged for Reports {
     const ASKS_WORK: bool = true;
 
-    fn call(corpus: &[u8], work: &mut [u8], out: &mut [u8]) -> u64 {
-        report::class_report(corpus, work, out)
+    fn call(limits: Limits, corpus: &[u8], work: &mut [u8], out: &mut [u8]) -> u64 {
+        report::class_report(corpus, limits.lookups, limits.objects, work, out)
     }
 
     fn both(corpus: &[u8], work: u64, room: u64) -> Answer {

@@ -1,6 +1,7 @@
 //! The call with lent buffers, all around which is watched.
 use answer::Answer;
 use corpus::generate::Random;
+use model::{BASE, Limits};
 
 /// So many bytes stand before and behind each buffer.
 const CANARY: usize = 64;
@@ -55,8 +56,8 @@ fn noise(seed: u8, i: usize) -> u8 {
     seed.wrapping_add((i as u8).wrapping_mul(29)) ^ (i >> 8) as u8
 }
 
-/// A corpus, a work buffer and an output buffer give a number.
-pub(crate) type Call = fn(&[u8], &mut [u8], &mut [u8]) -> u64;
+/// Limits, a corpus, a work buffer and an output buffer give a number.
+pub(crate) type Call = fn(Limits, &[u8], &mut [u8], &mut [u8]) -> u64;
 
 /// Calls with buffers that start anywhere and hold anything.
 pub(crate) struct Caller {
@@ -83,14 +84,29 @@ impl Caller {
         }
     }
 
-    /// Asks about a corpus with buffers of these lengths, twice in a row with the same buffers.
+    /// Asks about a corpus with document 01's limits and buffers of these lengths.
     pub(crate) fn ask(&mut self, corpus: &[u8], work: usize, report: usize) -> Answer {
+        self.ask_within(BASE, corpus, work, report)
+    }
+
+    /// Asks about a corpus with these limits and buffers of these lengths, twice in a row with the same buffers.
+    pub(crate) fn ask_within(
+        &mut self,
+        limits: Limits,
+        corpus: &[u8],
+        work: usize,
+        report: usize,
+    ) -> Answer {
         let seed = self.prepare(corpus, work, report);
-        let number = self.call(corpus);
+        let number = self.call(limits, corpus);
         let answer = self.answer(number, seed);
         // The work buffer is now as the call left it, and the report's holds the report.
         let before = self.report.lent().to_vec();
-        assert_eq!(self.call(corpus), number, "the number the second time");
+        assert_eq!(
+            self.call(limits, corpus),
+            number,
+            "the number the second time"
+        );
         assert!(before == self.report.lent(), "the report the second time");
         answer
     }
@@ -122,10 +138,10 @@ impl Caller {
     }
 
     /// One call with the buffers as they are: it writes to none but its own, and not to the corpus.
-    fn call(&mut self, corpus: &[u8]) -> u64 {
+    fn call(&mut self, limits: Limits, corpus: &[u8]) -> u64 {
         self.calls += 1;
         let (work, report) = (self.work.lent(), self.report.lent());
-        let number = (self.of)(self.corpus.lent(), work, report);
+        let number = (self.of)(limits, self.corpus.lent(), work, report);
         let intact = [&self.corpus, &self.work, &self.report].map(Buffer::intact);
         assert_eq!(intact, [true; 3], "around corpus, work and report");
         assert!(self.corpus.lent() == corpus, "the corpus was written to");

@@ -8,6 +8,7 @@ mod faults;
 mod hostile;
 mod judged;
 mod lent;
+mod limits;
 mod recorded;
 mod sized;
 mod verify;

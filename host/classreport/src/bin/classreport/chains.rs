@@ -25,7 +25,7 @@ pub fn each(
         return Ok(());
     };
     let corpus = Corpus::read(&source.bytes).map_err(|refusal| source.refused(refusal))?;
-    let headers = Headers::read(&corpus).map_err(failed)?;
+    let headers = Headers::read(&corpus, subject.limits).map_err(failed)?;
     for (package, section) in subject.report.sections().enumerate() {
         if !filter.takes_section(&section) {
             continue;

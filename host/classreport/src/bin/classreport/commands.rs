@@ -34,6 +34,9 @@ const AS: Flag = flag("as", None, Some("KIND"));
 const EXAMPLE: Flag = flag("example", None, None);
 const REVERSE: Flag = flag("reverse", None, None);
 const WIDTH: Flag = flag("width", None, Some("COLUMNS"));
+const LOOKUPS: Flag = flag("lookups", None, Some("N"));
+const OBJECTS: Flag = flag("objects", None, Some("N"));
+const TEACHING: Flag = flag("teaching", None, None);
 
 /// What every command takes.
 pub const EVERYWHERE: [Flag; 6] = [
@@ -59,6 +62,14 @@ Exit status: 0 done, 1 refused or differing, 2 usage, 3 input or output, 4 malfo
 match (`verify`).
 ";
 
+/// What it says of the limits, where a command makes the call.
+pub const LIMITS_HELP: &str = "\
+Limits of the call:
+      --lookups N       a chain may have N classes, 1 to 64 (without it 64)
+      --objects N       a path may have N objects, its own counted, 1 to 65 (without it 65)
+      --teaching        the teaching rooms' limits: 8 lookups and 4 objects
+";
+
 /// What the inputs are.
 pub const INPUTS_HELP: &str = "\
 BUILD is a folder with script.bin and the packages: packages/ID.bin (16 hexadecimal digits, taken by rising ids) or as
@@ -71,7 +82,9 @@ pub static COMMANDS: [Command; 11] = [
         name: "show",
         operands: "INPUT",
         count: (1, 1),
-        flags: &[FORMAT, COLUMNS, PACKAGE, NATIVE, UNKNOWN, AS, EXAMPLE, WIDTH],
+        flags: &[
+            FORMAT, COLUMNS, PACKAGE, NATIVE, UNKNOWN, AS, EXAMPLE, WIDTH, LOOKUPS, OBJECTS, TEACHING,
+        ],
         about: "one row for each component: class and native class",
         help: "\
 Options:
@@ -101,7 +114,7 @@ Examples:
         name: "check",
         operands: "BUILD|CORPUS...",
         count: (1, usize::MAX),
-        flags: &[],
+        flags: &[LOOKUPS, OBJECTS, TEACHING],
         about: "whether builds are accepted, a line each",
         help: "\
 Examples:
@@ -114,7 +127,9 @@ Examples:
         name: "summary",
         operands: "INPUT",
         count: (1, 1),
-        flags: &[FORMAT, PACKAGE, NATIVE, UNKNOWN, BY_PACKAGE, AS, EXAMPLE, WIDTH],
+        flags: &[
+            FORMAT, PACKAGE, NATIVE, UNKNOWN, BY_PACKAGE, AS, EXAMPLE, WIDTH, LOOKUPS, OBJECTS, TEACHING,
+        ],
         about: "how many rows each native class has",
         help: "\
 Options:
@@ -132,7 +147,7 @@ Examples:
         name: "why",
         operands: "INPUT EXPORT",
         count: (2, 2),
-        flags: &[PACKAGE, AS, EXAMPLE],
+        flags: &[PACKAGE, AS, EXAMPLE, LOOKUPS, OBJECTS, TEACHING],
         about: "how a component comes to its native class, or why it has none",
         help: "\
 EXPORT is the name of a component's export, or of its instance.
@@ -176,7 +191,7 @@ Examples:
         name: "diff",
         operands: "OLD NEW",
         count: (2, 2),
-        flags: &[AS],
+        flags: &[AS, LOOKUPS, OBJECTS, TEACHING],
         about: "which rows changed; the order of packages counts for nothing",
         help: "\
 Each may be a report, a corpus or a build. Sections are matched by package id, rows by export.
@@ -193,7 +208,7 @@ Examples:
         flags: &[],
         about: "what a refusal means and what usually causes it",
         help: "\
-NUMBER is a question, 1 to 22 and 24 to 26, or the number that the call returned. Without it all questions are listed.
+NUMBER is a question, 1 to 22, 24 to 26 and 29, or the number that the call returned. Without it all questions are listed.
 
 Examples:
   classreport explain 17
@@ -205,7 +220,7 @@ Examples:
         name: "report",
         operands: "BUILD|CORPUS",
         count: (1, 1),
-        flags: &[EXAMPLE],
+        flags: &[EXAMPLE, LOOKUPS, OBJECTS, TEACHING],
         about: "the report itself, as the proved call writes it",
         help: "\
 A refused corpus writes nothing: a file that was there stays as it was.
@@ -283,10 +298,17 @@ impl Command {
             operands,
             about,
             help,
+            flags,
             ..
         } = self;
+        let limited = flags.iter().any(|flag| flag.long == LOOKUPS.long);
+        let limits = if limited {
+            format!("{LIMITS_HELP}\n")
+        } else {
+            String::new()
+        };
         format!(
-            "{about}\n\nUsage: classreport {name} {operands}\n\n{help}\n{INPUTS_HELP}\n{EVERYWHERE_HELP}"
+            "{about}\n\nUsage: classreport {name} {operands}\n\n{help}\n{limits}{INPUTS_HELP}\n{EVERYWHERE_HELP}"
         )
     }
 }

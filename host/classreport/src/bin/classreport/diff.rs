@@ -7,7 +7,8 @@ use classreport::{Report, Row, Section};
 use crate::args::Words;
 use crate::columns::{self, Column};
 use crate::failure::Failure;
-use crate::input::subject;
+use crate::input::either;
+use crate::limits;
 use crate::output;
 use crate::table::shown;
 use crate::terminal::Look;
@@ -15,9 +16,13 @@ use crate::text::visible;
 
 pub fn run(words: &Words) -> Result<u8, Failure> {
     let look = Look::of(words)?;
-    let (old, new) = (subject(words, 0)?.report, subject(words, 1)?.report);
+    let (old, new) = (either(words, 0)?, either(words, 1)?);
+    if limits::given(words) && old.source.is_none() && new.source.is_none() {
+        let made = "both are reports, and the limits are those of the calls that made them";
+        return Err(Failure::usage(made));
+    }
     let mut found = Differences::new(look);
-    found.reports(&old, &new);
+    found.reports(&old.report, &new.report);
     let text = found.text();
     if !words.has("quiet") {
         output::write_text(words, &text)?;

@@ -3,12 +3,13 @@ use std::ffi::{OsStr, OsString};
 use std::io::{self, Read};
 use std::path::{Path, PathBuf};
 
-use classreport::{Corpus, Refusal, Report, Verified};
+use classreport::{Corpus, Limits, Refusal, Report, Verified};
 
 use crate::args::Words;
 use crate::example;
 use crate::failure::Failure;
 use crate::folder;
+use crate::limits;
 use crate::progress::Progress;
 
 /// A corpus, and where it came from.
@@ -23,14 +24,18 @@ pub struct Source {
 pub struct Subject {
     pub name: PathBuf,
     pub report: Report<'static>,
+    /// of the call that made it here
+    pub limits: Limits,
     pub source: Option<Source>,
 }
 
 impl Source {
-    /// The report of the call.
+    /// The report of the call, within the limits that were given.
     pub fn report(&self, words: &Words) -> Result<Report<'static>, Failure> {
+        let limits = limits::limits(words)?;
         let _shown = self.progress(words);
-        classreport::report(&self.bytes).map_err(|refusal| self.refused(refusal))
+        let report = classreport::report_within(&self.bytes, limits);
+        report.map_err(|refusal| self.refused(refusal))
     }
 
     /// What the call finds about the hashes of its names.
@@ -129,8 +134,19 @@ enum As {
     Report,
 }
 
-/// A report, or a corpus or build with the report that the call gives for it.
+/// What a command tells of: a report, or a corpus or build with the report that the call gives for it. Limits are for
+/// that call, and a report has had its own.
 pub fn subject(words: &Words, place: usize) -> Result<Subject, Failure> {
+    let subject = either(words, place)?;
+    if subject.source.is_none() && limits::given(words) {
+        let made = "it is a report, and the limits are those of the call that made it";
+        return Err(Failure::usage(made).about(&subject.name));
+    }
+    Ok(subject)
+}
+
+/// The same with any options.
+pub fn either(words: &Words, place: usize) -> Result<Subject, Failure> {
     let choices = [
         ("either", As::Either),
         ("corpus", As::Corpus),
@@ -156,6 +172,7 @@ pub fn subject(words: &Words, place: usize) -> Result<Subject, Failure> {
     Ok(Subject {
         name,
         report,
+        limits: limits::limits(words)?,
         source: None,
     })
 }
@@ -164,6 +181,7 @@ fn of_source(words: &Words, source: Source) -> Result<Subject, Failure> {
     Ok(Subject {
         name: source.name.clone(),
         report: source.report(words)?,
+        limits: limits::limits(words)?,
         source: Some(source),
     })
 }

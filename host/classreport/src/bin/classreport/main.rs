@@ -16,6 +16,7 @@ mod folder;
 mod html;
 mod input;
 mod json;
+mod limits;
 mod markup;
 mod output;
 mod progress;
@@ -129,6 +130,7 @@ fn with_command(command: &Command, words: impl Iterator<Item = OsString>) -> Res
         return print(&version());
     }
     words.choice("errors", &[("text", ()), ("json", ())])?;
+    limits::limits(&words)?;
     let given = words.operands.len() + usize::from(words.has("example"));
     let (least, most) = command.count;
     if !(least..=most).contains(&given) {

@@ -1,5 +1,5 @@
 //! A chain as steps that can be told or drawn.
-use classreport::chain::{Chain, End, Line, LineEnd, MOST_LOOKUPS, MOST_OBJECTS};
+use classreport::chain::{Chain, End, Line, LineEnd};
 
 #[derive(Debug, Clone, Copy, PartialEq, Eq)]
 pub enum What {
@@ -44,6 +44,12 @@ pub fn steps(chain: &Chain) -> Vec<Step> {
     steps
 }
 
+/// A number of things: a chain or a line that is cut off has as many as its limit.
+fn counted(number: usize, one: &str, more: &str) -> String {
+    let what = if number == 1 { one } else { more };
+    format!("{number} {what}")
+}
+
 fn broken(reference: Option<String>, title: String) -> Step {
     Step {
         what: What::Broken,
@@ -62,7 +68,10 @@ fn script(line: &Line, reference: Option<String>) -> Vec<Step> {
             "the outers run in a ring: back to {}",
             line.names[place]
         )),
-        LineEnd::TooDeep => Some(format!("it lies more than {MOST_OBJECTS} objects deep")),
+        LineEnd::TooDeep => {
+            let most = counted(line.names.len(), "object", "objects");
+            Some(format!("it lies more than {most} deep"))
+        }
     };
     let mut steps = Vec::new();
     for (depth, name) in line.names.iter().enumerate() {
@@ -100,7 +109,10 @@ fn reason(end: &End, chain: &Chain) -> String {
             let class = &chain.classes[*place].path;
             format!("a ring: back to class {}, {class}", place + 1)
         }
-        End::TooLong => format!("the chain has more than {MOST_LOOKUPS} classes"),
+        End::TooLong => {
+            let most = counted(chain.classes.len(), "class", "classes");
+            format!("the chain has more than {most}")
+        }
         End::Null => "it has no class: the reference is null".to_owned(),
         End::Bad => "the reference is bad: it leads outside the package's lists".to_owned(),
         End::Script(_) => String::new(),

@@ -2,7 +2,7 @@
 use std::io::{self, Write};
 
 use classreport::chain::{Findings, Flagged, Headers};
-use classreport::{Corpus, Verified};
+use classreport::{Corpus, Limits, Verified};
 
 use crate::args::Words;
 use crate::failure::Failure;
@@ -47,7 +47,7 @@ pub fn run(words: &Words) -> Result<u8, Failure> {
 /// Which objects and packages the call counted.
 fn found(source: &Source, verified: &Verified) -> Result<Findings, Failure> {
     let corpus = Corpus::read(&source.bytes).map_err(|refusal| source.refused(refusal))?;
-    let headers = Headers::read(&corpus);
+    let headers = Headers::read(&corpus, Limits::BOOTHS);
     let found = headers.and_then(|headers| headers.findings(verified));
     found.map_err(|differ| Failure::disagreement(&differ).about(&source.name))
 }

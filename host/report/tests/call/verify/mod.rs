@@ -8,6 +8,7 @@ use std::fmt::Write;
 use answer::{Answer, Refusal};
 use corpus::decode::be;
 use corpus::refusals::Refusals;
+use model::Limits;
 
 use crate::both::agreed;
 use crate::judged::Judged;
@@ -37,7 +38,7 @@ fn counts(output: &[u8]) -> [u64; COUNTS.len()] {
 impl Judged for Verifies {
     const ASKS_WORK: bool = false;
 
-    fn call(corpus: &[u8], work: &mut [u8], out: &mut [u8]) -> u64 {
+    fn call(_: Limits, corpus: &[u8], work: &mut [u8], out: &mut [u8]) -> u64 {
         report::class_verify(corpus, work, out)
     }
 
