@@ -4,7 +4,9 @@ use mathlib.Core.Logic.{_⊎_, inl, inr}
 use mathlib.Core.Bool.{Bool, true, false}
 use mathlib.Core.List.{List, [], _∷_, _++_, append-assoc, List·Memᴰ, List·Memᴰ·head, List·Memᴰ·tail, List·Memᴰ·append-cases}
 use mathlib.Core.Option.{none, some}
-use Prim.Native.Nat.{ℕ}
+use Prim.Native.Nat.{ℕ, _+_, _*_}
+use native.Mathlib.Nat.{mul-suc}
+use native.Mathlib.Omega.{arith}
 use lib.Dec.{T}
 use lib.ListN.{length, length-append}
 use Rattle.base.specs.Never.{never}
@@ -70,6 +72,11 @@ module _ {A B : Type 0} (f : A → List B) where
   pub length-flat : (l : List A) → length (flat f l) ≡ sum (λ a. length (f a)) l
   length-flat [] = refl
   length-flat (x ∷ l) = rw (length-append, length-flat l)
+
+  -- where each element brings as many
+  pub length-each : (size : ℕ) → ((a : A) → length (f a) ≡ size) → (l : List A) → length (flat f l) ≡ size * length l
+  length-each size one [] = omega arith
+  length-each size one (x ∷ l) = rw (length-append (f x) (flat f l), one x, length-each size one l, mul-suc size (length l)) (omega arith)
 
 module _ {A : Type 0} (f g : A → ℕ) (same : (a : A) → f a ≡ g a) where
   pub sum-same : (l : List A) → sum f l ≡ sum g l

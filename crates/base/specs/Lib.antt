@@ -28,6 +28,7 @@ pub mod ReadingRows
 pub mod Seek
 pub mod SeekLaws
 pub mod ReadingFront
+pub mod ReadingFrontRows
 pub mod ReadingGives
 pub mod ReadingMarks
 pub mod ReadingRewrite

@@ -24,3 +24,8 @@ beAt k s at = be (take k (drop at s))
 unfoldable pub beBytes : ℕ → ℕ → List ℕ
 beBytes zero x = []
 beBytes (suc k) x = x / 256 ^ k % 256 ∷ beBytes k x
+
+-- the k low bytes of x, little-endian
+unfoldable pub leBytes : ℕ → ℕ → List ℕ
+leBytes zero x = []
+leBytes (suc k) x = x % 256 ∷ leBytes k (x / 256)

@@ -8,7 +8,7 @@ use lib.ListN.{length, take, drop, getD, length-append, length-drop, length-take
 use lib.Seq.{take-nil, take-take, take-add, drop-drop, getD-drop, length-take-le}
 use lib.Pow.{pow-add}
 use lib.Arith.{digits-lt, digits-div, digits-mod, mod-mul}
-use Rattle.base.specs.Number.{le, be, leAt, beAt, beBytes}
+use Rattle.base.specs.Number.{le, be, leAt, beAt, beBytes, leBytes}
 
 -- every element is a byte
 abbrev pub Bytes : List ℕ → Type 0
@@ -236,3 +236,24 @@ beBytes-one x = rw (div-one x)
 pub beBytes-4 : (x : ℕ) → beBytes 4 x ≡ x / 16777216 % 256 ∷ x / 65536 % 256 ∷ x / 256 % 256 ∷ x % 256 ∷ []
 unfolding beBytes
 beBytes-4 x = rw (div-one x)
+
+-- ---- the same, little-endian
+
+-- there are k of them
+pub length-leBytes : (k x : ℕ) → length (leBytes k x) ≡ k
+unfolding leBytes
+length-leBytes zero x = refl
+length-leBytes (suc k) x = ap suc (length-leBytes k (x / 256))
+
+-- each is a byte
+pub leBytes-bytes : (k x : ℕ) → Bytes (leBytes k x)
+unfolding leBytes
+leBytes-bytes zero x i = zero-lt-suc 255
+leBytes-bytes (suc k) x zero = mod-lt x (zero-lt-suc 255)
+leBytes-bytes (suc k) x (suc i) = leBytes-bytes k (x / 256) i
+
+-- the bytes of x read back as x, as far as k bytes hold it
+pub le-leBytes : (k x : ℕ) → le (leBytes k x) ≡ x % 256 ^ k
+unfolding leBytes
+le-leBytes zero x = sym (mod-one x)
+le-leBytes (suc k) x = rw (le-leBytes k (x / 256), pow-suc 256 k, mod-mul x (pow256 k) (zero-lt-suc 255)) (omega arith)

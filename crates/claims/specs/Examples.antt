@@ -11,7 +11,8 @@ use Rattle.base.specs.House.{lengthFirst}
 use Rattle.text.specs.Id.{idOf}
 use Rattle.base.specs.Literal.{quoted}
 use Rattle.text.specs.Name.{suffix}
-use Rattle.zen.specs.Written.{le4, le8, scriptIndex, nullIndex, object, scriptBytes, packageWith, packageBytes}
+use Rattle.written.specs.BatchBytes.{le4, le8}
+use Rattle.written.specs.Written.{scriptIndex, nullIndex, object, scriptBytes, packageWith, packageBytes}
 use Rattle.zen.specs.declared.tables.Export.{Export}
 use Rattle.meaning.specs.Call.{refusedIn, accepted, numberOf, limits}
 use Rattle.meaning.specs.Limited.{answerWithin}

@@ -6,3 +6,5 @@ pub mod Examples
 pub mod Limits
 -- The build's own hashes.
 pub mod Verify
+-- Writing headers.
+pub mod Header

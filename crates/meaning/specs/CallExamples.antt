@@ -5,7 +5,7 @@ use mathlib.Core.List.{List, [], _∷_, _++_, map}
 use Prim.Native.Nat.{ℕ}
 use lib.ListN.{replicate}
 use Rattle.base.specs.Output.{over}
-use Rattle.zen.specs.Written.{scriptIndex, nullIndex, object, scriptBytes, packageBytes}
+use Rattle.written.specs.Written.{scriptIndex, nullIndex, object, scriptBytes, packageBytes}
 use Rattle.zen.specs.declared.tables.Export.{Export}
 use Rattle.meaning.specs.Frame.{Part}
 use Rattle.meaning.specs.Call.{refusedIn, accepted, bufferAfter, limits}

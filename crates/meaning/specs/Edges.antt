@@ -5,7 +5,7 @@ use Prim.Native.Nat.{ℕ}
 use Rattle.base.specs.House.{lengthFirst}
 use Rattle.base.specs.Literal.{quoted as text}
 use Rattle.text.specs.Id.{idOf}
-use Rattle.zen.specs.Written.{scriptIndex, importIndex, nullIndex, packageBytes}
+use Rattle.written.specs.Written.{scriptIndex, importIndex, nullIndex, packageBytes}
 use Rattle.meaning.specs.Frame.{Part}
 use Rattle.meaning.specs.Call.{refusedIn, accepted, numberOf, limits}
 use Rattle.meaning.specs.Limited.{answerWithin}

@@ -9,7 +9,8 @@ use Rattle.base.specs.Literal.{quoted as text}
 use Rattle.city.specs.City.{k2}
 use Rattle.text.specs.Id.{idOf}
 use Rattle.text.specs.Name.{suffix}
-use Rattle.zen.specs.Written.{le4, le8, scriptIndex, nullIndex, object, scriptBytes, packageWith, packageBytes}
+use Rattle.written.specs.BatchBytes.{le4, le8}
+use Rattle.written.specs.Written.{scriptIndex, nullIndex, object, scriptBytes, packageWith, packageBytes}
 use Rattle.zen.specs.declared.tables.Export.{Export}
 use Rattle.meaning.specs.Call.{refusedIn, accepted, numberOf, limits}
 use Rattle.meaning.specs.Limited.{answerWithin}

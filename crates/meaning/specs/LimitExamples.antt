@@ -3,7 +3,7 @@
 use mathlib.Core.Path.{_≡_, refl}
 use mathlib.Core.List.{List, [], _∷_}
 use Prim.Native.Nat.{ℕ}
-use Rattle.zen.specs.Written.{scriptIndex, packageBytes}
+use Rattle.written.specs.Written.{scriptIndex, packageBytes}
 use Rattle.zen.specs.declared.tables.Export.{Export}
 use Rattle.meaning.specs.Resolve.{Limits, limitsOf}
 use Rattle.meaning.specs.Call.{refusedIn, accepted}

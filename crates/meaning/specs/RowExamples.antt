@@ -7,7 +7,7 @@ use Prim.Native.String.{String}
 use Rattle.base.specs.House.{lengthFirst}
 use Rattle.text.specs.Id.{idOf}
 use Rattle.base.specs.Literal.{quoted as text}
-use Rattle.zen.specs.Written.{scriptIndex, importIndex, nullIndex, object, scriptBytes, packageBytes}
+use Rattle.written.specs.Written.{scriptIndex, importIndex, nullIndex, object, scriptBytes, packageBytes}
 use Rattle.zen.specs.declared.tables.Export.{Export}
 use Rattle.meaning.specs.Frame.{Part}
 use Rattle.meaning.specs.Scan.{lastPart}
@@ -179,12 +179,13 @@ pub record RowExamples : Type 0 where
       asked (corpusFrom engine (asks ∷ has ∷ []))
       ≡ accepted
       (reportBytes (sectionBytes 9 "P" 2 (toneRow 4 1 1 "Q.C" "/Engine.Speaker" "export:Booth" ∷ []) ∷ sectionBytes 9 "Q" 1 [] ∷ []))
-  -- "Text: 4-byte length, UTF-8": `é` is the two bytes C3 A9, which are written here as the characters of these numbers
+  -- "Text: 4-byte length, UTF-8": `é` is the two bytes C3 A9
+  pub two-bytes : texts ("é" ∷ []) ≡ 0 ∷ 0 ∷ 0 ∷ 2 ∷ 0xC3 ∷ 0xA9 ∷ []
   pub utf-8 :
       asked (corpusOf accentedObjects accented)
       ≡ accepted
-      (reported "Ã©" 2
-      (lengthFirst (1 ∷ 1 ∷ 0 ∷ 4 ∷ 1 ∷ 1 ∷ texts ("Ã©" ∷ "Ã©_GEN_VARIABLE" ∷ "Ã©" ∷ "Ã©.Ã©" ∷ "Ã©" ∷ "export:Ã©" ∷ [])) ∷ []))
+      (reported "é" 2
+      (lengthFirst (1 ∷ 1 ∷ 0 ∷ 4 ∷ 1 ∷ 1 ∷ texts ("é" ∷ "é_GEN_VARIABLE" ∷ "é" ∷ "é.é" ∷ "é" ∷ "export:é" ∷ [])) ∷ []))
   -- "part after the last `.` or `:`"
   pub after-colon : lastPart (text "a.b:c") ≡ text "c"
   pub after-dot : lastPart (text "a:b.") ≡ []
@@ -197,6 +198,7 @@ row-examples = record {
   class-kinds = refl;
   chains = refl;
   key-not-export = refl;
+  two-bytes = refl;
   utf-8 = refl;
   after-colon = refl;
   after-dot = refl;

@@ -7,7 +7,7 @@ use lib.ListN.{replicate}
 use Rattle.text.specs.Id.{idOf}
 use Rattle.base.specs.Literal.{quoted as text}
 use Rattle.base.specs.Output.{over}
-use Rattle.zen.specs.Written.{scriptIndex, nullIndex, object, scriptBytes, packageBytes}
+use Rattle.written.specs.Written.{scriptIndex, nullIndex, object, scriptBytes, packageBytes}
 use Rattle.meaning.specs.Frame.{Part}
 use Rattle.meaning.specs.Call.{refusedIn, accepted, bufferAfter}
 use Rattle.meaning.specs.Bytes.{partBytes, packagesBytes, corpusRest, corpusBytes}

@@ -6,8 +6,9 @@ use lib.ListN.{length, take, drop}
 use Rattle.base.specs.Find.{flat}
 use Rattle.base.specs.House.{lengthFirst}
 use Rattle.base.specs.Literal.{quoted as text}
+use Rattle.text.specs.Name.{textBytes}
 use Rattle.base.specs.Number.{beBytes}
-use Rattle.zen.specs.Written.{le4}
+use Rattle.written.specs.BatchBytes.{le4}
 use Rattle.meaning.specs.Frame.{Part}
 use Rattle.meaning.specs.Report.{reportVersion}
 use Rattle.meaning.specs.Bytes.{corpusBytes}
@@ -29,7 +30,7 @@ importsNumbered numbers block = take (length block - 4 * length numbers) block +
 
 -- "8-byte id, text of the package name, 4-byte export count, 4-byte row count, rows in export order"
 abbrev pub sectionBytes : ℕ → String → ℕ → List (List ℕ) → List ℕ
-sectionBytes id name exports rows = beBytes 8 id ++ lengthFirst (text name) ++ beBytes 4 exports ++ beBytes 4 (length rows) ++ flat (λ r. r) rows
+sectionBytes id name exports rows = beBytes 8 id ++ textBytes (text name) ++ beBytes 4 exports ++ beBytes 4 (length rows) ++ flat (λ r. r) rows
 
 abbrev pub reportBytes : List (List ℕ) → List ℕ
 reportBytes sections = lengthFirst (reportVersion ∷ (beBytes 4 (length sections) ++ flat (λ s. s) sections))
@@ -40,4 +41,4 @@ reported name exports rows = reportBytes (sectionBytes 9 name exports rows ∷ [
 
 -- a row's texts
 abbrev pub texts : List String → List ℕ
-texts ts = flat (λ t. lengthFirst (text t)) ts
+texts ts = flat (λ t. textBytes (text t)) ts

@@ -7,8 +7,9 @@ use native.Mathlib.Omega.{arith}
 use lib.ListN.{length, take, drop, length-append}
 use lib.Seq.{sets, sets-eq, take-at, drop-at, drop-drop, length-take-le}
 use lib.Arith.{mod-mul, digits-div, digits-mod}
-use Rattle.table.specs.Words.{leBytes, stored}
-use Rattle.table.specs.WordLaws.{length-leBytes}
+use Rattle.base.specs.Number.{leBytes}
+use Rattle.base.specs.NumberLaws.{length-leBytes}
+use Rattle.table.specs.Words.{stored}
 
 -- byte by byte
 pub stored-sets : (k : ℕ) (w : List ℕ) (at v : ℕ) → at + k ≤ length w → sets w at (leBytes k v) ≡ stored k w at v

@@ -2,15 +2,14 @@
 use mathlib.Core.Path.{_≡_, refl, sym, _∙_, ap}
 use mathlib.Core.Logic.{_⊎_, ⊎-elim}
 use mathlib.Core.List.{List, _++_, append-assoc}
-use Prim.Native.Nat.{ℕ, zero, suc, _+_, _-_, _/_, _%_, _^_, _≤_, _<_}
-use native.Mathlib.Nat.{pow-suc, one-le-pow, zero-lt-suc, mod-one, mod-eq-of-lt}
+use Prim.Native.Nat.{ℕ, _+_, _-_, _^_, _≤_, _<_}
+use native.Mathlib.Nat.{mod-eq-of-lt}
 use native.Mathlib.Omega.{arith}
 use lib.ListN.{length, take, drop, length-append, length-drop, take-append-drop}
 use lib.Seq.{take-take, take-add, take-append-le, drop-drop, drop-append-le, take-at, drop-at, length-take-le}
-use lib.Arith.{mod-mul}
-use Rattle.base.specs.Number.{le, leAt}
-use Rattle.base.specs.NumberLaws.{drop-take, leAt-same}
-use Rattle.table.specs.Words.{mid, put, leBytes, stored, Kept}
+use Rattle.base.specs.Number.{leAt, leBytes}
+use Rattle.base.specs.NumberLaws.{drop-take, leAt-same, length-leBytes, le-leBytes}
+use Rattle.table.specs.Words.{mid, put, stored, Kept}
 
 -- ---- what a change leaves
 
@@ -105,21 +104,6 @@ put-inner {b} {e} {ys} a k w t room l u =
     }
 
 -- ---- a store
-
--- there are k bytes
-pub length-leBytes : (k v : ℕ) → length (leBytes k v) ≡ k
-unfolding leBytes
-length-leBytes zero v = refl
-length-leBytes (suc k) v = ap suc (length-leBytes k (v / 256))
-
-pow256 : (k : ℕ) → zero < 256 ^ k
-pow256 k = one-le-pow k 256 (zero-lt-suc 255)
-
--- they read back as v, as far as k bytes hold it
-pub le-leBytes : (k v : ℕ) → le (leBytes k v) ≡ v % 256 ^ k
-unfolding leBytes
-le-leBytes zero v = sym (mod-one v)
-le-leBytes (suc k) v = rw (le-leBytes k (v / 256), pow-suc 256 k, mod-mul v (pow256 k) (zero-lt-suc 255)) (omega arith)
 
 module _ (k : ℕ) (w : List ℕ) (at v : ℕ) (room : at + k ≤ length w) where
   bytes : length (leBytes k v) ≡ length (mid at k w)

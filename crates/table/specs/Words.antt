@@ -1,8 +1,9 @@
--- Numbers in a buffer, and parts of it. Reads are layer 1's `leAt`. Assumes nothing.
+-- Numbers in a buffer, and parts of it. Reads are layer 1's `leAt`, bytes its `leBytes`. Assumes nothing.
 use mathlib.Core.Path.{_≡_}
-use mathlib.Core.List.{List, [], _∷_, _++_}
-use Prim.Native.Nat.{ℕ, zero, suc, _/_, _%_}
+use mathlib.Core.List.{List, _++_}
+use Prim.Native.Nat.{ℕ}
 use lib.ListN.{length, take, drop}
+use Rattle.base.specs.Number.{leBytes}
 
 -- the k bytes of w from a on
 abbrev pub mid : ℕ → ℕ → List ℕ → List ℕ
@@ -11,11 +12,6 @@ mid a k w = take k (drop a w)
 -- w with ys in the place of those k bytes: as a part that was lent leaves it
 abbrev pub put : ℕ → ℕ → List ℕ → List ℕ → List ℕ
 put a k w ys = take a w ++ (ys ++ drop k (drop a w))
-
--- the k low bytes of v, the lowest first
-unfoldable pub leBytes : ℕ → ℕ → List ℕ
-leBytes zero v = []
-leBytes (suc k) v = v % 256 ∷ leBytes k (v / 256)
 
 -- w with the k low bytes of v from a place on
 unfoldable pub stored : ℕ → List ℕ → ℕ → ℕ → List ℕ

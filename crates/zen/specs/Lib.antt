@@ -10,7 +10,7 @@ pub mod Objects
 pub mod Zen
 pub mod Answers
 pub mod Layouts
-pub mod Written
+-- Computed at their edges.
 pub mod Examples
 pub mod PlaceExamples
 -- What counts of a block's bytes, and that the rest is passed over.

@@ -3,7 +3,7 @@ use borrow.Author.Needs.{needs}
 use native.Mathlib.Numerals.{add-one, add-two, add-three}
 use native.Mathlib.Omega.{arith}
 use lib.ListN.{length-set}
-use Rattle.table.specs.Words.{leBytes}
+use Rattle.base.specs.Number.{leBytes}
 use Rattle.table.proofs.Stores.{stored-sets}
 use Rattle.table.proofs.words.set32.Statement.{statement}
 use Rattle.table.proofs.words.set32.Tie as tie
