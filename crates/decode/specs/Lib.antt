@@ -12,6 +12,7 @@ pub mod GrammarLaws
 pub mod Measure
 pub mod TurnLaws
 pub mod MeasureLaws
+pub mod PlainLaws
 pub mod WriteLaws
 pub mod BackLaws
 -- ---- All of it computed at its edges

@@ -7,6 +7,7 @@ ghost use Rattle.decode.specs.Measure.{measured};
 use super::chars::Char;
 use super::chars::both;
 use super::chars::char_at;
+use text::plain::is_plain;
 
 // A text: how many units it has and whether it fits Latin-1; or no UTF-8.
 pub enum Measured {
@@ -38,8 +39,8 @@ fn unit_len(c: u32) -> usize
     2
 }
 
-// The text of some bytes, measured.
-pub fn measure(s: &[u8]) -> Measured
+// The text of some bytes, measured character by character.
+fn measure_each(s: &[u8]) -> Measured
     ensures { λ r. ⌜ r ≡ measured (fromUtf8 (now (s .entry))) ⌝ }
 {
     let mut n: usize = 0;
@@ -56,4 +57,14 @@ pub fn measure(s: &[u8]) -> Measured
         }
     }
     Measured::Text(n, latin)
+}
+
+// The text of some bytes, measured. ASCII has a unit for each byte.
+pub fn measure(s: &[u8]) -> Measured
+    ensures { λ r. ⌜ r ≡ measured (fromUtf8 (now (s .entry))) ⌝ }
+{
+    if is_plain(s) {
+        return Measured::Text(s.len(), true);
+    }
+    measure_each(s)
 }

@@ -10,9 +10,11 @@ ghost use Rattle.text.specs.Utf8.{fromUtf8};
 ghost use Rattle.decode.specs.Measure.{textOf, fitsLatin1};
 use super::chars::Char;
 use super::chars::char_at;
+use text::plain::is_plain;
+use text::plain::put_plain;
 
-// The text as Latin-1: each byte is its code point.
-pub fn put_latin1(out: &mut [u8], s: &[u8]) -> usize
+// The text as Latin-1, character by character: each byte is its code point.
+fn put_each(out: &mut [u8], s: &[u8]) -> usize
     requires { ⌜ (isWell (fromUtf8 (now s)) ≡ true) × (fitsLatin1 (textOf (now s)) ≡ true) × (length (textOf (now s)) ≤ length (now out)) ⌝ }
     ensures { λ r. ⌜ Wrote (now (out .entry)) (textOf (now (s .entry))) (now (out .exit)) r ⌝ }
 {
@@ -29,6 +31,18 @@ pub fn put_latin1(out: &mut [u8], s: &[u8]) -> usize
         }
     }
     n
+}
+
+// The text as Latin-1. ASCII is written as it stands.
+pub fn put_latin1(out: &mut [u8], s: &[u8]) -> usize
+    requires { ⌜ (isWell (fromUtf8 (now s)) ≡ true) × (fitsLatin1 (textOf (now s)) ≡ true) × (length (textOf (now s)) ≤ length (now out)) ⌝ }
+    ensures { λ r. ⌜ Wrote (now (out .entry)) (textOf (now (s .entry))) (now (out .exit)) r ⌝ }
+{
+    if is_plain(s) {
+        put_plain(out, s);
+        return s.len();
+    }
+    put_each(out, s)
 }
 
 // The units of a scalar value, each in two bytes, the low one first.

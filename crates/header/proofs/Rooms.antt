@@ -120,7 +120,8 @@ module _ (s : List ℕ) (w : Whole s) where
 
     -- ---- the parts together
 
-    pub tables-made : leBytes 8 0 ++ flat (leBytes 8) (cells (beAt 8 s) 8 (p .hashes) (p .keys)) ++ flat exportBytes (cells (exportIn s) 40 (p .exports) (p .entries))
+    pub tables-made : leBytes 8 0 ++ flat (leBytes 8) (cells (beAt 8 s) 8 (p .hashes) (p .keys)) ++ flat exportBytes (cells (exportIn s) 40 (p .exports)
+        (p .entries))
         ≡ tablesBytes (descriptionAt s)
     unfolding tablesBytes descriptionAt partsOf
     tables-made = rw e

@@ -92,7 +92,8 @@ module _ (s : List ℕ) where
         exports = f .exports;
         hashes = f .hashes;
         imported = f .imported;
-        names = both-fit 4 s (importedPlace s + 4) (importedCount s) (f .names) (rw (imported-texts s (importedCount s) (importedPlace s + 4)) at (v .imported));
+        names = both-fit 4 s (importedPlace s + 4) (importedCount s) (f .names) (rw (imported-texts s (importedCount s) (importedPlace s + 4)) at
+            (v .imported));
         whole = f .ends;
         name = rw n at (v .name);
         named-all = rw n at (v .exports);
@@ -125,7 +126,8 @@ module _ (s old : List ℕ) where
         → (r ≡ numberOf (headerAnswer s (length old))) × (old ≡ bufferAfter (headerAnswer s (length old)) old)
     unfolding headerAnswer numberOf bufferAfter
     said-short h e =
-        let l : leb (length (headerOf (descriptionAt s))) (length old) ≡ false = lt-leb (length (headerOf (descriptionAt s))) (length old) (omega (arith, size-is)) in
+        let l : leb (length (headerOf (descriptionAt s))) (length old) ≡ false = lt-leb (length (headerOf (descriptionAt s))) (length old) (omega
+        (arith, size-is)) in
         (rw (whole-answer s w, l) e, rw (whole-answer s w, l))
 
     module _ (h : g .size ≤ length old) where

@@ -107,7 +107,8 @@ module _ (more : ℕ) (s : List ℕ) (at n : ℕ) where
       go [] e = absurd (h (sym (texts-count more s n at) ∙ ap length e))
       go (t ∷ ts) e = refl
 
-  pub batch-made : (strings : ℕ) → strings ≡ stringsFrom more s at n → (n ≡ 0 → ⊥) → frontBytes n strings ++ namesBytes (textsFrom more s at n) ≡ batchBytes (textsFrom more s at n)
+  pub batch-made : (strings : ℕ) → strings ≡ stringsFrom more s at n → (n ≡ 0 → ⊥) → frontBytes n strings ++ namesBytes (textsFrom more s at n)
+      ≡ batchBytes (textsFrom more s at n)
   batch-made strings e h = rw e (sym (batch-some h))
 
   pub names-size : length (namesBytes (textsFrom more s at n))
@@ -116,9 +117,16 @@ module _ (more : ℕ) (s : List ℕ) (at n : ℕ) where
   names-size =
       let ts = textsFrom more s at n in
       let z = replicate {A = ℕ} (8 * length ts) 0 in
-      rw (length-append (z ++ flat headBytes ts) (flat stringBytes ts), length-append z (flat headBytes ts), length-replicate {A = ℕ} (8 * length ts) 0, texts-count more s n at)
+      rw (
+        length-append (z ++ flat headBytes ts) (flat stringBytes ts),
+        length-append z (flat headBytes ts),
+        length-replicate {A = ℕ}
+            (8 * length ts) 0,
+        texts-count more s n at,
+      )
 
-  pub names-made : replicate (8 * n) 0 ++ flat headBytes (textsFrom more s at n) ++ flat stringBytes (textsFrom more s at n) ≡ namesBytes (textsFrom more s at n)
+  pub names-made : replicate (8 * n) 0 ++ flat headBytes (textsFrom more s at n) ++ flat stringBytes (textsFrom more s at n) ≡ namesBytes
+      (textsFrom more s at n)
   unfolding namesBytes
   names-made = rw (texts-count more s n at)
 
@@ -135,7 +143,8 @@ content-parts d = simp append-assoc
 nested : (a b c d e f r : List ℕ) → a ++ b ++ (c ++ d) ++ e ++ f ++ r ≡ a ++ (b ++ (c ++ (d ++ (e ++ (f ++ r)))))
 nested a b c d e f r = simp append-assoc
 
-summary-words : (size : ℕ) (offsets : List ℕ) (d : Description) → summaryBytes size offsets d ≡ flat (leBytes 4) (0 ∷ size ∷ d .name ∷ d .number ∷ 0 ∷ 0 ∷ offsets)
+summary-words : (size : ℕ) (offsets : List ℕ) (d : Description) → summaryBytes size offsets d ≡ flat (leBytes 4)
+    (0 ∷ size ∷ d .name ∷ d .number ∷ 0 ∷ 0 ∷ offsets)
 unfolding summaryBytes
 summary-words size offsets d = nested (le4 0) (le4 size) (le4 (d .name)) (le4 (d .number)) (le4 0) (le4 0) (flat le4 offsets)
 

@@ -58,7 +58,7 @@ fn is_ends(part: &[u8]) -> bool
 
 // Whether bytes are all ASCII, sixteen a turn; the last sixteen may have some of those before them. Lengths up to 32 have no turns, since a
 // turn more or less is a branch that can't be foreseen.
-fn is_plain(part: &[u8]) -> bool
+pub fn is_plain(part: &[u8]) -> bool
     ensures { λ r. ⌜ r ≡ allAscii (now (part .entry)) ⌝ }
 {
     let n = part.len();
@@ -143,7 +143,7 @@ fn put_ends(out: &mut [u8], part: &[u8])
 }
 
 // Bytes, and whether they are all ASCII: sixteen a turn; the last sixteen may have some of those before them.
-fn put_plain(out: &mut [u8], part: &[u8]) -> bool
+pub fn put_plain(out: &mut [u8], part: &[u8]) -> bool
     requires { ⌜ length (now part) ≤ length (now out) ⌝ }
     ensures { λ r. ⌜ (r ≡ allAscii (now (part .entry))) × Wrote (now (out .entry)) (now (part .entry)) (now (out .exit)) (length (now (part .entry))) ⌝ }
 {

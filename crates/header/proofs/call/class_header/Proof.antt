@@ -38,7 +38,8 @@ returns-2 c =
     let u = k .before .before .before .before .before .before in
     let (e, w) = said k in
     let r = c .before .before .before .before .before .before .regions-of in
-    said-header (u .args .description .now) (u .args .header .now) w _ e (r .result) (r .ensures) (c .before .before .before .before .if1 .left) (c .before .before .put-header .ensures)
+    said-header (u .args .description .now) (u .args .header .now) w _ e (r .result) (r .ensures) (c .before .before .before .before .if1 .left)
+    (c .before .before .put-header .ensures)
 
 returns-3 : tie.Need-returns-3
 returns-3 c =

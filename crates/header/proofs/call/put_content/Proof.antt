@@ -26,7 +26,12 @@ put-batch-requires c κs =
       b .short,
       b .is,
       front-fits names (tablesBytes d) _
-          (front-fits (names ++ tablesBytes d) (importedBytes (d .imported)) _ (omega (arith, u .pre .2, ap length (content-made s (u .pre .0) p (u .pre .1))))),
+          (front-fits (names ++ tablesBytes d) (importedBytes (d .imported)) _ (omega (
+            arith,
+            u .pre .2,
+            ap length (content-made s (u .pre .0) p
+                (u .pre .1)),
+          ))),
     )
 
 put-tables-requires : tie.Need-put-tables-requires
@@ -39,7 +44,12 @@ put-tables-requires c κs =
       u .pre .0,
       u .pre .1,
       next-room _ names (tablesBytes d) _ _ (c .before .before .before .put-batch .ensures)
-          (front-fits (names ++ tablesBytes d) (importedBytes (d .imported)) _ (omega (arith, u .pre .2, ap length (content-made s (u .pre .0) p (u .pre .1))))),
+          (front-fits (names ++ tablesBytes d) (importedBytes (d .imported)) _ (omega (
+            arith,
+            u .pre .2,
+            ap length (content-made s (u .pre .0) p
+                (u .pre .1)),
+          ))),
     )
 
 put-imported-requires : tie.Need-put-imported-requires
@@ -51,14 +61,16 @@ put-imported-requires c κs =
     let names = batchBytes (textsFrom 0 s 17 (p .texts)) in (
       u .pre .0,
       u .pre .1,
-      next-room _ (names ++ tablesBytes d) (importedBytes (d .imported)) _ _ (wrote-rest (c .before .before .before .before .before .before .before .put-batch .ensures) (c .before .before .before .put-tables .ensures))
+      next-room _ (names ++ tablesBytes d) (importedBytes (d .imported)) _ _ (wrote-rest
+          (c .before .before .before .before .before .before .before .put-batch .ensures) (c .before .before .before .put-tables .ensures))
           (omega (arith, u .pre .2, ap length (content-made s (u .pre .0) p (u .pre .1)))),
     )
 
 returns : tie.Need-returns
 returns c =
     let u = c .before .before .before .before .before .before .before .before .before .before .before .before .before .before in
-    wrote-as (wrote-rest (wrote-rest (c .before .before .before .before .before .before .before .before .before .before .put-batch .ensures) (c .before .before .before .before .before .before .put-tables .ensures)) (c .before .before .put-imported .ensures))
+    wrote-as (wrote-rest (wrote-rest (c .before .before .before .before .before .before .before .before .before .before .put-batch .ensures)
+    (c .before .before .before .before .before .before .put-tables .ensures)) (c .before .before .put-imported .ensures))
     (content-made (u .args .s .now) (u .pre .0) (u .args .p) (u .pre .1))
 
 pub put-content-spec : {M : Type 1} → statement M

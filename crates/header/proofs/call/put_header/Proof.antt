@@ -44,7 +44,8 @@ put-content-requires c κs =
 returns : tie.Need-returns
 returns c =
     let u = c .before .before .before .before .before .before .before .before .before .before in
-    wrote-as (wrote-rest (c .before .before .before .before .before .before .put-summary .ensures) (c .before .before .put-content .ensures)) (header-made (u .args .s .now) (u .args .g) (u .pre .2))
+    wrote-as (wrote-rest (c .before .before .before .before .before .before .put-summary .ensures) (c .before .before .put-content .ensures)) (header-made
+    (u .args .s .now) (u .args .g) (u .pre .2))
 
 pub put-header-spec : {M : Type 1} → statement M
 put-header-spec =

@@ -46,7 +46,8 @@ put-numbers-requires c κs =
 returns : tie.Need-returns
 returns c =
     let u = c .before .before .before .before .before .before .before .before .before .before in
-    wrote-as (wrote-rest (c .before .before .before .before .before .before .put-batch .ensures) (c .before .before .put-numbers .ensures)) (imported-made (u .args .s .now) (u .pre .0) (u .args .p) (u .pre .1))
+    wrote-as (wrote-rest (c .before .before .before .before .before .before .put-batch .ensures) (c .before .before .put-numbers .ensures)) (imported-made
+    (u .args .s .now) (u .pre .0) (u .args .p) (u .pre .1))
 
 pub put-imported-spec : {M : Type 1} → statement M
 put-imported-spec =

@@ -32,7 +32,8 @@ put-words-requires c κs = omega (arith, c .before .before .before .before .befo
 
 returns : tie.Need-returns
 unfolding summaryWords
-returns c = wrote-as (c .before .before .put-words .ensures) (rw (c .before .before .before .before .before .before .be32 .ensures, c .before .before .before .before .before .be322 .ensures))
+returns c = wrote-as (c .before .before .put-words .ensures) (rw
+    (c .before .before .before .before .before .before .be32 .ensures, c .before .before .before .before .before .be322 .ensures))
 
 pub put-summary-spec : {M : Type 1} → statement M
 put-summary-spec =

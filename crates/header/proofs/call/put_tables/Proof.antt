@@ -22,7 +22,15 @@ put-le64-requires c κs =
     let p = u .args .p in
     let h = flat (leBytes 8) (cells (beAt 8 s) 8 (p .hashes) (p .keys)) in
     let x = flat exportBytes (cells (exportIn s) 40 (p .exports) (p .entries)) in
-    omega (arith, u .pre .2, ap length (tables-made s (u .pre .0) p (u .pre .1)), length-append (leBytes 8 0 ++ h) x, length-append (leBytes 8 0) h, length-leBytes 8 0)
+    omega (
+      arith,
+      u .pre .2,
+      ap length (tables-made s (u .pre .0) p (u .pre .1)),
+      length-append (leBytes 8 0 ++ h) x,
+      length-append
+          (leBytes 8 0) h,
+      length-leBytes 8 0,
+    )
 
 put-hashes-requires : tie.Need-put-hashes-requires
 put-hashes-requires c κs =
@@ -44,14 +52,16 @@ put-exports-requires c κs =
     let h = flat (leBytes 8) (cells (beAt 8 s) 8 (p .hashes) (p .keys)) in
     let x = flat exportBytes (cells (exportIn s) 40 (p .exports) (p .entries)) in (
       exports-there s (u .pre .0) p (u .pre .1),
-      next-room _ (leBytes 8 0 ++ h) x _ _ (wrote-rest (c .before .before .before .before .before .before .before .put-le64 .ensures) (c .before .before .before .put-hashes .ensures))
+      next-room _ (leBytes 8 0 ++ h) x _ _ (wrote-rest (c .before .before .before .before .before .before .before .put-le64 .ensures)
+          (c .before .before .before .put-hashes .ensures))
           (omega (arith, u .pre .2, ap length (tables-made s (u .pre .0) p (u .pre .1)))),
     )
 
 returns : tie.Need-returns
 returns c =
     let u = c .before .before .before .before .before .before .before .before .before .before .before .before .before .before in
-    wrote-as (wrote-rest (wrote-rest (c .before .before .before .before .before .before .before .before .before .before .put-le64 .ensures) (c .before .before .before .before .before .before .put-hashes .ensures)) (c .before .before .put-exports .ensures))
+    wrote-as (wrote-rest (wrote-rest (c .before .before .before .before .before .before .before .before .before .before .put-le64 .ensures)
+    (c .before .before .before .before .before .before .put-hashes .ensures)) (c .before .before .put-exports .ensures))
     (tables-made (u .args .s .now) (u .pre .0) (u .args .p) (u .pre .1))
 
 pub put-tables-spec : {M : Type 1} → statement M

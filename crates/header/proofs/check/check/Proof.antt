@@ -14,7 +14,8 @@ check-tables-requires c κs =
     let u = a .before .before .before in
     let front = a .before .if1 .left in
     texts-begun (u .args .s .now) front (n .size-at2 .result) (n .size-at2 .ensures .0) (n .size-at2 .ensures .1)
-    (omega (arith, n .before .before .before .if2 .left, a .size-at .ensures .0)) (n .before .if3 .left) (sym (z .sized-texts .ensures) ∙ c .before .end .given .1)
+    (omega (arith, n .before .before .before .if2 .left, a .size-at .ensures .0)) (n .before .if3 .left) (sym
+    (z .sized-texts .ensures) ∙ c .before .end .given .1)
 
 returns-4 : tie.Need-returns-4
 returns-4 c = c .check-tables .ensures

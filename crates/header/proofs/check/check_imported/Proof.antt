@@ -11,7 +11,8 @@ returns c =
     let k = c .before in
     let z = k .before .before .before in
     let u = z .before .before .before in
-    names-left (u .args .s .now) (u .args .end) (u .args .strings) (u .args .hashes) (u .args .stop) (u .pre) (z .before .size-at .result) (z .before .size-at .ensures .0)
+    names-left (u .args .s .now) (u .args .end) (u .args .strings) (u .args .hashes) (u .args .stop) (u .pre) (z .before .size-at .result)
+    (z .before .size-at .ensures .0)
     (sym (z .sized-texts .ensures) ∙ k .before .last .given .1) (c .if1 .taken)
 
 check-whole-requires : tie.Need-check-whole-requires
@@ -20,7 +21,8 @@ check-whole-requires c κs =
     let k = h .before in
     let z = k .before .before .before in
     let u = z .before .before .before in
-    listed (u .args .s .now) (u .args .end) (u .args .strings) (u .args .hashes) (u .args .stop) (u .pre) (z .before .size-at .result) (z .before .size-at .ensures .0)
+    listed (u .args .s .now) (u .args .end) (u .args .strings) (u .args .hashes) (u .args .stop) (u .pre) (z .before .size-at .result)
+    (z .before .size-at .ensures .0)
     (sym (z .sized-texts .ensures) ∙ k .before .last .given .1) (h .if1 .left) (z .before .size-at .ensures .1)
     (c .before .before .size-at2 .result) (c .before .size-at3 .result) (c .size-at4 .result) (c .before .before .size-at2 .ensures .0)
     (c .before .size-at3 .ensures .0) (c .size-at4 .ensures .0) (c .before .size-at3 .ensures .1) (c .size-at4 .ensures .1)
@@ -32,7 +34,8 @@ returns-3 : tie.Need-returns-3
 returns-3 c =
     let z = c .before .before in
     let u = z .before .before .before in
-    names-bad (u .args .s .now) (u .args .end) (u .args .strings) (u .args .hashes) (u .args .stop) (u .pre) (z .before .size-at .result) (z .before .size-at .ensures .0)
+    names-bad (u .args .s .now) (u .args .end) (u .args .strings) (u .args .hashes) (u .args .stop) (u .pre) (z .before .size-at .result)
+    (z .before .size-at .ensures .0)
     (sym (z .sized-texts .ensures) ∙ c .enum-told .given .1)
 
 pub check-imported-spec : {M : Type 1} → statement M

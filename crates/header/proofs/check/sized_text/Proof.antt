@@ -25,7 +25,8 @@ returns-3 c =
     let u = k .before .before .before .before in
     let z = u .before .before in
     let i = z .before .before .before in
-    text-units (i .args .more) (i .args .s .now) (i .args .at) (i .pre .0) (z .before .if1 .left) (z .size-at .result) (z .size-at .ensures .0) (u .before .if2 .left)
+    text-units (i .args .more) (i .args .s .now) (i .args .at) (i .pre .0) (z .before .if1 .left) (z .size-at .result) (z .size-at .ensures .0)
+    (u .before .if2 .left)
     (u .utf8-at .result .now) (u .utf8-at .ensures) _ _ (told k) (c .if3 .taken)
 
 returns-4 : tie.Need-returns-4
@@ -34,7 +35,8 @@ returns-4 c =
     let u = k .before .before .before .before in
     let z = u .before .before in
     let i = z .before .before .before in
-    text-fits (i .args .more) (i .args .s .now) (i .args .at) (i .pre .0) (z .before .if1 .left) (z .size-at .result) (z .size-at .ensures .0) (u .before .if2 .left)
+    text-fits (i .args .more) (i .args .s .now) (i .args .at) (i .pre .0) (z .before .if1 .left) (z .size-at .result) (z .size-at .ensures .0)
+    (u .before .if2 .left)
     (u .utf8-at .result .now) (u .utf8-at .ensures) _ _ (told k) (c .before .if3 .left) (c .string-size .result) (c .string-size .ensures)
 
 returns-5 : tie.Need-returns-5
@@ -43,7 +45,8 @@ returns-5 c =
     let u = m .before in
     let z = u .before .before in
     let i = z .before .before .before in
-    text-ill (i .args .more) (i .args .s .now) (i .args .at) (i .pre .0) (z .before .if1 .left) (z .size-at .result) (z .size-at .ensures .0) (u .before .if2 .left)
+    text-ill (i .args .more) (i .args .s .now) (i .args .at) (i .pre .0) (z .before .if1 .left) (z .size-at .result) (z .size-at .ensures .0)
+    (u .before .if2 .left)
     (u .utf8-at .result .now) (u .utf8-at .ensures) (sym (m .measure .ensures) ∙ c .enum-told .given .1)
 
 pub sized-text-spec : {M : Type 1} → statement M

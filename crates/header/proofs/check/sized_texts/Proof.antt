@@ -67,7 +67,8 @@ returns : tie.Need-returns Inv-loop μ-loop
 returns c =
     let l = c .before .before .before .before .loop in
     let u = c .before .before .before .before .before .before .args in
-    turn-bad (u .more) (u .s .now) (l .size) (l .at) (l .left) (search needs) (sym (c .before .before .sized-text .ensures) ∙ c .enum-told .given .1) ∙ l .inv .3
+    turn-bad (u .more) (u .s .now) (l .size) (l .at) (l .left) (search needs) (sym
+    (c .before .before .sized-text .ensures) ∙ c .enum-told .given .1) ∙ l .inv .3
 
 returns-2 : tie.Need-returns-2 Inv-loop μ-loop
 returns-2 c =

@@ -53,13 +53,22 @@ put-le64-requires c κs =
     let l = c .before .before .before .loop in
     let u = c .before .before .before .before .before .before in
     let w = u .args .words .now in
-    omega (arith, length-leBytes 8 (getD w (l .i) 0), partly-room (l .inv .2) (leBytes 8 (getD w (l .i) 0)) (left w (l .i + 1)) (next w (l .i) (search needs)) (u .pre))
+    omega (
+      arith,
+      length-leBytes 8 (getD w (l .i) 0),
+      partly-room (l .inv .2) (leBytes 8 (getD w (l .i) 0)) (left w (l .i + 1)) (next w (l .i)
+          (search needs)) (u .pre),
+    )
 
 add-n : tie.Need-add-n Inv-loop μ-loop
 add-n c =
     let l = c .before .before .before .before .before .before .loop in
     let w = c .before .before .before .before .before .before .before .before .before .args .words .now in
-    omega (arith, partly-next (l .inv .2) (leBytes 8 (getD w (l .i) 0)) (left w (l .i + 1)) (next w (l .i) (search needs)) (c .before .before .put-le64 .ensures) .wrote .fits)
+    omega (
+      arith,
+      partly-next (l .inv .2) (leBytes 8 (getD w (l .i) 0)) (left w (l .i + 1)) (next w (l .i) (search needs))
+          (c .before .before .put-le64 .ensures) .wrote .fits,
+    )
 
 add-i : tie.Need-add-i Inv-loop μ-loop
 add-i c = search needs

@@ -21,7 +21,8 @@ put-le32-requires c κs =
 returns : tie.Need-returns
 returns c =
     let a = c .before .before .before .before .before .before .before .args in
-    wrote-as (c .before .before .put-le32 .ensures) (sym (batch-none (a .more) (a .s .now) (a .from) (a .count) (c .before .before .before .before .if1 .taken)))
+    wrote-as (c .before .before .put-le32 .ensures) (sym (batch-none (a .more) (a .s .now) (a .from) (a .count)
+    (c .before .before .before .before .if1 .taken)))
 
 put-front-requires : tie.Need-put-front-requires
 put-front-requires c κs =
@@ -36,15 +37,20 @@ put-names-requires c κs =
     let u = c .before .before .before .before .before .before .before .before in
     let a = u .args in
     let names = namesBytes (textsFrom (a .more) (a .s .now) (a .from) (a .count)) in
-    let e = batch-made (a .more) (a .s .now) (a .from) (a .count) (a .strings) (u .pre .3) (c .before .before .before .before .before .if1 .left) in
-    (u .pre .0, u .pre .1, next-room _ (frontBytes (a .count) (a .strings)) names _ _ (c .before .before .before .put-front .ensures) (omega (arith, u .pre .4, ap length e)))
+    let e = batch-made (a .more) (a .s .now) (a .from) (a .count) (a .strings) (u .pre .3) (c .before .before .before .before .before .if1 .left) in (
+      u .pre .0,
+      u .pre .1,
+      next-room _ (frontBytes (a .count) (a .strings)) names _ _ (c .before .before .before .put-front .ensures) (omega
+          (arith, u .pre .4, ap length e)),
+    )
 
 returns-2 : tie.Need-returns-2
 returns-2 c =
     let u = c .before .before .before .before .before .before .before .before .before .before .before in
     let a = u .args in
     wrote-as (wrote-rest (c .before .before .before .before .before .before .put-front .ensures) (c .before .before .put-names .ensures))
-    (batch-made (a .more) (a .s .now) (a .from) (a .count) (a .strings) (u .pre .3) (c .before .before .before .before .before .before .before .before .if1 .left))
+    (batch-made (a .more) (a .s .now) (a .from) (a .count) (a .strings) (u .pre .3)
+    (c .before .before .before .before .before .before .before .before .if1 .left))
 
 pub put-batch-spec : {M : Type 1} → statement M
 put-batch-spec =

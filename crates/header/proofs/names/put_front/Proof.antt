@@ -19,7 +19,8 @@ put-le64-requires c κs =
 
 returns : tie.Need-returns
 unfolding frontBytes
-returns c = wrote-rest (wrote-rest (c .before .before .before .before .before .before .before .before .before .before .put-le32 .ensures) (c .before .before .before .before .before .before .put-le322 .ensures)) (c .before .before .put-le64 .ensures)
+returns c = wrote-rest (wrote-rest (c .before .before .before .before .before .before .before .before .before .before .put-le32 .ensures)
+    (c .before .before .before .before .before .before .put-le322 .ensures)) (c .before .before .put-le64 .ensures)
 
 pub put-front-spec : {M : Type 1} → statement M
 put-front-spec =

@@ -15,7 +15,8 @@ use Rattle.header.proofs.names.put_head.Statement.{statement}
 use Rattle.header.proofs.names.put_head.Tie as tie
 
 -- what was measured
-told : (c : tie.After-known-told) → Said (c .before .before .before .before .before .before .args .s .now) (c .before .units .given .0 .0) (c .before .units .given .0 .1 .0)
+told : (c : tie.After-known-told) → Said (c .before .before .before .before .before .before .args .s .now) (c .before .units .given .0 .0)
+    (c .before .units .given .0 .1 .0)
 told c = measured-text _ (sym (c .before .before .before .measure .ensures) ∙ c .before .units .given .1)
 
 head-high-requires : tie.Need-head-high-requires
@@ -30,7 +31,8 @@ same-length c = simp length-set (omega arith)
 returns : tie.Need-returns
 returns c =
     let m = told (c .before) in
-    wrote-stores {vs = c .head-high .result ∷ c .before .before .units .given .0 .0 % 256 ∷ []} (head-is m ∙ rw (c .head-high .ensures)) (omega (arith, ap length (head-is m)))
+    wrote-stores {vs = c .head-high .result ∷ c .before .before .units .given .0 .0 % 256 ∷ []} (head-is m ∙ rw (c .head-high .ensures)) (omega
+    (arith, ap length (head-is m)))
 
 -- the text is well-formed
 returns-2 : tie.Need-returns-2

@@ -21,7 +21,8 @@ use Rattle.header.proofs.names.put_heads.Tie as tie
 
 abbrev Inv-loop : tie.InvT-loop
 Inv-loop out₀ s from count more n₀ at₀ left₀ out n at left =
-    (textsFit more s at left ≡ true) × (length out ≡ length out₀) × Partly out₀ (flat headBytes (textsFrom more s from count)) out (flat headBytes (textsFrom more s at left)) n
+    (textsFit more s at left ≡ true) × (length out ≡ length out₀) × Partly out₀ (flat headBytes (textsFrom more s from count)) out (flat headBytes
+    (textsFrom more s at left)) n
 
 abbrev μ-loop : tie.MeasureT-loop
 μ-loop out₀ s from count more n₀ at₀ left₀ out n at left = left
@@ -57,7 +58,8 @@ put-head-requires c κs =
         arith,
         length-head (textAt (u .args .s .now) (l .at)),
         partly-room (l .inv .2) (headBytes (textAt (u .args .s .now) (l .at)))
-            (flat headBytes (textsFrom (u .args .more) (u .args .s .now) (nextText (u .args .more) (u .args .s .now) (l .at)) (l .left - 1))) (text-turn headBytes (u .args .more) (u .args .s .now) (l .at) (l .left) (search needs)) (u .pre .1),
+            (flat headBytes (textsFrom (u .args .more) (u .args .s .now) (nextText (u .args .more) (u .args .s .now) (l .at)) (l .left - 1)))
+            (text-turn headBytes (u .args .more) (u .args .s .now) (l .at) (l .left) (search needs)) (u .pre .1),
       ),
     )
 
@@ -66,7 +68,8 @@ add-n c =
     let l = c .before .before .before .before .before .before .loop in
     let u = c .before .before .before .before .before .before .before .before .before in
     let p = partly-next (l .inv .2) (headBytes (textAt (u .args .s .now) (l .at)))
-    (flat headBytes (textsFrom (u .args .more) (u .args .s .now) (nextText (u .args .more) (u .args .s .now) (l .at)) (l .left - 1))) (text-turn headBytes (u .args .more) (u .args .s .now) (l .at) (l .left) (search needs))
+    (flat headBytes (textsFrom (u .args .more) (u .args .s .now) (nextText (u .args .more) (u .args .s .now) (l .at)) (l .left - 1))) (text-turn headBytes
+    (u .args .more) (u .args .s .now) (l .at) (l .left) (search needs))
     (wrote-as (c .before .before .put-head .ensures) (ap (λ (x : List ℕ). headBytes (textOf x)) (c .before .before .before .utf8-at .ensures))) in
     omega (arith, p .wrote .fits)
 
@@ -89,8 +92,10 @@ loop-again c =
     let u = c .before .before .before .before .before .before .before .before .before .before in
     let (f, g) = fit-first (u .args .more) (u .args .s .now) (l .at) (l .left) (search needs) (l .inv .0) in
     let p = partly-next (l .inv .2) (headBytes (textAt (u .args .s .now) (l .at)))
-    (flat headBytes (textsFrom (u .args .more) (u .args .s .now) (nextText (u .args .more) (u .args .s .now) (l .at)) (l .left - 1))) (text-turn headBytes (u .args .more) (u .args .s .now) (l .at) (l .left) (search needs))
-    (wrote-as (c .before .before .before .put-head .ensures) (ap (λ (x : List ℕ). headBytes (textOf x)) (c .before .before .before .before .utf8-at .ensures))) in
+    (flat headBytes (textsFrom (u .args .more) (u .args .s .now) (nextText (u .args .more) (u .args .s .now) (l .at)) (l .left - 1))) (text-turn headBytes
+    (u .args .more) (u .args .s .now) (l .at) (l .left) (search needs))
+    (wrote-as (c .before .before .before .put-head .ensures) (ap (λ (x : List ℕ). headBytes (textOf x))
+    (c .before .before .before .before .utf8-at .ensures))) in
     rw (c .next-text .ensures) (g, wrote-length (p .wrote), p)
 
 same-length : tie.Need-same-length Inv-loop μ-loop

@@ -22,8 +22,17 @@ put-heads-requires c κs =
     let u = c .before .before .before .before .before .before .before in
     let a = u .args in
     let w = c .before .before .before .put-zeros .ensures in
-    let heads = flat headBytes (textsFrom (a .more) (a .s .now) (a .from) (a .count)) in
-    (u .pre .0, wrote-room w (length heads) (omega (arith, u .pre .2, w .size, length-replicate {A = ℕ} (8 * a .count) 0, names-size (a .more) (a .s .now) (a .from) (a .count))))
+    let heads = flat headBytes (textsFrom (a .more) (a .s .now) (a .from) (a .count)) in (
+      u .pre .0,
+      wrote-room w (length heads) (omega (
+        arith,
+        u .pre .2,
+        w .size,
+        length-replicate {A = ℕ} (8 * a .count) 0,
+        names-size (a .more) (a .s .now)
+            (a .from) (a .count),
+      )),
+    )
 
 put-strings-requires : tie.Need-put-strings-requires
 put-strings-requires c κs =
@@ -40,7 +49,8 @@ put-strings-requires c κs =
 returns : tie.Need-returns
 returns c =
     let a = c .before .before .before .before .before .before .before .before .before .before .before .before .before .before .args in
-    wrote-as (wrote-rest (wrote-rest (c .before .before .before .before .before .before .before .before .before .before .put-zeros .ensures) (c .before .before .before .before .before .before .put-heads .ensures)) (c .before .before .put-strings .ensures))
+    wrote-as (wrote-rest (wrote-rest (c .before .before .before .before .before .before .before .before .before .before .put-zeros .ensures)
+    (c .before .before .before .before .before .before .put-heads .ensures)) (c .before .before .put-strings .ensures))
     (names-made (a .more) (a .s .now) (a .from) (a .count))
 
 pub put-names-spec : {M : Type 1} → statement M

@@ -18,7 +18,8 @@ use Rattle.header.proofs.names.put_string.Statement.{statement}
 use Rattle.header.proofs.names.put_string.Tie as tie
 
 -- what was measured
-told : (c : tie.After-known-told) → Said (c .before .before .before .before .before .before .args .s .now) (c .before .latin .given .0 .0) (c .before .latin .given .0 .1 .0)
+told : (c : tie.After-known-told) → Said (c .before .before .before .before .before .before .args .s .now) (c .before .latin .given .0 .0)
+    (c .before .latin .given .0 .1 .0)
 told c = measured-text _ (sym (c .before .before .before .measure .ensures) ∙ c .before .latin .given .1)
 
 latin : (c : tie.Then1) → Said (c .before .before .before .before .before .before .before .args .s .now) (c .before .before .latin .given .0 .0) true

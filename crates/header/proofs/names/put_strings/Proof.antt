@@ -20,7 +20,8 @@ use Rattle.header.proofs.names.put_strings.Tie as tie
 
 abbrev Inv-loop : tie.InvT-loop
 Inv-loop out₀ s from count more n₀ at₀ left₀ out n at left =
-    (textsFit more s at left ≡ true) × (length out ≡ length out₀) × Partly out₀ (flat stringBytes (textsFrom more s from count)) out (flat stringBytes (textsFrom more s at left)) n
+    (textsFit more s at left ≡ true) × (length out ≡ length out₀) × Partly out₀ (flat stringBytes (textsFrom more s from count)) out (flat stringBytes
+    (textsFrom more s at left)) n
 
 abbrev μ-loop : tie.MeasureT-loop
 μ-loop out₀ s from count more n₀ at₀ left₀ out n at left = left
@@ -52,7 +53,8 @@ put-string-requires c κs =
     rw (c .utf8-at .ensures) (
       f .well,
       partly-room (l .inv .2) (stringBytes (textAt (u .args .s .now) (l .at)))
-          (flat stringBytes (textsFrom (u .args .more) (u .args .s .now) (nextText (u .args .more) (u .args .s .now) (l .at)) (l .left - 1))) (text-turn stringBytes (u .args .more) (u .args .s .now) (l .at) (l .left) (search needs)) (u .pre .1),
+          (flat stringBytes (textsFrom (u .args .more) (u .args .s .now) (nextText (u .args .more) (u .args .s .now) (l .at)) (l .left - 1)))
+          (text-turn stringBytes (u .args .more) (u .args .s .now) (l .at) (l .left) (search needs)) (u .pre .1),
     )
 
 add-n : tie.Need-add-n Inv-loop μ-loop
@@ -60,7 +62,8 @@ add-n c =
     let l = c .before .before .before .before .before .before .loop in
     let u = c .before .before .before .before .before .before .before .before .before in
     let p = partly-next (l .inv .2) (stringBytes (textAt (u .args .s .now) (l .at)))
-    (flat stringBytes (textsFrom (u .args .more) (u .args .s .now) (nextText (u .args .more) (u .args .s .now) (l .at)) (l .left - 1))) (text-turn stringBytes (u .args .more) (u .args .s .now) (l .at) (l .left) (search needs))
+    (flat stringBytes (textsFrom (u .args .more) (u .args .s .now) (nextText (u .args .more) (u .args .s .now) (l .at)) (l .left - 1)))
+    (text-turn stringBytes (u .args .more) (u .args .s .now) (l .at) (l .left) (search needs))
     (wrote-as (c .before .before .put-string .ensures) (ap (λ (x : List ℕ). stringBytes (textOf x)) (c .before .before .before .utf8-at .ensures))) in
     omega (arith, p .wrote .fits)
 
@@ -83,8 +86,10 @@ loop-again c =
     let u = c .before .before .before .before .before .before .before .before .before .before in
     let (f, g) = fit-first (u .args .more) (u .args .s .now) (l .at) (l .left) (search needs) (l .inv .0) in
     let p = partly-next (l .inv .2) (stringBytes (textAt (u .args .s .now) (l .at)))
-    (flat stringBytes (textsFrom (u .args .more) (u .args .s .now) (nextText (u .args .more) (u .args .s .now) (l .at)) (l .left - 1))) (text-turn stringBytes (u .args .more) (u .args .s .now) (l .at) (l .left) (search needs))
-    (wrote-as (c .before .before .before .put-string .ensures) (ap (λ (x : List ℕ). stringBytes (textOf x)) (c .before .before .before .before .utf8-at .ensures))) in
+    (flat stringBytes (textsFrom (u .args .more) (u .args .s .now) (nextText (u .args .more) (u .args .s .now) (l .at)) (l .left - 1)))
+    (text-turn stringBytes (u .args .more) (u .args .s .now) (l .at) (l .left) (search needs))
+    (wrote-as (c .before .before .before .put-string .ensures) (ap (λ (x : List ℕ). stringBytes (textOf x))
+    (c .before .before .before .before .utf8-at .ensures))) in
     rw (c .next-text .ensures) (g, wrote-length (p .wrote), p)
 
 same-length : tie.Need-same-length Inv-loop μ-loop

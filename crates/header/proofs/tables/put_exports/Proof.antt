@@ -18,7 +18,8 @@ use Rattle.header.proofs.tables.put_exports.Tie as tie
 
 abbrev Inv-loop : tie.InvT-loop
 Inv-loop out₀ s from count n₀ at₀ left₀ out n at left =
-    (at + 40 * left ≤ length s) × (length out ≡ length out₀) × Partly out₀ (flat exportBytes (cells (exportIn s) 40 from count)) out (flat exportBytes (cells (exportIn s) 40 at left)) n
+    (at + 40 * left ≤ length s) × (length out ≡ length out₀) × Partly out₀ (flat exportBytes (cells (exportIn s) 40 from count)) out (flat exportBytes
+    (cells (exportIn s) 40 at left)) n
 
 abbrev μ-loop : tie.MeasureT-loop
 μ-loop out₀ s from count n₀ at₀ left₀ out n at left = left
@@ -41,7 +42,8 @@ put-export-requires c κs =
     let u = c .before .before .before .before .before in (
       omega arith,
       partly-room (l .inv .2) (exportBytes (exportIn (u .args .s .now) (l .at)))
-          (flat exportBytes (cells (exportIn (u .args .s .now)) 40 (l .at + 40) (l .left - 1))) (cell-turn exportBytes (exportIn (u .args .s .now)) 40 (l .at) (l .left) (search needs)) (u .pre .1),
+          (flat exportBytes (cells (exportIn (u .args .s .now)) 40 (l .at + 40) (l .left - 1))) (cell-turn exportBytes (exportIn (u .args .s .now)) 40
+          (l .at) (l .left) (search needs)) (u .pre .1),
     )
 
 add-n : tie.Need-add-n Inv-loop μ-loop
@@ -49,7 +51,8 @@ add-n c =
     let l = c .before .before .before .before .before .loop in
     let u = c .before .before .before .before .before .before .before .before in
     let p = partly-next (l .inv .2) (exportBytes (exportIn (u .args .s .now) (l .at)))
-    (flat exportBytes (cells (exportIn (u .args .s .now)) 40 (l .at + 40) (l .left - 1))) (cell-turn exportBytes (exportIn (u .args .s .now)) 40 (l .at) (l .left) (search needs))
+    (flat exportBytes (cells (exportIn (u .args .s .now)) 40 (l .at + 40) (l .left - 1))) (cell-turn exportBytes (exportIn (u .args .s .now)) 40 (l .at)
+    (l .left) (search needs))
     (c .before .before .put-export .ensures) in
     omega (arith, p .wrote .fits)
 
@@ -67,7 +70,8 @@ loop-again c =
     let l = c .before .before .before .before .before .loop in
     let u = c .before .before .before .before .before .before .before .before in
     let p = partly-next (l .inv .2) (exportBytes (exportIn (u .args .s .now) (l .at)))
-    (flat exportBytes (cells (exportIn (u .args .s .now)) 40 (l .at + 40) (l .left - 1))) (cell-turn exportBytes (exportIn (u .args .s .now)) 40 (l .at) (l .left) (search needs))
+    (flat exportBytes (cells (exportIn (u .args .s .now)) 40 (l .at + 40) (l .left - 1))) (cell-turn exportBytes (exportIn (u .args .s .now)) 40 (l .at)
+    (l .left) (search needs))
     (c .before .before .put-export .ensures) in
     (omega arith, wrote-length (p .wrote), p)
 

@@ -18,7 +18,8 @@ use Rattle.header.proofs.tables.put_hashes.Tie as tie
 
 abbrev Inv-loop : tie.InvT-loop
 Inv-loop out₀ s from count n₀ at₀ left₀ out n at left =
-    (at + 8 * left ≤ length s) × (length out ≡ length out₀) × Partly out₀ (flat (leBytes 8) (cells (beAt 8 s) 8 from count)) out (flat (leBytes 8) (cells (beAt 8 s) 8 at left)) n
+    (at + 8 * left ≤ length s) × (length out ≡ length out₀) × Partly out₀ (flat (leBytes 8) (cells (beAt 8 s) 8 from count)) out (flat (leBytes 8) (cells
+    (beAt 8 s) 8 at left)) n
 
 abbrev μ-loop : tie.MeasureT-loop
 μ-loop out₀ s from count n₀ at₀ left₀ out n at left = left
@@ -46,7 +47,8 @@ put-le64-requires c κs =
       arith,
       length-leBytes 8 (beAt 8 (u .args .s .now) (l .at)),
       partly-room (l .inv .2) ((leBytes 8) (beAt 8 (u .args .s .now) (l .at)))
-          (flat (leBytes 8) (cells (beAt 8 (u .args .s .now)) 8 (l .at + 8) (l .left - 1))) (cell-turn (leBytes 8) (beAt 8 (u .args .s .now)) 8 (l .at) (l .left) (search needs)) (u .pre .1),
+          (flat (leBytes 8) (cells (beAt 8 (u .args .s .now)) 8 (l .at + 8) (l .left - 1))) (cell-turn (leBytes 8) (beAt 8 (u .args .s .now)) 8 (l .at)
+          (l .left) (search needs)) (u .pre .1),
     )
 
 add-n : tie.Need-add-n Inv-loop μ-loop
@@ -54,7 +56,8 @@ add-n c =
     let l = c .before .before .before .before .before .before .loop in
     let u = c .before .before .before .before .before .before .before .before .before in
     let p = partly-next (l .inv .2) ((leBytes 8) (beAt 8 (u .args .s .now) (l .at)))
-    (flat (leBytes 8) (cells (beAt 8 (u .args .s .now)) 8 (l .at + 8) (l .left - 1))) (cell-turn (leBytes 8) (beAt 8 (u .args .s .now)) 8 (l .at) (l .left) (search needs))
+    (flat (leBytes 8) (cells (beAt 8 (u .args .s .now)) 8 (l .at + 8) (l .left - 1))) (cell-turn (leBytes 8) (beAt 8 (u .args .s .now)) 8 (l .at)
+    (l .left) (search needs))
     (wrote-as (c .before .before .put-le64 .ensures) (ap (leBytes 8) (c .before .before .before .be64 .ensures))) in
     omega (arith, p .wrote .fits)
 
@@ -72,7 +75,8 @@ loop-again c =
     let l = c .before .before .before .before .before .before .loop in
     let u = c .before .before .before .before .before .before .before .before .before in
     let p = partly-next (l .inv .2) ((leBytes 8) (beAt 8 (u .args .s .now) (l .at)))
-    (flat (leBytes 8) (cells (beAt 8 (u .args .s .now)) 8 (l .at + 8) (l .left - 1))) (cell-turn (leBytes 8) (beAt 8 (u .args .s .now)) 8 (l .at) (l .left) (search needs))
+    (flat (leBytes 8) (cells (beAt 8 (u .args .s .now)) 8 (l .at + 8) (l .left - 1))) (cell-turn (leBytes 8) (beAt 8 (u .args .s .now)) 8 (l .at)
+    (l .left) (search needs))
     (wrote-as (c .before .before .put-le64 .ensures) (ap (leBytes 8) (c .before .before .before .be64 .ensures))) in
     (omega arith, wrote-length (p .wrote), p)
 

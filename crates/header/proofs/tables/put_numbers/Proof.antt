@@ -21,7 +21,8 @@ use Rattle.header.proofs.tables.put_numbers.Tie as tie
 
 abbrev Inv-loop : tie.InvT-loop
 Inv-loop out₀ s from count n₀ at₀ left₀ out n at left =
-    (textsFit 4 s at left ≡ true) × (length out ≡ length out₀) × Partly out₀ (flat numberBytes (importedFrom s from count)) out (flat numberBytes (importedFrom s at left)) n
+    (textsFit 4 s at left ≡ true) × (length out ≡ length out₀) × Partly out₀ (flat numberBytes (importedFrom s from count)) out (flat numberBytes
+    (importedFrom s at left)) n
 
 abbrev μ-loop : tie.MeasureT-loop
 μ-loop out₀ s from count n₀ at₀ left₀ out n at left = left
@@ -61,16 +62,19 @@ put-le32-requires c κs =
       arith,
       length-leBytes 4 (beAt 4 (u .args .s .now) (textEnd (u .args .s .now) (l .at))),
       partly-room (l .inv .2) (leBytes 4 (beAt 4 (u .args .s .now) (textEnd (u .args .s .now) (l .at))))
-          (flat numberBytes (importedFrom (u .args .s .now) (nextText 4 (u .args .s .now) (l .at)) (l .left - 1))) (number-turn (u .args .s .now) (l .at) (l .left) (search needs)) (u .pre .1),
+          (flat numberBytes (importedFrom (u .args .s .now) (nextText 4 (u .args .s .now) (l .at)) (l .left - 1))) (number-turn (u .args .s .now) (l .at)
+          (l .left) (search needs)) (u .pre .1),
     )
 
 add-n : tie.Need-add-n Inv-loop μ-loop
 add-n c =
     let l = c .before .before .before .before .before .before .before .loop in
     let u = c .before .before .before .before .before .before .before .before .before .before in
-    let e : c .before .before .before .before .before .next-text .result ≡ textEnd (u .args .s .now) (l .at) = omega (arith, c .before .before .before .before .before .next-text .ensures) in
+    let e : c .before .before .before .before .before .next-text .result ≡ textEnd (u .args .s .now) (l .at) = omega
+    (arith, c .before .before .before .before .before .next-text .ensures) in
     let p = partly-next (l .inv .2) (leBytes 4 (beAt 4 (u .args .s .now) (textEnd (u .args .s .now) (l .at))))
-    (flat numberBytes (importedFrom (u .args .s .now) (nextText 4 (u .args .s .now) (l .at)) (l .left - 1))) (number-turn (u .args .s .now) (l .at) (l .left) (search needs))
+    (flat numberBytes (importedFrom (u .args .s .now) (nextText 4 (u .args .s .now) (l .at)) (l .left - 1))) (number-turn (u .args .s .now) (l .at)
+    (l .left) (search needs))
     (wrote-as (c .before .before .put-le32 .ensures) (ap (leBytes 4) (c .before .before .before .be32 .ensures ∙ ap (beAt 4 (u .args .s .now)) e))) in
     omega (arith, p .wrote .fits)
 
@@ -79,7 +83,8 @@ add-at c =
     let l = c .before .before .before .before .before .before .before .loop in
     let u = c .before .before .before .before .before .before .before .before .before .before in
     let (f, g) = fit-first 4 (u .args .s .now) (l .at) (l .left) (search needs) (l .inv .0) in
-    let e : c .before .before .before .before .before .next-text .result ≡ textEnd (u .args .s .now) (l .at) = omega (arith, c .before .before .before .before .before .next-text .ensures) in
+    let e : c .before .before .before .before .before .next-text .result ≡ textEnd (u .args .s .now) (l .at) = omega
+    (arith, c .before .before .before .before .before .next-text .ensures) in
     omega (arith, f .next)
 
 sub-left : tie.Need-sub-left Inv-loop μ-loop
@@ -93,9 +98,11 @@ loop-again c =
     let l = c .before .before .before .before .before .before .before .loop in
     let u = c .before .before .before .before .before .before .before .before .before .before in
     let (f, g) = fit-first 4 (u .args .s .now) (l .at) (l .left) (search needs) (l .inv .0) in
-    let e : c .before .before .before .before .before .next-text .result ≡ textEnd (u .args .s .now) (l .at) = omega (arith, c .before .before .before .before .before .next-text .ensures) in
+    let e : c .before .before .before .before .before .next-text .result ≡ textEnd (u .args .s .now) (l .at) = omega
+    (arith, c .before .before .before .before .before .next-text .ensures) in
     let p = partly-next (l .inv .2) (leBytes 4 (beAt 4 (u .args .s .now) (textEnd (u .args .s .now) (l .at))))
-    (flat numberBytes (importedFrom (u .args .s .now) (nextText 4 (u .args .s .now) (l .at)) (l .left - 1))) (number-turn (u .args .s .now) (l .at) (l .left) (search needs))
+    (flat numberBytes (importedFrom (u .args .s .now) (nextText 4 (u .args .s .now) (l .at)) (l .left - 1))) (number-turn (u .args .s .now) (l .at)
+    (l .left) (search needs))
     (wrote-as (c .before .before .put-le32 .ensures) (ap (leBytes 4) (c .before .before .before .be32 .ensures ∙ ap (beAt 4 (u .args .s .now)) e))) in
     rw e (g, wrote-length (p .wrote), p)
 
