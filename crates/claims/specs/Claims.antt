@@ -3,7 +3,7 @@
 --   the call    `outcomeWithin m corpus work buffer`: the number that it returns with the limits m, and what the report buffer then holds
 --               (meaning/Limited.antt, Call.antt)
 --   the report  `rowOf` and what it names: meaning/Report.antt, Scan.antt, Reference.antt, Resolve.antt, Path.antt, Chain.antt
---   the blocks  `script` and `packageBlock`, what is read and asked of them: zen/Script.antt, Zen.antt, Batch.antt
+--   the blocks  `script` and `packageBlock`, what is read and asked of them: batch/Batch.antt, scriptblock/Script.antt, zen/Zen.antt
 --   text, hash  `utf16`, `utf8`, `cityHash64`, `idOf`: text/Utf16.antt, Utf8.antt, City.antt, Id.antt
 -- `Bytes s`: each number of the list s is below 256. Work buffer and report buffer are any lists. Limits m are two numbers, `m .lookups` and
 -- `m .objects`; `InRange m`: they are 1 to 64 and 1 to 65. Document 01 has 64 and 65; document 02, Q-5: "Make both limits numbers of the call".
@@ -33,8 +33,8 @@ use Rattle.text.specs.Utf16Cases.{Words}
 use Rattle.text.specs.Utf16Laws.{decode-encode, encode-decode, ill-formed, no-encoding}
 use Rattle.text.specs.Utf8.{utf8, fromUtf8}
 use Rattle.text.specs.Utf8Laws.{utf8-decode}
-use Rattle.zen.specs.Script.{Objects, script, objectName}
-use Rattle.zen.specs.ScriptGood.{script-good}
+use Rattle.scriptblock.specs.Script.{Objects, script, objectName}
+use Rattle.scriptblock.specs.ScriptGood.{script-good}
 use Rattle.zen.specs.Zen.{packageBlock, packageName, importedName}
 use Rattle.zen.specs.declared.tables.Export.{Export}
 use Rattle.meaning.specs.Frame.{Part, Corpus}
@@ -151,7 +151,7 @@ demand-1-29 m corpus b work room block e = go (first-of m corpus work room 29 bl
     go (inr (i, f)) = absurd (omega (arith, refusals m corpus b work room 29 block (first-failed m corpus work room 29 block .1 f) .question))
 
 -- "the number of the first of document 01's questions it fails". With limits in the range `answer` is asked, in the order of its lines
--- (meaning/Call.antt: `opened`, `openedIn`, `readFrom`, `weighed`), a block in the order of its reading (zen/Script.antt, Zen.antt); `FirstFailed`
+-- (meaning/Call.antt: `opened`, `openedIn`, `readFrom`, `weighed`), a block in the order of its reading (scriptblock/Script.antt, zen/Zen.antt); `FirstFailed`
 -- (meaning/Order.antt) says the same as facts: all that is asked before is passed, and this fails
 pub demand-1-first : (m : Limits) (corpus : List ℕ) (work room question block : ℕ)
     → (answerWithin m corpus work room ≡ refusedIn question block)

@@ -1,6 +1,6 @@
 -- WRITING HEADERS (document 02, Q-4): "The sound designers want small test packages without running the engine. Add a writer from a description in
--- house form". What has to be believed: a header's bytes (written/HeaderBytes.antt, BatchBytes.antt), a description in house form (header/Form.antt) and
--- the call (header/Call.antt), `made description buffer`: the number that it returns, and what the header buffer then holds.
+-- house form". What has to be believed: a header's bytes (written/HeaderBytes.antt, BatchBytes.antt), a description in house form (description/Form.antt) and
+-- the call (description/Call.antt), `made description buffer`: the number that it returns, and what the header buffer then holds.
 use mathlib.Core.Path.{_≡_, refl, sym, _∙_, ap}
 use mathlib.Core.Logic.{_↔_, _⊎_, inl, inr}
 use mathlib.Core.Bool.{true}
@@ -18,17 +18,17 @@ use Rattle.zen.specs.Listed.{packageMarks}
 use Rattle.zen.specs.Zen.{Read, packageBlock}
 use Rattle.meaning.specs.Answered as After
 use Rattle.meaning.specs.Call.{Answer, refusedIn, accepted, numberOf, bufferAfter}
-use Rattle.header.specs.Form.{description as descriptionRead}
-use Rattle.header.specs.FormBytes.{descriptionBytes}
-use Rattle.header.specs.Call.{asDescribed, headerAnswer, made}
-use Rattle.header.specs.Zeroed.{Zeroed}
-use Rattle.header.specs.BatchFront.{batchSize}
-use Rattle.header.specs.HeaderBack.{starts, readFor, length-header}
-use Rattle.header.specs.FormLaws.{Housed, form-front, form-took}
-use Rattle.header.specs.ZeroLaws.{header-zeroed}
-use Rattle.header.specs.CallLaws.{Writable, writable-is, writable-as, good, Described, described-by, described-as, malformed, Short}
-use Rattle.header.specs.CallLaws as Laws
-use Rattle.header.specs.Examples.{namedA, examples}
+use Rattle.description.specs.Form.{description as descriptionRead}
+use Rattle.description.specs.FormBytes.{descriptionBytes}
+use Rattle.description.specs.Call.{asDescribed, headerAnswer, made}
+use Rattle.description.specs.Zeroed.{Zeroed}
+use Rattle.description.specs.BatchFront.{batchSize}
+use Rattle.description.specs.HeaderBack.{starts, readFor, length-header}
+use Rattle.description.specs.FormLaws.{Housed, form-front, form-took}
+use Rattle.description.specs.ZeroLaws.{header-zeroed}
+use Rattle.description.specs.CallLaws.{Writable, writable-is, writable-as, good, Described, described-by, described-as, malformed, Short}
+use Rattle.description.specs.CallLaws as Laws
+use Rattle.description.specs.Examples.{namedA, examples}
 
 -- ==== THE CALL
 -- THE CONTRACT of the exported call, `class_header`: the lists that it was lent at entry, description and header buffer, the number that it returned,
@@ -174,7 +174,7 @@ pub q-4-different : (s₁ s₂ b₁ b₂ : List ℕ) (first : Accepted s₁ b₁
 q-4-different s₁ s₂ b₁ b₂ first second differ e =
     differ (Laws.injective s₁ s₂ (first .what) (second .what) (first .describes) (second .describes) (sym (first .header-is) ∙ (e ∙ second .header-is)))
 
--- ==== EXAMPLES, computed. header/Examples.antt has more, and each refusal's edge
+-- ==== EXAMPLES, computed. description/Examples.antt has more, and each refusal's edge
 
 -- document 01: "Package named `A`, all offsets 87, header 91"; two bytes of the buffer are behind it
 pub q-4-header-91 : made namedA (replicate 93 7) ≡ record { number = 91; buffer = header-A ++ 7 ∷ 7 ∷ [] }

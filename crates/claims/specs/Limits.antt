@@ -12,7 +12,7 @@ use Rattle.base.specs.Answer.{isRefusal}
 use Rattle.base.specs.NumberLaws.{Bytes}
 use Rattle.base.specs.Perm.{Each}
 use Rattle.base.specs.Reading.{gives, run, runBlock}
-use Rattle.zen.specs.Script.{Objects, script}
+use Rattle.scriptblock.specs.Script.{Objects, script}
 use Rattle.zen.specs.Zen.{packageBlock}
 use Rattle.zen.specs.declared.tables.Export.{Export}
 use Rattle.meaning.specs.Frame.{Part, Corpus}

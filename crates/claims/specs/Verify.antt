@@ -21,10 +21,10 @@ use Rattle.base.specs.Perm.{Each}
 use Rattle.base.specs.Reading.{gives, run, runBlock}
 use Rattle.text.specs.Utf16.{utf16le}
 use Rattle.lower.specs.Lower.{lowered}
-use Rattle.zen.specs.Script.{Objects, script}
-use Rattle.zen.specs.ScriptGood.{script-good}
+use Rattle.scriptblock.specs.Script.{Objects, script}
+use Rattle.scriptblock.specs.ScriptGood.{script-good}
+use Rattle.scriptblock.specs.declared.script.Entry.{Entry}
 use Rattle.zen.specs.Zen.{Read, packageBlock, packageName}
-use Rattle.zen.specs.declared.script.Entry.{Entry}
 use Rattle.meaning.specs.Frame.{Part, Corpus, framed}
 use Rattle.meaning.specs.Reference.{Package}
 use Rattle.meaning.specs.Call.{Answer, refusedIn, accepted, Opened, holding, opened, answer, numberOf, bufferAfter, limits}

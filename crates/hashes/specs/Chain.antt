@@ -9,8 +9,8 @@ use lib.Dec.{eqb}
 use lib.ListN.{length, getD, set, drop}
 use Rattle.text.specs.Name.{suffix}
 use Rattle.text.specs.Units.{nameUnits}
-use Rattle.zen.specs.Holds.{textAt, Holds}
-use Rattle.zen.specs.declared.places.Place.{Place}
+use Rattle.batch.specs.Holds.{textAt, Holds}
+use Rattle.batch.specs.declared.places.Place.{Place}
 use Rattle.meaning.specs.Path.{Path}
 use Rattle.meaning.specs.PathUnits.{pathUnits}
 use Rattle.meaning.specs.Verify.{slash}

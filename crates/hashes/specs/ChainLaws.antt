@@ -14,10 +14,10 @@ use Rattle.base.specs.FindLaws.{none-some}
 use Rattle.base.specs.Number.{leAt}
 use Rattle.base.specs.NumberLaws.{Bytes}
 use Rattle.text.specs.Utf16.{encode16, unitBytes}
-use Rattle.zen.specs.Holds.{textAt, nameAt, Holds}
-use Rattle.zen.specs.Places.{placeAt}
-use Rattle.zen.specs.Script.{Objects, objectName}
-use Rattle.zen.specs.declared.places.Place.{Place}
+use Rattle.batch.specs.Holds.{textAt, nameAt, Holds}
+use Rattle.batch.specs.Places.{placeAt}
+use Rattle.batch.specs.declared.places.Place.{Place}
+use Rattle.scriptblock.specs.Script.{Objects, objectName}
 use Rattle.table.specs.Table.{recordAt}
 use Rattle.meaning.specs.Path.{Path, added, start}
 use Rattle.meaning.specs.PathUnits.{pathUnits, hash-units, slashAfter, units-more}

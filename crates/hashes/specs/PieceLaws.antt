@@ -18,9 +18,9 @@ use Rattle.base.specs.OutputLaws.{wrote-none, wrote-as, wrote-rest, wrote-room}
 use Rattle.text.specs.Units.{unitsOf, nameUnits}
 use Rattle.text.specs.UnitsLaws.{base-units, unitsOf-narrow, unitsOf-length}
 use Rattle.text.specs.Utf16.{isWell, unitBytes}
-use Rattle.zen.specs.Holds.{textAt, Holds}
-use Rattle.zen.specs.Places.{partAt}
-use Rattle.zen.specs.declared.places.Place.{Place}
+use Rattle.batch.specs.Holds.{textAt, Holds}
+use Rattle.batch.specs.Places.{partAt}
+use Rattle.batch.specs.declared.places.Place.{Place}
 use Rattle.meaning.specs.Verify.{slash}
 use Rattle.hashes.specs.Chain.{placeNo, numberNo, piece, pieces, pieceCount, chainUnits, Named, Sized}
 

@@ -11,18 +11,18 @@ use Rattle.base.specs.Index.{kind}
 use Rattle.base.specs.NumberLaws.{Bytes}
 use Rattle.base.specs.Reading.{gives, run}
 use Rattle.base.specs.Seek.{seekFrom}
-use Rattle.zen.specs.Holds.{Holds, holds-own}
-use Rattle.zen.specs.Objects.{entryNumber}
-use Rattle.zen.specs.Places.{placeAt, partAt, Held}
-use Rattle.zen.specs.PlacesLaws.{place-inside, start-mono}
-use Rattle.zen.specs.Script.{Objects, script}
-use Rattle.zen.specs.ScriptAccepted.{script-parts}
-use Rattle.zen.specs.ScriptAnswers.{scriptAnswer, entriesOf, noEntry}
-use Rattle.zen.specs.ScriptFacts.{objects-facts, script-facts, number-is}
-use Rattle.zen.specs.declared.places.Place.{Place}
-use Rattle.zen.specs.declared.script.Entry.{Entry}
-use Rattle.zen.specs.declared.script.Layout.{Layout}
-use Rattle.zen.specs.declared.script.Script.the-variants.{Accepted}
+use Rattle.batch.specs.Holds.{Holds, holds-own}
+use Rattle.batch.specs.Places.{placeAt, partAt, Held}
+use Rattle.batch.specs.PlacesLaws.{place-inside, start-mono}
+use Rattle.batch.specs.declared.places.Place.{Place}
+use Rattle.scriptblock.specs.Objects.{entryNumber}
+use Rattle.scriptblock.specs.Script.{Objects, script}
+use Rattle.scriptblock.specs.ScriptAccepted.{script-parts}
+use Rattle.scriptblock.specs.ScriptAnswers.{scriptAnswer, entriesOf, noEntry}
+use Rattle.scriptblock.specs.ScriptFacts.{objects-facts, script-facts, number-is}
+use Rattle.scriptblock.specs.declared.script.Entry.{Entry}
+use Rattle.scriptblock.specs.declared.script.Layout.{Layout}
+use Rattle.scriptblock.specs.declared.script.Script.the-variants.{Accepted}
 use Rattle.objects.specs.Numbers.{entryNo, raised, numberOf, linkOf}
 use Rattle.objects.specs.NumberLaws.{link-found, raised-some}
 use Rattle.objects.specs.PathLaws.{unpacked}

@@ -6,21 +6,21 @@ ghost use Prim.Native.Nat.{ℕ, _*_, _≤_, _<_};
 ghost use lib.ListN.{length, drop};
 ghost use Rattle.base.specs.NumberLaws.{Bytes};
 ghost use Rattle.base.specs.Reading.{gives, run};
-ghost use Rattle.zen.specs.Script.{Objects, script};
+ghost use Rattle.scriptblock.specs.Script.{Objects, script};
 ghost use Rattle.objects.specs.Numbers.{pathNo};
 ghost use Rattle.objects.specs.Work.{Linked, ObjectsIn};
 ghost use Rattle.scan.specs.Repeats.{NotedScript};
 ghost use Rattle.hashes.specs.Chain.{linked, Tells};
 use base::index::index_kind;
 use base::number::le32;
+use batch::notes::NOTES;
 use objects::enter::packed;
+use scriptblock::objects::find_entry;
+use scriptblock::objects::object_place;
+use scriptblock::script::Layout;
+use scriptblock::script::entry_at;
 use table::entries::record_at;
 use table::words::get32;
-use zen::notes::NOTES;
-use zen::objects::find_entry;
-use zen::objects::object_place;
-use zen::script::Layout;
-use zen::script::entry_at;
 
 // The columns of object k.
 fn set_object(chain: &mut [u32; 195], k: usize, start: u32, size: u32, number: u32)

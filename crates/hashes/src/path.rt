@@ -3,7 +3,7 @@ ghost use mathlib.Core.Path.{_≡_};
 ghost use Prim.Native.Nat.{_*_, _≤_, _<_};
 ghost use lib.ListN.{length};
 ghost use Rattle.base.specs.Reading.{gives, run};
-ghost use Rattle.zen.specs.Script.{Objects, script};
+ghost use Rattle.scriptblock.specs.Script.{Objects, script};
 ghost use Rattle.objects.specs.Numbers.{pathNo};
 ghost use Rattle.objects.specs.Work.{ObjectsIn, LinkedOf};
 ghost use Rattle.scan.specs.Repeats.{NotedScript};
@@ -11,8 +11,8 @@ ghost use Rattle.hashes.specs.Hashed.{hashedAs};
 use super::chain::chain_by_scan;
 use super::chain::chain_in;
 use super::hash::chain_hash;
-use zen::notes::NOTES;
-use zen::script::Layout;
+use batch::notes::NOTES;
+use scriptblock::script::Layout;
 
 // The hash of a path, or that the path is unknown.
 pub enum Hashed {

@@ -15,9 +15,9 @@ use Rattle.text.specs.Utf16.{encode16}
 use Rattle.written.specs.HeaderBytes.{headerOf, headerSize, longestName, longestHeader, short, writable}
 use Rattle.zen.specs.Zen.{named}
 use Rattle.meaning.specs.Call.{refusedIn, accepted, numberOf, bufferAfter}
-use Rattle.header.specs.Call.{asDescribed, headerAnswer}
-use Rattle.header.specs.CallLaws.{Writable, writable-is}
-use Rattle.header.specs.HeaderBack.{length-header}
+use Rattle.description.specs.Call.{asDescribed, headerAnswer}
+use Rattle.description.specs.CallLaws.{Writable, writable-is}
+use Rattle.description.specs.HeaderBack.{length-header}
 use Rattle.header.specs.Places.{textAt, nextText, textWell, textsFrom, textsWell, textCount, importedPlace, importedCount, descriptionAt, inForm}
 use Rattle.header.specs.FormPlaces.{in-form, form-in, described-at}
 use Rattle.header.specs.TextLoops.{texts-count, imported-texts}

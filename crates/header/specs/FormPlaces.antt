@@ -17,8 +17,8 @@ use Rattle.text.specs.Utf8.{fromUtf8}
 use Rattle.decode.specs.ReadLaws.{both}
 use Rattle.written.specs.HeaderBytes.{Description, writable}
 use Rattle.meaning.specs.Call.{refusedIn, accepted, need, _>>=_ as _>>=A_, _>>_ as _>>A_}
-use Rattle.header.specs.Form.{descriptionVersion, imported, description}
-use Rattle.header.specs.Call.{wellFormed, asDescribed}
+use Rattle.description.specs.Form.{descriptionVersion, imported, description}
+use Rattle.description.specs.Call.{wellFormed, asDescribed}
 use Rattle.header.specs.Places.{utf8At, nextText, textWell, textPlace, textsWell}
 use Rattle.header.specs.Places.{textCount, exportsPlace, hashesPlace, importedPlace, importedCount, formEnd, descriptionAt, inForm}
 use Rattle.header.specs.PlaceLaws.{tests, description-told}

@@ -15,8 +15,8 @@ use Rattle.text.specs.Utf16.{isWell}
 use Rattle.text.specs.Utf8.{fromUtf8}
 use Rattle.decode.specs.Measure.{textOf}
 use Rattle.zen.specs.declared.tables.Export.{Export}
-use Rattle.header.specs.Form.{descriptionVersion, text, export, imported, listOf, content, description}
-use Rattle.header.specs.FormLaws.{ended, tail, hashed, exported, named}
+use Rattle.description.specs.Form.{descriptionVersion, text, export, imported, listOf, content, description}
+use Rattle.description.specs.FormLaws.{ended, tail, hashed, exported, named}
 use Rattle.header.specs.Places.{utf8At, textAt, textEnd, nextText, textWell, textPlace, textsFrom, textsWell, importedAt, importedFrom, exportIn}
 use Rattle.header.specs.Places.{textCount, exportsPlace, exportCount, hashesPlace, hashCount, importedPlace, importedCount, formEnd, descriptionAt}
 use Rattle.header.specs.Told.{Told, told-as, told-bind, told-number, told-taken, told-asked, told-ask, told-left, told-give, told-map, cells-told}

@@ -12,7 +12,7 @@ use Rattle.text.specs.Utf8.{fromUtf8}
 use Rattle.decode.specs.Measure.{textOf}
 use Rattle.written.specs.HeaderBytes.{ImportedName, Description}
 use Rattle.zen.specs.declared.tables.Export.{Export}
-use Rattle.header.specs.Form.{descriptionVersion}
+use Rattle.description.specs.Form.{descriptionVersion}
 
 -- ---- a text
 

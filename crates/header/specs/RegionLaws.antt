@@ -19,7 +19,7 @@ use Rattle.header.specs.TextLoops.{texts-count, imported-texts}
 use Rattle.header.specs.Parts.{exportsIn, stringsFrom, partsOf}
 use Rattle.header.specs.Parts.{batchOf, hashesFrom, exportsFrom, importedOn, regionsOf}
 use Rattle.base.specs.FindLaws.{length-each}
-use Rattle.header.specs.BatchFront.{batchSize, length-batch}
+use Rattle.description.specs.BatchFront.{batchSize, length-batch}
 use Rattle.header.specs.declared.check.Parts.{Parts}
 
 module _ (s : List ℕ) where

@@ -9,7 +9,7 @@ ghost use Rattle.written.specs.HeaderBytes.{importedBytes, contentBytes, header
 ghost use Rattle.meaning.specs.Call.{numberOf, bufferAfter};
 ghost use Rattle.header.specs.Places.{descriptionAt};
 ghost use Rattle.header.specs.Parts.{Whole, partsOf, regionsOf, summaryWords, tablesBytes};
-ghost use Rattle.header.specs.Call.{headerAnswer};
+ghost use Rattle.description.specs.Call.{headerAnswer};
 use super::check::Checked;
 use super::check::Parts;
 use super::check::Regions;

@@ -11,7 +11,7 @@ use Rattle.base.specs.Find.{orElse, sum}
 use Rattle.base.specs.House.{longestOutput}
 use Rattle.base.specs.Output.{over}
 use Rattle.base.specs.Reading.{Out, refused, gives, run, runBlock}
-use Rattle.zen.specs.Script.{Objects, script}
+use Rattle.scriptblock.specs.Script.{Objects, script}
 use Rattle.zen.specs.Zen.{packageBlock}
 use Rattle.meaning.specs.Frame.{Part, Corpus, framed}
 use Rattle.meaning.specs.Key.{Key, sameKey}

@@ -7,8 +7,8 @@ use Prim.Native.Nat.{ℕ, _≤_}
 use lib.ListN.{length}
 use Rattle.base.specs.Index.{kind}
 use Rattle.base.specs.Literal.{quoted}
-use Rattle.zen.specs.Script.{Objects, objectName}
-use Rattle.zen.specs.declared.script.Entry.{Entry}
+use Rattle.scriptblock.specs.Script.{Objects, objectName}
+use Rattle.scriptblock.specs.declared.script.Entry.{Entry}
 use Rattle.meaning.specs.Path.{Path}
 use Rattle.meaning.specs.Scan.{Class}
 use Rattle.meaning.specs.Reference.{Ref, script, meant}

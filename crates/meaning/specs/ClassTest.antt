@@ -15,8 +15,8 @@ use Rattle.base.specs.Index.{kind}
 use Rattle.base.specs.Literal.{quoted}
 use Rattle.text.specs.Name.{suffix}
 use Rattle.base.specs.Never.{never}
-use Rattle.zen.specs.Script.{Objects, objectName}
-use Rattle.zen.specs.declared.script.Entry.{Entry}
+use Rattle.scriptblock.specs.Script.{Objects, objectName}
+use Rattle.scriptblock.specs.declared.script.Entry.{Entry}
 use Rattle.zen.specs.declared.tables.Export.{Export}
 use Rattle.base.specs.Find.{option}
 use Rattle.meaning.specs.Path.{Path, objectAt, separator, added, beyond, through, pathOf}

@@ -16,8 +16,8 @@ use Rattle.base.specs.Signed.{twos}
 use Rattle.text.specs.Utf16.{encodeOne, encode16, utf16, units}
 use Rattle.text.specs.Utf8.{utf8One}
 use Rattle.city.specs.Word.{addw, mulw, rotr, swap}
-use Rattle.zen.specs.Batch.{headOf, head, strings, noNames, someNames, body, batch}
-use Rattle.zen.specs.Script.{entry, entries, opening, script}
+use Rattle.batch.specs.Batch.{headOf, head, strings, noNames, someNames, body, batch}
+use Rattle.scriptblock.specs.Script.{entry, entries, opening, script}
 use Rattle.written.specs.BatchBytes.{stringBytes, headBytes, someBytes, batchBytes}
 use Rattle.written.specs.HeaderBytes.{exportBytes, importedBytes, hashesStart, exportsStart, importedStart, headerSize, offsetsOf}
 use Rattle.written.specs.HeaderBytes.{summaryBytes, contentBytes, headerWith, headerOf}

@@ -14,8 +14,8 @@ use Rattle.base.specs.Never.{never}
 use Rattle.base.specs.NumberLaws.{Bytes}
 use Rattle.base.specs.Reading.{Out, refused, gives, run}
 use Rattle.base.specs.ReadingRefusals.{Within}
+use Rattle.scriptblock.specs.Script.{Objects}
 use Rattle.zen.specs.Refusals.{script-refusal, package-refusal}
-use Rattle.zen.specs.Script.{Objects}
 use Rattle.meaning.specs.Frame.{Corpus, frame, frameAnswer, framed}
 use Rattle.meaning.specs.Reference.{Package}
 use Rattle.meaning.specs.Scan.{Class, classesOf}

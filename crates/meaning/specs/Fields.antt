@@ -19,9 +19,9 @@ use Rattle.base.specs.NumberLaws.{Bytes, length-beBytes, be-beBytes}
 use Rattle.base.specs.Perm.{All}
 use Rattle.base.specs.Reading.{Out, gives, runBlock}
 use Rattle.text.specs.Utf8.{utf8}
+use Rattle.scriptblock.specs.Script.{Objects}
 use Rattle.zen.specs.Accepted.{Parts, read-parts}
 use Rattle.zen.specs.Answers.{exportsOf}
-use Rattle.zen.specs.Script.{Objects}
 use Rattle.zen.specs.Zen.{Read, packageBlock, packageName}
 use Rattle.zen.specs.declared.tables.Export.{Export}
 use Rattle.meaning.specs.Frame.{Part, Corpus, framed}

@@ -10,7 +10,7 @@ use Rattle.base.specs.FindLaws.{length-flat, sum-same}
 use Rattle.base.specs.HouseLaws.{length-first}
 use Rattle.text.specs.NameLaws.{textBytes-length}
 use Rattle.base.specs.NumberLaws.{length-beBytes}
-use Rattle.zen.specs.Script.{Objects}
+use Rattle.scriptblock.specs.Script.{Objects}
 use Rattle.zen.specs.Zen.{packageName}
 use Rattle.zen.specs.declared.tables.Export.{Export}
 use Rattle.meaning.specs.Key.{Key}

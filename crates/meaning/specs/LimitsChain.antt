@@ -6,8 +6,8 @@ use mathlib.Core.Option.{Option, none, some}
 use Prim.Native.Nat.{ℕ, _≤_}
 use native.Mathlib.Nat.{le-trans}
 use Rattle.base.specs.FindLaws.{none-some, find-some}
-use Rattle.zen.specs.Script.{Objects}
-use Rattle.zen.specs.ScriptGood.{Good}
+use Rattle.scriptblock.specs.Script.{Objects}
+use Rattle.scriptblock.specs.ScriptGood.{Good}
 use Rattle.meaning.specs.Key.{Key, sameKey}
 use Rattle.meaning.specs.KeyLaws.{sameKey→eq}
 use Rattle.meaning.specs.Path.{Path, pathOf}

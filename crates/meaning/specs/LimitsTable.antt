@@ -11,8 +11,8 @@ use lib.Dec.{eqb}
 use Rattle.base.specs.Find.{kept}
 use Rattle.base.specs.Index.{kind}
 use Rattle.base.specs.Never.{never}
-use Rattle.zen.specs.Script.{Objects}
-use Rattle.zen.specs.ScriptGood.{Good}
+use Rattle.scriptblock.specs.Script.{Objects}
+use Rattle.scriptblock.specs.ScriptGood.{Good}
 use Rattle.zen.specs.declared.tables.Export.{Export}
 use Rattle.meaning.specs.Path.{Path, pathOf}
 use Rattle.meaning.specs.Reference.{Package}

@@ -9,8 +9,8 @@ use mathlib.Core.Option.{some}
 use Prim.Native.Nat.{ℕ}
 use Rattle.base.specs.Perm.{All}
 use Rattle.base.specs.Reading.{gives, run}
-use Rattle.zen.specs.Script.{Objects, script}
-use Rattle.zen.specs.ScriptGood.{Good, script-good}
+use Rattle.scriptblock.specs.Script.{Objects, script}
+use Rattle.scriptblock.specs.ScriptGood.{Good, script-good}
 use Rattle.zen.specs.declared.tables.Export.{Export}
 use Rattle.meaning.specs.Frame.{Corpus, framed}
 use Rattle.meaning.specs.Path.{Path}

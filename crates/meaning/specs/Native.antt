@@ -14,9 +14,9 @@ use Rattle.base.specs.Find.{option}
 use Rattle.base.specs.FindLaws.{none-some, find-some, find-member}
 use Rattle.base.specs.Index.{kind}
 use Rattle.base.specs.Literal.{quoted}
-use Rattle.zen.specs.Script.{Objects, objectName}
-use Rattle.zen.specs.ScriptGood.{Good, apart-members}
-use Rattle.zen.specs.declared.script.Entry.{Entry}
+use Rattle.scriptblock.specs.Script.{Objects, objectName}
+use Rattle.scriptblock.specs.ScriptGood.{Good, apart-members}
+use Rattle.scriptblock.specs.declared.script.Entry.{Entry}
 use Rattle.meaning.specs.Path.{Path, objectAt, separator, added, start, beyond, through, pathOf}
 use Rattle.meaning.specs.Reference.{Ref, script}
 use Rattle.meaning.specs.Scan.{Class}

@@ -1,5 +1,5 @@
 -- "Questions in order": "The first question that fails gives its refusal". What it is that a corpus fails question q in block j: it passes
--- every question that is asked before, and fails this one. Inside a block the order is the reading's (zen: Batch, Script, Zen).
+-- every question that is asked before, and fails this one. Inside a block the order is the reading's (batch/Batch.antt, scriptblock/Script.antt, zen/Zen.antt).
 use mathlib.Core.Path.{_≡_, refl, ap}
 use mathlib.Core.Logic.{_↔_, _⊎_, inl, inr}
 use mathlib.Core.Bool.{Bool, true, false, _&&_, _||_}
@@ -16,7 +16,7 @@ use Rattle.base.specs.House.{longestOutput}
 use Rattle.base.specs.Never.{never}
 use Rattle.base.specs.Perm.{All}
 use Rattle.base.specs.Reading.{Out, refused, gives, run, runBlock}
-use Rattle.zen.specs.Script.{Objects, script}
+use Rattle.scriptblock.specs.Script.{Objects, script}
 use Rattle.zen.specs.Zen.{packageBlock}
 use Rattle.meaning.specs.Frame.{Part, Corpus, framed}
 use Rattle.meaning.specs.Key.{Key, sameKey}

@@ -7,8 +7,8 @@ use lib.Dec.{eqb}
 use Rattle.base.specs.Find.{find}
 use Rattle.base.specs.Index.{kind}
 use Rattle.base.specs.Literal.{quoted}
-use Rattle.zen.specs.Script.{Objects, objectName}
-use Rattle.zen.specs.declared.script.Entry.{Entry}
+use Rattle.scriptblock.specs.Script.{Objects, objectName}
+use Rattle.scriptblock.specs.declared.script.Entry.{Entry}
 
 -- a path's text, and how many objects it walked
 pub record Path : Type 0 where

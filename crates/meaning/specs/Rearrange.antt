@@ -7,7 +7,7 @@ use Rattle.base.specs.Perm.{Perm, All, Each, perm-all}
 use Rattle.base.specs.Reading.{gives, run}
 use Rattle.base.specs.ReadingMarks.{marks, marks-length, marksBlock}
 use Rattle.base.specs.ReadingRewrite.{rewrite, rewrite-agrees, block-length}
-use Rattle.zen.specs.Script.{Objects, script}
+use Rattle.scriptblock.specs.Script.{Objects, script}
 use Rattle.zen.specs.Zen.{packageBlock}
 use Rattle.zen.specs.PassedOver.{script-marks, package-marks}
 use Rattle.meaning.specs.Frame.{Part, Corpus}

@@ -8,7 +8,7 @@ use lib.ListN.{length}
 use Rattle.base.specs.Perm.{Perm, All, Each}
 use Rattle.base.specs.Reading.{gives, run, runBlock}
 use Rattle.base.specs.ReadingMarks.{Agree}
-use Rattle.zen.specs.Script.{Objects, script}
+use Rattle.scriptblock.specs.Script.{Objects, script}
 use Rattle.zen.specs.Zen.{Read, packageBlock}
 use Rattle.zen.specs.Listed.{scriptMarks, packageMarks}
 use Rattle.meaning.specs.Frame.{Part, Corpus}

@@ -9,7 +9,7 @@ use Rattle.base.specs.Literal.{quoted}
 use Rattle.text.specs.Name.{textBytes}
 use Rattle.base.specs.Number.{beBytes}
 use Rattle.text.specs.Utf8.{utf8}
-use Rattle.zen.specs.Script.{Objects}
+use Rattle.scriptblock.specs.Script.{Objects}
 use Rattle.zen.specs.Zen.{exportName, packageName}
 use Rattle.zen.specs.declared.tables.Export.{Export}
 use Rattle.meaning.specs.Key.{Key}

@@ -4,7 +4,7 @@ use mathlib.Core.List.{List, [], _∷_}
 use mathlib.Core.Option.{Option, none, some}
 use Prim.Native.Nat.{ℕ, zero, suc, _+_}
 use Rattle.base.specs.Find.{find, option}
-use Rattle.zen.specs.Script.{Objects}
+use Rattle.scriptblock.specs.Script.{Objects}
 use Rattle.meaning.specs.Key.{Key, sameKey}
 use Rattle.meaning.specs.Path.{Path, pathOf}
 use Rattle.meaning.specs.Reference.{Ref, script, import, export, null, bad, meant}

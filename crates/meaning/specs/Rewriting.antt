@@ -7,7 +7,7 @@ use lib.ListN.{length}
 use Rattle.base.specs.Perm.{Each, each-weaken}
 use Rattle.base.specs.Reading.{run, runBlock}
 use Rattle.base.specs.ReadingMarks.{Agree, marks, marksBlock, agree-length}
-use Rattle.zen.specs.Script.{script}
+use Rattle.scriptblock.specs.Script.{script}
 use Rattle.zen.specs.Zen.{packageBlock}
 use Rattle.zen.specs.PassedOver as Passed
 use Rattle.meaning.specs.Frame.{Part, Corpus}

@@ -16,8 +16,8 @@ use Rattle.text.specs.Name.{textBytes}
 use Rattle.base.specs.Number.{beBytes}
 use Rattle.base.specs.Perm.{All, all-member}
 use Rattle.base.specs.Reading.{gives, runBlock}
-use Rattle.zen.specs.Script.{Objects}
-use Rattle.zen.specs.ScriptGood.{Good, script-good}
+use Rattle.scriptblock.specs.Script.{Objects}
+use Rattle.scriptblock.specs.ScriptGood.{Good, script-good}
 use Rattle.zen.specs.Zen.{Read, packageBlock, packageName}
 use Rattle.zen.specs.declared.tables.Export.{Export}
 use Rattle.meaning.specs.Frame.{Part, Corpus}

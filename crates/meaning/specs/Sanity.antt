@@ -13,9 +13,9 @@ use Rattle.base.specs.Find.{option, kept}
 use Rattle.base.specs.FindLaws.{find-none, flat-some}
 use Rattle.base.specs.Index.{kind}
 use Rattle.base.specs.Literal.{quoted}
-use Rattle.zen.specs.Script.{Objects}
+use Rattle.scriptblock.specs.Script.{Objects}
+use Rattle.scriptblock.specs.declared.script.Layout.{Layout}
 use Rattle.zen.specs.Zen.{Read, baseOf, exportName}
-use Rattle.zen.specs.declared.script.Layout.{Layout}
 use Rattle.zen.specs.declared.tables.Export.{Export}
 use Rattle.meaning.specs.Key.{Key, public, sameKey}
 use Rattle.meaning.specs.KeyLaws.{sameKey→eq, public-hash}

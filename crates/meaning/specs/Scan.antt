@@ -10,7 +10,7 @@ use Rattle.base.specs.Find.{get, option, kept, filter, flat}
 use Rattle.base.specs.Index.{kind}
 use Rattle.base.specs.Literal.{quoted}
 use Rattle.text.specs.Name.{suffix}
-use Rattle.zen.specs.Script.{Objects}
+use Rattle.scriptblock.specs.Script.{Objects}
 use Rattle.zen.specs.Zen.{Read, baseOf, exportName, packageName}
 use Rattle.zen.specs.declared.tables.Export.{Export}
 use Rattle.meaning.specs.Key.{Key, public}

@@ -8,7 +8,7 @@ use lib.Dec.{T}
 use Rattle.base.specs.Find.{orElse}
 use Rattle.base.specs.Never.{never}
 use Rattle.base.specs.Perm.{Perm, same, keep, swap, then}
-use Rattle.zen.specs.Script.{Objects}
+use Rattle.scriptblock.specs.Script.{Objects}
 use Rattle.meaning.specs.Key.{Key, sameKey}
 use Rattle.meaning.specs.KeyLaws.{sameKey→eq, sameKey-refl, sameKey-sym}
 use Rattle.meaning.specs.Reference.{Package}

@@ -26,13 +26,13 @@ use Rattle.base.specs.NumberLaws.{Bytes}
 use Rattle.base.specs.Perm.{All}
 use Rattle.base.specs.Reading.{gives, run, runBlock}
 use Rattle.text.specs.Utf16.{Scalars}
+use Rattle.scriptblock.specs.Script.{Objects, script, objectName}
+use Rattle.scriptblock.specs.ScriptAccepted.{answer-of}
+use Rattle.scriptblock.specs.ScriptFacts.{ScriptFacts, objects-facts}
+use Rattle.scriptblock.specs.declared.script.Entry.{Entry}
 use Rattle.zen.specs.Answers.{answer}
 use Rattle.zen.specs.PackageFacts.{PackageFacts, read-facts}
-use Rattle.zen.specs.Script.{Objects, script, objectName}
-use Rattle.zen.specs.ScriptAccepted.{answer-of}
-use Rattle.zen.specs.ScriptFacts.{ScriptFacts, objects-facts}
 use Rattle.zen.specs.Zen.{Read, packageBlock, baseOf, exportName, importedName, packageName}
-use Rattle.zen.specs.declared.script.Entry.{Entry}
 use Rattle.zen.specs.declared.tables.Export.{Export}
 use Rattle.meaning.specs.Frame.{Part, Corpus, framed}
 use Rattle.meaning.specs.Key.{Key, sameKey}

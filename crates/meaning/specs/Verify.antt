@@ -10,9 +10,9 @@ use Rattle.base.specs.House.{lengthFirst, longestOutput}
 use Rattle.text.specs.Id.{idOf}
 use Rattle.base.specs.Index.{value}
 use Rattle.base.specs.Number.{beBytes}
-use Rattle.zen.specs.Script.{Objects}
+use Rattle.scriptblock.specs.Script.{Objects}
+use Rattle.scriptblock.specs.declared.script.Entry.{Entry}
 use Rattle.zen.specs.Zen.{packageName}
-use Rattle.zen.specs.declared.script.Entry.{Entry}
 use Rattle.meaning.specs.Path.{Path, pathOf}
 use Rattle.meaning.specs.Reference.{Package}
 use Rattle.meaning.specs.Call.{Answer, accepted, _>>=_, _>>_, need, Opened, opened, numberOf, bufferAfter, limits}

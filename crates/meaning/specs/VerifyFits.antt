@@ -15,9 +15,9 @@ use Rattle.base.specs.HouseLaws.{length-first, first-is}
 use Rattle.base.specs.Number.{be, beBytes}
 use Rattle.base.specs.NumberLaws.{Bytes, length-beBytes, be-beBytes}
 use Rattle.base.specs.Reading.{gives, run}
-use Rattle.zen.specs.Script.{Objects, script}
-use Rattle.zen.specs.ScriptAccepted.{answer-of}
-use Rattle.zen.specs.ScriptFacts.{objects-facts}
+use Rattle.scriptblock.specs.Script.{Objects, script}
+use Rattle.scriptblock.specs.ScriptAccepted.{answer-of}
+use Rattle.scriptblock.specs.ScriptFacts.{objects-facts}
 use Rattle.meaning.specs.Frame.{Part, framed}
 use Rattle.meaning.specs.Bytes.{partBytes, corpusRest}
 use Rattle.meaning.specs.BytesLaws.{length-part, length-rest, Framed, bytes-frame, frame-fits}

@@ -13,9 +13,9 @@ use Rattle.base.specs.Find.{sum}
 use Rattle.base.specs.HouseLaws.{length-first}
 use Rattle.base.specs.LoopLaws.{sum-take}
 use Rattle.base.specs.NumberLaws.{length-beBytes}
-use Rattle.zen.specs.Script.{Objects}
-use Rattle.zen.specs.ScriptAnswers.{noEntry}
-use Rattle.zen.specs.declared.script.Entry.{Entry}
+use Rattle.scriptblock.specs.Script.{Objects}
+use Rattle.scriptblock.specs.ScriptAnswers.{noEntry}
+use Rattle.scriptblock.specs.declared.script.Entry.{Entry}
 use Rattle.meaning.specs.Path.{Path, pathOf}
 use Rattle.meaning.specs.Reference.{Package}
 use Rattle.meaning.specs.Call.{Opened}

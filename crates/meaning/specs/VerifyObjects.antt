@@ -12,9 +12,9 @@ use borrow.Author.Tests.{eq-eqb, ne-eqb, eqb-true, eqb-false}
 use lib.ListN.{length}
 use Rattle.base.specs.Index.{value}
 use Rattle.base.specs.Never.{never}
-use Rattle.zen.specs.Script.{Objects, objectName}
-use Rattle.zen.specs.ScriptGood.{Good}
-use Rattle.zen.specs.declared.script.Entry.{Entry}
+use Rattle.scriptblock.specs.Script.{Objects, objectName}
+use Rattle.scriptblock.specs.ScriptGood.{Good}
+use Rattle.scriptblock.specs.declared.script.Entry.{Entry}
 use Rattle.meaning.specs.Path.{Path, pathOf}
 use Rattle.meaning.specs.Chain.{Outers, joined, chainPath}
 use Rattle.meaning.specs.Native.{path-sound, path-complete}

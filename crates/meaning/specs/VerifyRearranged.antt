@@ -11,7 +11,7 @@ use Rattle.base.specs.Number.{beBytes}
 use Rattle.base.specs.NumberLaws.{length-beBytes}
 use Rattle.base.specs.Perm.{All, perm-all, perm-length, each-map}
 use Rattle.base.specs.Reading.{Out, refused, gives, runBlock}
-use Rattle.zen.specs.Script.{Objects}
+use Rattle.scriptblock.specs.Script.{Objects}
 use Rattle.zen.specs.Zen.{Read, packageBlock}
 use Rattle.meaning.specs.Frame.{Part, Corpus}
 use Rattle.meaning.specs.Call.{accepted, Opened, holding, opened, limits}

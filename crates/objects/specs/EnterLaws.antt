@@ -9,16 +9,16 @@ use Rattle.base.specs.Never.{never}
 use Rattle.base.specs.NumberLaws.{Bytes, leAt-lt}
 use Rattle.base.specs.Reading.{Got, bad, got, walk}
 use Rattle.text.specs.Utf8.{utf8}
-use Rattle.zen.specs.Script.{Start, opening}
-use Rattle.zen.specs.ScriptAnswers.{openedBy, opened, entryAt, freshAt}
-use Rattle.zen.specs.ScriptFaults.{entryOf, fresh-seen, all-fresh}
-use Rattle.zen.specs.ScriptLaws.{opening-got}
-use Rattle.zen.specs.FoundBatch.{found-held}
-use Rattle.zen.specs.Places.{placeAt, Held}
-use Rattle.zen.specs.Holds.{nameAt, holds-name, holds-own, holds-short}
-use Rattle.zen.specs.declared.script.Entry.{Entry}
-use Rattle.zen.specs.declared.script.Layout.{Layout}
-use Rattle.zen.specs.declared.script.Opened.the-variants.{Open}
+use Rattle.batch.specs.FoundBatch.{found-held}
+use Rattle.batch.specs.Places.{placeAt, Held}
+use Rattle.batch.specs.Holds.{nameAt, holds-name, holds-own, holds-short}
+use Rattle.scriptblock.specs.Script.{Start, opening}
+use Rattle.scriptblock.specs.ScriptAnswers.{openedBy, opened, entryAt, freshAt}
+use Rattle.scriptblock.specs.ScriptFaults.{entryOf, fresh-seen, all-fresh}
+use Rattle.scriptblock.specs.ScriptLaws.{opening-got}
+use Rattle.scriptblock.specs.declared.script.Entry.{Entry}
+use Rattle.scriptblock.specs.declared.script.Layout.{Layout}
+use Rattle.scriptblock.specs.declared.script.Opened.the-variants.{Open}
 use Rattle.table.specs.Entries.{find}
 use Rattle.table.specs.EntryLaws.{find-le, find-key, find-none}
 use Rattle.table.specs.Table.{recordAt, Holds as TableHolds, Added}

@@ -8,11 +8,11 @@ use native.Mathlib.Omega.{arith}
 use lib.ListN.{length}
 use Rattle.base.specs.Number.{leAt}
 use Rattle.base.specs.Reading.{gives, run}
-use Rattle.zen.specs.Script.{Objects, script}
-use Rattle.zen.specs.ScriptAnswers.{entryAt, scriptAnswer}
-use Rattle.zen.specs.ScriptAccepted.{script-parts, accepted-objects, answer-of}
-use Rattle.zen.specs.declared.script.Layout.{Layout}
-use Rattle.zen.specs.declared.script.Script.the-variants.{Accepted}
+use Rattle.scriptblock.specs.Script.{Objects, script}
+use Rattle.scriptblock.specs.ScriptAnswers.{entryAt, scriptAnswer}
+use Rattle.scriptblock.specs.ScriptAccepted.{script-parts, accepted-objects, answer-of}
+use Rattle.scriptblock.specs.declared.script.Layout.{Layout}
+use Rattle.scriptblock.specs.declared.script.Script.the-variants.{Accepted}
 use Rattle.table.specs.Words.{stored}
 use Rattle.table.specs.Table.{recordAt, Table}
 use Rattle.table.specs.TableLaws.{holds-table}

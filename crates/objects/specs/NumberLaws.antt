@@ -11,10 +11,10 @@ use lib.Dec.{eqb}
 use lib.ListN.{length, getD}
 use Rattle.base.specs.Find.{find}
 use Rattle.base.specs.Index.{kind}
-use Rattle.zen.specs.Script.{Objects, objectName}
-use Rattle.zen.specs.ScriptAnswers.{noEntry}
-use Rattle.zen.specs.ScriptGood.{Good}
-use Rattle.zen.specs.declared.script.Entry.{Entry}
+use Rattle.scriptblock.specs.Script.{Objects, objectName}
+use Rattle.scriptblock.specs.ScriptAnswers.{noEntry}
+use Rattle.scriptblock.specs.ScriptGood.{Good}
+use Rattle.scriptblock.specs.declared.script.Entry.{Entry}
 use Rattle.meaning.specs.Path.{added, beyond, pathOf}
 use Rattle.meaning.specs.Native.{object-member}
 use Rattle.objects.specs.Numbers.{entryNo, raised, numberOf, linkOf, pathBy, pathNo}

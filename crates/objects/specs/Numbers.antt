@@ -7,9 +7,9 @@ use Prim.Native.Nat.{ℕ, zero, suc}
 use lib.Dec.{eqb}
 use lib.ListN.{getD}
 use Rattle.base.specs.Index.{kind}
-use Rattle.zen.specs.Script.{Objects, objectName}
-use Rattle.zen.specs.ScriptAnswers.{noEntry}
-use Rattle.zen.specs.declared.script.Entry.{Entry}
+use Rattle.scriptblock.specs.Script.{Objects, objectName}
+use Rattle.scriptblock.specs.ScriptAnswers.{noEntry}
+use Rattle.scriptblock.specs.declared.script.Entry.{Entry}
 use Rattle.meaning.specs.Path.{Path, added, start}
 
 -- object i of the block

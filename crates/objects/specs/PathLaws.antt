@@ -11,12 +11,12 @@ use lib.ListN.{length, getD}
 use Rattle.text.specs.Affix.{endsWith}
 use Rattle.base.specs.Number.{leAt}
 use Rattle.base.specs.NumberLaws.{Bytes}
-use Rattle.zen.specs.Script.{Objects, objectName}
-use Rattle.zen.specs.ScriptGood.{Good, script-good}
-use Rattle.zen.specs.ScriptAccepted.{names-of, name-text}
-use Rattle.zen.specs.Places.{placeAt}
-use Rattle.zen.specs.Holds.{textAt, Holds, holds-name, holds-own}
-use Rattle.zen.specs.declared.places.Place.{Place}
+use Rattle.batch.specs.Places.{placeAt}
+use Rattle.batch.specs.Holds.{textAt, Holds, holds-name, holds-own}
+use Rattle.batch.specs.declared.places.Place.{Place}
+use Rattle.scriptblock.specs.Script.{Objects, objectName}
+use Rattle.scriptblock.specs.ScriptGood.{Good, script-good}
+use Rattle.scriptblock.specs.ScriptAccepted.{names-of, name-text}
 use Rattle.meaning.specs.Path.{Path, added, start, pathOf}
 use Rattle.meaning.specs.Native.{object-member}
 use Rattle.meaning.specs.Scan.{classEnd}

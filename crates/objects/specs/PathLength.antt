@@ -7,8 +7,8 @@ use lib.ListN.{length, length-append}
 use Rattle.base.specs.NumberLaws.{Bytes}
 use Rattle.text.specs.Utf8.{utf8One, utf8}
 use Rattle.text.specs.Utf8Laws.{utf8-append}
-use Rattle.zen.specs.Script.{Objects, objectName}
-use Rattle.zen.specs.Holds.{holds-short}
+use Rattle.batch.specs.Holds.{holds-short}
+use Rattle.scriptblock.specs.Script.{Objects, objectName}
 use Rattle.meaning.specs.Path.{Path, separator, added}
 use Rattle.objects.specs.Numbers.{entryNo, linkOf, pathBy, pathNo}
 use Rattle.objects.specs.NumberLaws.{link-le}

@@ -8,10 +8,10 @@ use lib.ListN.{length, take, drop}
 use Rattle.base.specs.NumberLaws.{Bytes}
 use Rattle.base.specs.Output.{Wrote}
 use Rattle.text.specs.Utf8.{utf8}
-use Rattle.zen.specs.Script.{Objects, objectName}
-use Rattle.zen.specs.Places.{placeAt}
-use Rattle.zen.specs.Holds.{textAt, nameAt, Holds}
-use Rattle.zen.specs.declared.places.Place.{Place}
+use Rattle.batch.specs.Places.{placeAt}
+use Rattle.batch.specs.Holds.{textAt, nameAt, Holds}
+use Rattle.batch.specs.declared.places.Place.{Place}
+use Rattle.scriptblock.specs.Script.{Objects, objectName}
 use Rattle.meaning.specs.Path.{separator, added, start}
 use Rattle.objects.specs.Numbers.{entryNo, linkOf, pathNo}
 use Rattle.objects.specs.Work.{ObjectsIn, Linked, objectNo, placeOf, Stands}

@@ -6,7 +6,7 @@ use Prim.Native.Nat.{ℕ, _≤_}
 use lib.ListN.{length}
 use Rattle.base.specs.Output.{over}
 use Rattle.text.specs.Utf8.{utf8}
-use Rattle.zen.specs.Script.{Objects}
+use Rattle.scriptblock.specs.Script.{Objects}
 use Rattle.meaning.specs.Path.{Path}
 use Rattle.objects.specs.Numbers.{pathNo}
 use Rattle.objects.specs.Work.{Stands}

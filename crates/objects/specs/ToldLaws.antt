@@ -12,7 +12,7 @@ use Rattle.base.specs.Output.{over, Wrote}
 use Rattle.base.specs.OutputLaws.{wrote-none, wrote-byte, wrote-rest, wrote-room, wrote-as, next-room}
 use Rattle.text.specs.Utf8.{utf8One, utf8}
 use Rattle.text.specs.Utf8Laws.{utf8-append}
-use Rattle.zen.specs.Script.{Objects, objectName}
+use Rattle.scriptblock.specs.Script.{Objects, objectName}
 use Rattle.meaning.specs.Path.{Path, separator, added, start}
 use Rattle.table.specs.Table.{recordAt}
 use Rattle.objects.specs.Numbers.{entryNo, linkOf, pathBy, pathNo}

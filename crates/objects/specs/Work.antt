@@ -11,14 +11,14 @@ use lib.ListN.{length}
 use Rattle.base.specs.Number.{leAt}
 use Rattle.base.specs.Reading.{gives, run}
 use Rattle.text.specs.Utf8.{utf8}
-use Rattle.zen.specs.Script.{Objects, script}
-use Rattle.zen.specs.ScriptFaults.{entryOf}
-use Rattle.zen.specs.Places.{placeAt}
-use Rattle.zen.specs.Holds.{nameAt}
-use Rattle.zen.specs.declared.names.Names.{Names}
-use Rattle.zen.specs.declared.places.Place.{Place}
-use Rattle.zen.specs.declared.script.Entry.{Entry}
-use Rattle.zen.specs.declared.script.Layout.{Layout}
+use Rattle.batch.specs.Places.{placeAt}
+use Rattle.batch.specs.Holds.{nameAt}
+use Rattle.batch.specs.declared.names.Names.{Names}
+use Rattle.batch.specs.declared.places.Place.{Place}
+use Rattle.scriptblock.specs.Script.{Objects, script}
+use Rattle.scriptblock.specs.ScriptFaults.{entryOf}
+use Rattle.scriptblock.specs.declared.script.Entry.{Entry}
+use Rattle.scriptblock.specs.declared.script.Layout.{Layout}
 use Rattle.table.specs.Words.{stored}
 use Rattle.table.specs.Table.{recordAt, Holds}
 use Rattle.objects.specs.Numbers.{entryNo, linkOf}

@@ -8,15 +8,15 @@ use native.Mathlib.Omega.{arith}
 use lib.ListN.{length}
 use Rattle.base.specs.Number.{leAt}
 use Rattle.text.specs.Utf8.{utf8}
-use Rattle.zen.specs.Script.{Objects, objectName}
-use Rattle.zen.specs.ScriptFaults.{entryOf}
-use Rattle.zen.specs.ScriptAccepted.{ScriptParts, script-parts, answer-of, entries-of, entry-count, entry-is, object-name}
-use Rattle.zen.specs.Places.{placeAt}
-use Rattle.zen.specs.Holds.{nameAt}
-use Rattle.zen.specs.declared.names.Names.{Names}
-use Rattle.zen.specs.declared.places.Place.{Place}
-use Rattle.zen.specs.declared.script.Entry.{Entry}
-use Rattle.zen.specs.declared.script.Layout.{Layout}
+use Rattle.batch.specs.Places.{placeAt}
+use Rattle.batch.specs.Holds.{nameAt}
+use Rattle.batch.specs.declared.names.Names.{Names}
+use Rattle.batch.specs.declared.places.Place.{Place}
+use Rattle.scriptblock.specs.Script.{Objects, objectName}
+use Rattle.scriptblock.specs.ScriptFaults.{entryOf}
+use Rattle.scriptblock.specs.ScriptAccepted.{ScriptParts, script-parts, answer-of, entries-of, entry-count, entry-is, object-name}
+use Rattle.scriptblock.specs.declared.script.Entry.{Entry}
+use Rattle.scriptblock.specs.declared.script.Layout.{Layout}
 use Rattle.table.specs.Words.{stored, Kept}
 use Rattle.table.specs.WordLaws.{kept-read, kept-then, kept-wider, stored-kept, stored-read}
 use Rattle.table.specs.Entries.{find}

@@ -4,7 +4,7 @@ ghost use mathlib.Core.Path.{_≡_};
 ghost use Prim.Native.Nat.{ℕ, _*_, _<_};
 ghost use lib.ListN.{length};
 ghost use Rattle.text.specs.Affix.{endsWith};
-ghost use Rattle.zen.specs.Script.{Objects, objectName};
+ghost use Rattle.scriptblock.specs.Script.{Objects, objectName};
 ghost use Rattle.meaning.specs.ClassTest.{isKnown, namesClass};
 ghost use Rattle.meaning.specs.Path.{pathOf};
 ghost use Rattle.meaning.specs.Scan.{classEnd};
@@ -13,9 +13,9 @@ ghost use Rattle.objects.specs.Work.{ObjectsIn, Linked, LinkedOf};
 use super::link::find;
 use super::object::object_at;
 use super::object::place_of;
+use batch::texts::place_ends_with;
 use table::entries::record_at;
 use table::words::get32;
-use zen::texts::place_ends_with;
 
 // Whether the path of object i is known, of at most `limit` objects.
 pub fn known(w: &[u8], i: usize, limit: usize) -> bool

@@ -4,17 +4,17 @@ ghost use mathlib.Core.Path.{_≡_};
 ghost use Prim.Native.Nat.{ℕ, _^_, _<_};
 ghost use lib.ListN.{length};
 ghost use Rattle.base.specs.Reading.{run, gives};
-ghost use Rattle.zen.specs.Script.{Objects, script};
-ghost use Rattle.zen.specs.ScriptAnswers.{scriptAnswer};
-ghost use Rattle.zen.specs.declared.script.Script.the-variants.{Accepted};
+ghost use Rattle.scriptblock.specs.Script.{Objects, script};
+ghost use Rattle.scriptblock.specs.ScriptAnswers.{scriptAnswer};
+ghost use Rattle.scriptblock.specs.declared.script.Script.the-variants.{Accepted};
 ghost use Rattle.objects.specs.Numbers.{numberOf, linkOf};
 ghost use Rattle.objects.specs.Work.{Entered, AllIn, ObjectsIn, Keyed};
 use base::index::index_kind;
 use base::number::le64;
+use scriptblock::script::Layout;
 use table::entries::look_up;
 use table::entries::record_at;
 use table::words::set32;
-use zen::script::Layout;
 
 // The object with a global index: one more than its number, or 0.
 pub fn find(w: &[u8], index: u64) -> usize

@@ -3,12 +3,12 @@ ghost use mathlib.Core.List.{List};
 ghost use mathlib.Core.Path.{_≡_};
 ghost use Prim.Native.Nat.{ℕ, _*_, _<_};
 ghost use lib.ListN.{length};
-ghost use Rattle.zen.specs.Script.{Objects};
+ghost use Rattle.scriptblock.specs.Script.{Objects};
 ghost use Rattle.objects.specs.Work.{ObjectsIn, Linked, objectNo, placeOf};
 use base::number::le32;
+use batch::places::Place;
 use table::entries::record_at;
 use table::words::get32;
-use zen::places::Place;
 
 // An object's columns: where its outer leads (0 to no object, 1 to none at all, else two more than its number), its name's start, twice the
 // name's size and 1 if it is UTF-16, its instance number.

@@ -5,8 +5,8 @@ ghost use Prim.Native.Nat.{ℕ, _*_, _^_, _≤_, _<_};
 ghost use lib.ListN.{length};
 ghost use Rattle.base.specs.Output.{Wrote};
 ghost use Rattle.text.specs.Utf8.{utf8};
-ghost use Rattle.zen.specs.Holds.{textAt, nameAt, Holds};
-ghost use Rattle.zen.specs.Script.{Objects};
+ghost use Rattle.batch.specs.Holds.{textAt, nameAt, Holds};
+ghost use Rattle.scriptblock.specs.Script.{Objects};
 ghost use Rattle.meaning.specs.Path.{separator};
 ghost use Rattle.objects.specs.Numbers.{pathNo};
 ghost use Rattle.objects.specs.Work.{ObjectsIn, Linked, placeOf, Stands};
@@ -15,9 +15,9 @@ ghost use Rattle.objects.specs.PutLaws.{OuterRead, TwoRoom};
 use super::object::Object;
 use super::object::object_at;
 use super::object::place_of;
+use batch::texts::put_place;
 use table::entries::record_at;
 use table::words::get32;
-use zen::texts::put_place;
 
 // A path: how many bytes, of how many objects.
 pub enum Path {

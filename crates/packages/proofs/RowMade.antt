@@ -4,8 +4,8 @@ use mathlib.Core.Bool.{Bool, true, false}
 use mathlib.Core.List.{List}
 use mathlib.Core.Option.{Option, none, some}
 use Prim.Native.Nat.{ℕ, _<_}
-use Rattle.zen.specs.Places.{placeAt}
-use Rattle.zen.specs.declared.places.Place.{Place}
+use Rattle.batch.specs.Places.{placeAt}
+use Rattle.batch.specs.declared.places.Place.{Place}
 use Rattle.zen.specs.declared.tables.Export.{Export}
 use Rattle.meaning.specs.Scan.{outerOf}
 use Rattle.packages.specs.Package.{readIn, PackageIn}

@@ -10,8 +10,8 @@ use Rattle.base.specs.Literal.{quoted}
 use Rattle.base.specs.NumberLaws.{Bytes}
 use Rattle.text.specs.Utf8.{utf8}
 use Rattle.text.specs.Utf8Laws.{utf8-append, utf8-ascii}
-use Rattle.zen.specs.Holds.{Holds, holds-own}
-use Rattle.zen.specs.Places.{placeAt}
+use Rattle.batch.specs.Holds.{Holds, holds-own}
+use Rattle.batch.specs.Places.{placeAt}
 use Rattle.zen.specs.Zen.{exportName, packageName}
 use Rattle.meaning.specs.Scan.{outerOf, classPath}
 use Rattle.packages.specs.Package.{readIn, PackageIn}

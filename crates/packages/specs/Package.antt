@@ -4,9 +4,9 @@ use mathlib.Core.List.{List, []}
 use Prim.Native.Nat.{ℕ}
 use lib.ListN.{length}
 use Rattle.base.specs.Reading.{Out, refused, gives, runBlock}
+use Rattle.batch.specs.declared.names.Names.{Names}
 use Rattle.zen.specs.Answers.{exportCount, hashCount}
 use Rattle.zen.specs.Zen.{Read, packageBlock}
-use Rattle.zen.specs.declared.names.Names.{Names}
 use Rattle.zen.specs.declared.summary.Summary.{Summary}
 use Rattle.zen.specs.declared.zen.Layout.{Layout}
 use Rattle.meaning.specs.Reference.{Package}

@@ -8,16 +8,16 @@ use lib.Seq.{length-take-le}
 use Rattle.base.specs.Number.{leAt}
 use Rattle.base.specs.NumberLaws.{Bytes}
 use Rattle.base.specs.Reading.{gives, runBlock}
+use Rattle.batch.specs.Field.{low30}
+use Rattle.batch.specs.Holds.{Holds}
+use Rattle.batch.specs.Places.{placeAt, Held}
+use Rattle.batch.specs.declared.names.Names.{Names}
 use Rattle.zen.specs.Accepted.{Parts as Zen, read-parts, hash-there, hash-is, export-there, export-is, number-there, number-is}
 use Rattle.zen.specs.Answers.{answer, exportsOf, hashesOf}
 use Rattle.zen.specs.AnswersLaws.{accepted-got}
-use Rattle.zen.specs.Field.{low30}
-use Rattle.zen.specs.Holds.{Holds}
 use Rattle.zen.specs.Layouts.{Laid, layoutAt, accepted-laid}
 use Rattle.zen.specs.PackageFacts.{PackageFacts, read-facts}
-use Rattle.zen.specs.Places.{placeAt, Held}
 use Rattle.zen.specs.Zen.{Read, packageBlock, noExport, exportAt, summaryAt}
-use Rattle.zen.specs.declared.names.Names.{Names}
 use Rattle.zen.specs.declared.zen.Layout.{Layout}
 use Rattle.zen.specs.declared.zen.Package.the-variants.{Accepted}
 use Rattle.packages.specs.Package.{readIn, partsOf, partsAt, PackageIn}

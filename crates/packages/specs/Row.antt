@@ -13,10 +13,10 @@ use Rattle.base.specs.Choose.{pick}
 use Rattle.base.specs.Index.{kind}
 use Rattle.text.specs.Name.{suffix, textBytes}
 use Rattle.text.specs.Utf8.{utf8}
-use Rattle.zen.specs.Holds.{Holds, textAt, nameAt}
-use Rattle.zen.specs.Places.{placeAt}
+use Rattle.batch.specs.Holds.{Holds, textAt, nameAt}
+use Rattle.batch.specs.Places.{placeAt}
+use Rattle.batch.specs.declared.places.Place.{Place}
 use Rattle.zen.specs.Zen.{noExport}
-use Rattle.zen.specs.declared.places.Place.{Place}
 use Rattle.zen.specs.declared.tables.Export.{Export}
 use Rattle.meaning.specs.Scan.{outerOf, genVariable}
 use Rattle.packages.specs.Package.{readIn}

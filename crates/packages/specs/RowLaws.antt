@@ -21,10 +21,10 @@ use Rattle.text.specs.UnitsLaws.{base-length, unitsOf-narrow, unitsOf-length}
 use Rattle.text.specs.Utf8.{utf8}
 use Rattle.text.specs.Utf8Laws.{utf8-append, utf8-ascii}
 use Rattle.text.specs.Utf16.{well, scalars, isWell, Scalars}
-use Rattle.zen.specs.Holds.{Holds, textAt, nameAt, holds-own}
-use Rattle.zen.specs.Places.{placeAt, partAt}
+use Rattle.batch.specs.Holds.{Holds, textAt, nameAt, holds-own}
+use Rattle.batch.specs.Places.{placeAt, partAt}
+use Rattle.batch.specs.declared.places.Place.{Place}
 use Rattle.zen.specs.Zen.{Read, noExport, baseOf, exportName}
-use Rattle.zen.specs.declared.places.Place.{Place}
 use Rattle.zen.specs.declared.tables.Export.{Export}
 use Rattle.meaning.specs.Scan.{outerOf, outerName, candidateKind, instanceName, genVariable, defaultStart}
 use Rattle.packages.specs.Package.{readIn, PackageIn}

@@ -11,13 +11,13 @@ use Rattle.text.specs.Name.{decoded}
 use Rattle.base.specs.Number.{leAt}
 use Rattle.base.specs.NumberLaws.{leAt-part, drop-take}
 use Rattle.text.specs.Utf16.{isWell}
-use Rattle.zen.specs.Batch.{headAt}
-use Rattle.zen.specs.Field.{low30}
-use Rattle.zen.specs.Places.{nameStart, placeAt, partAt, Held}
-use Rattle.zen.specs.PlacesLaws.{place-inside}
+use Rattle.batch.specs.Batch.{headAt}
+use Rattle.batch.specs.Field.{low30}
+use Rattle.batch.specs.Places.{nameStart, placeAt, partAt, Held}
+use Rattle.batch.specs.PlacesLaws.{place-inside}
+use Rattle.batch.specs.declared.names.Names.{Names}
+use Rattle.batch.specs.declared.places.Place.{Place}
 use Rattle.zen.specs.Zen.{exportAt}
-use Rattle.zen.specs.declared.names.Names.{Names}
-use Rattle.zen.specs.declared.places.Place.{Place}
 
 module _ (k : ℕ) (s : List ℕ) where
   -- the first k bytes hold a number as the block does

@@ -3,14 +3,14 @@ ghost use mathlib.Core.Path.{_≡_};
 ghost use Prim.Native.Nat.{_≤_};
 ghost use lib.ListN.{length};
 ghost use Rattle.base.specs.Output.{Wrote};
-ghost use Rattle.zen.specs.Holds.{Holds};
+ghost use Rattle.batch.specs.Holds.{Holds};
 ghost use Rattle.packages.specs.ClassPath.{pathBytes};
 ghost use Rattle.packages.specs.Row.{baseAt, RowHolds};
 use super::names::Name;
 use super::names::put_behind;
 use super::rows::Row;
-use zen::texts::place_len;
-use zen::texts::put_place;
+use batch::texts::place_len;
+use batch::texts::put_place;
 
 // How many bytes the path takes.
 pub fn class_path_len(b: &[u8], home: Name, w: Row) -> usize

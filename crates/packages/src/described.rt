@@ -1,7 +1,7 @@
 // A package and its exports from where their names start: what is kept of a name, so that it isn't looked for again.
 ghost use mathlib.Core.Path.{_≡_};
 ghost use Prim.Native.Nat.{_<_};
-ghost use Rattle.zen.specs.Places.{placeAt};
+ghost use Rattle.batch.specs.Places.{placeAt};
 ghost use Rattle.packages.specs.Package.{PackageIn};
 ghost use Rattle.packages.specs.Row.{homeIn, rowIn};
 use super::names::Name;
@@ -9,9 +9,9 @@ use super::package::Parts;
 use super::package::export_at;
 use super::rows::Row;
 use super::rows::is_local;
-use zen::names::read_head;
-use zen::places::Place;
-use zen::reader::u30_le;
+use batch::names::read_head;
+use batch::places::Place;
+use batch::reader::u30_le;
 
 // Where name i is, whose start is known.
 pub fn place_from(b: &[u8], p: Parts, i: usize, start: usize) -> Place

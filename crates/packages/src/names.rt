@@ -6,11 +6,11 @@ ghost use lib.ListN.{length};
 ghost use Rattle.text.specs.Digits.{decimal};
 ghost use Rattle.base.specs.Output.{Wrote};
 ghost use Rattle.text.specs.Utf8.{utf8};
-ghost use Rattle.zen.specs.Holds.{Holds, textAt, nameAt};
+ghost use Rattle.batch.specs.Holds.{Holds, textAt, nameAt};
 use base::output::put_bytes;
+use batch::places::Place;
+use batch::texts::put_place;
 use text::digits::put_decimal;
-use zen::places::Place;
-use zen::texts::put_place;
 
 // Where a name's text is, and its number.
 pub struct Name {

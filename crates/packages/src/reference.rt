@@ -7,7 +7,7 @@ ghost use Rattle.text.specs.Digits.{hex};
 ghost use Rattle.base.specs.Index.{importName, importHash};
 ghost use Rattle.base.specs.Literal.{quoted};
 ghost use Rattle.base.specs.Output.{Wrote};
-ghost use Rattle.zen.specs.Notes.{Noted};
+ghost use Rattle.batch.specs.Notes.{Noted};
 ghost use Rattle.packages.specs.Package.{readIn, PackageIn};
 ghost use Rattle.packages.specs.Meaning.{kindBy};
 ghost use Rattle.packages.specs.RefBytes.{importBad, badBy, importBytes, exportBytes, refBytes};
@@ -23,10 +23,10 @@ use base::index::import_hash;
 use base::index::import_name;
 use base::index::index_kind;
 use base::output::put_bytes;
+use batch::notes::NOTES;
+use batch::texts::place_len;
 use text::digits::decimal_len;
 use text::digits::put_hex;
-use zen::notes::NOTES;
-use zen::texts::place_len;
 
 // The length of a bad reference's text.
 fn bad_len(p: Parts, index: u64) -> usize

@@ -7,7 +7,7 @@ ghost use Rattle.text.specs.AffixLaws.{unitSize};
 ghost use Rattle.text.specs.Name.{textBytes};
 ghost use Rattle.base.specs.Output.{Wrote};
 ghost use Rattle.text.specs.Utf8.{utf8};
-ghost use Rattle.zen.specs.Notes.{Noted};
+ghost use Rattle.batch.specs.Notes.{Noted};
 ghost use Rattle.meaning.specs.Scan.{candidateKind};
 ghost use Rattle.packages.specs.Package.{readIn, PackageIn};
 ghost use Rattle.packages.specs.Row.{exportNo, isLocal, rowIn, instancePlace, outerAt, namesAt, namesSize, RowHolds};
@@ -17,12 +17,12 @@ use super::package::export_at;
 use super::package::name_at;
 use base::index::index_kind;
 use base::output::put_be32;
-use zen::notes::NOTES;
-use zen::places::Place;
-use zen::texts::place_ends_with;
-use zen::texts::place_len;
-use zen::texts::place_starts_with;
-use zen::texts::put_place_text;
+use batch::notes::NOTES;
+use batch::places::Place;
+use batch::texts::place_ends_with;
+use batch::texts::place_len;
+use batch::texts::place_starts_with;
+use batch::texts::put_place_text;
 
 // An export as a candidate: its kind (0: none), its name, its outer's if it has one, its class index.
 pub struct Row {

@@ -7,7 +7,7 @@ use native.Mathlib.Omega.{arith}
 use lib.ListN.{length}
 use Rattle.base.specs.Answer.{refusal}
 use Rattle.base.specs.Reading.{gives, run}
-use Rattle.zen.specs.Script.{Objects, script}
+use Rattle.scriptblock.specs.Script.{Objects, script}
 use Rattle.meaning.specs.Call.{readFrom, refusedIn}
 use Rattle.packages.specs.Framing.{partsAt}
 use Rattle.packages.specs.declared.frame.Frame.{Frame}

@@ -7,12 +7,12 @@ use lib.ListN.{length, length-map}
 use Rattle.base.specs.Answer.{refusal}
 use Rattle.base.specs.Output.{Wrote}
 use Rattle.base.specs.Reading.{gives, run}
-use Rattle.zen.specs.Script.{Objects, script}
-use Rattle.zen.specs.ScriptAccepted.{answer-of}
-use Rattle.zen.specs.ScriptAnswers.{opened as openedScript}
-use Rattle.zen.specs.ScriptFacts.{ScriptFacts, objects-facts}
-use Rattle.zen.specs.declared.script.Layout.{Layout}
-use Rattle.zen.specs.declared.script.Opened.the-variants.{Open}
+use Rattle.scriptblock.specs.Script.{Objects, script}
+use Rattle.scriptblock.specs.ScriptAccepted.{answer-of}
+use Rattle.scriptblock.specs.ScriptAnswers.{opened as openedScript}
+use Rattle.scriptblock.specs.ScriptFacts.{ScriptFacts, objects-facts}
+use Rattle.scriptblock.specs.declared.script.Layout.{Layout}
+use Rattle.scriptblock.specs.declared.script.Opened.the-variants.{Open}
 use Rattle.meaning.specs.Bounds.{work-short, report-beyond, report-outside, report-fits}
 use Rattle.meaning.specs.Call.{refusedIn, accepted, Placed, Opened, holding, opened, workBytes, weighed, answer, numberOf, bufferAfter, outcome}
 use Rattle.meaning.specs.Reference.{Package}

@@ -6,7 +6,7 @@ use Prim.Native.Nat.{ℕ, _+_, _*_, _^_, _<_}
 use lib.ListN.{length}
 use Rattle.base.specs.Answer.{refusal}
 use Rattle.base.specs.Reading.{gives, run}
-use Rattle.zen.specs.Script.{Objects, script}
+use Rattle.scriptblock.specs.Script.{Objects, script}
 use Rattle.meaning.specs.Call.{refusedIn, answer, numberOf, bufferAfter}
 use Rattle.meaning.specs.Resolve.{Limits}
 use Rattle.packages.specs.declared.frame.Frame.{Frame}

@@ -13,7 +13,7 @@ use Rattle.base.specs.Number.{beBytes}
 use Rattle.base.specs.NumberLaws.{Bytes, length-beBytes}
 use Rattle.base.specs.Output.{Wrote}
 use Rattle.base.specs.OutputLaws.{wrote-as, wrote-count, wrote-front}
-use Rattle.zen.specs.Script.{Objects}
+use Rattle.scriptblock.specs.Script.{Objects}
 use Rattle.zen.specs.declared.tables.Export.{Export}
 use Rattle.meaning.specs.Key.{Key}
 use Rattle.meaning.specs.Path.{Path, pathOf}

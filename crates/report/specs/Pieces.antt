@@ -9,7 +9,7 @@ use Rattle.base.specs.House.{lengthFirst}
 use Rattle.text.specs.Name.{textBytes}
 use Rattle.base.specs.Number.{beBytes}
 use Rattle.base.specs.Output.{Wrote}
-use Rattle.zen.specs.Script.{Objects}
+use Rattle.scriptblock.specs.Script.{Objects}
 use Rattle.meaning.specs.Reference.{refIn}
 use Rattle.meaning.specs.Scan.{Class, candidateKind}
 use Rattle.meaning.specs.Resolve.{Limits, look, pathText}

@@ -13,7 +13,7 @@ use Rattle.base.specs.LoopLaws.{flat-take, flat-filter}
 use Rattle.base.specs.Number.{beBytes}
 use Rattle.base.specs.NumberLaws.{length-beBytes}
 use Rattle.base.specs.OutputLaws.{wrote-none, wrote-length, wrote-rest, wrote-as, next-room}
-use Rattle.zen.specs.Script.{Objects}
+use Rattle.scriptblock.specs.Script.{Objects}
 use Rattle.zen.specs.Zen.{Read}
 use Rattle.zen.specs.declared.tables.Export.{Export}
 use Rattle.meaning.specs.Reference.{Package, Ref}

@@ -8,7 +8,7 @@ use Rattle.base.specs.Find.{kept, flat}
 use Rattle.text.specs.Name.{textBytes}
 use Rattle.base.specs.Number.{beBytes}
 use Rattle.base.specs.Output.{Wrote}
-use Rattle.zen.specs.Script.{Objects}
+use Rattle.scriptblock.specs.Script.{Objects}
 use Rattle.zen.specs.Zen.{packageName}
 use Rattle.zen.specs.declared.tables.Export.{Export}
 use Rattle.meaning.specs.Reference.{Package, Ref, null}

@@ -7,7 +7,7 @@ use Prim.Native.Nat.{ℕ, _*_, _≤_, _<_}
 use lib.ListN.{length, drop}
 use Rattle.text.specs.Name.{textBytes}
 use Rattle.base.specs.Output.{Wrote}
-use Rattle.zen.specs.Script.{Objects}
+use Rattle.scriptblock.specs.Script.{Objects}
 use Rattle.meaning.specs.Reference.{Ref, refIn}
 use Rattle.meaning.specs.Resolve.{Limits, look, nativeOf, resolve, pathText}
 use Rattle.meaning.specs.Report.{orUnknown, rowOf, rowBytes, reportOf}

@@ -18,7 +18,7 @@ use Rattle.base.specs.Output.{over, Wrote}
 use Rattle.base.specs.OutputLaws.{wrote-as, wrote-count, wrote-byte, wrote-front}
 use Rattle.text.specs.Utf8.{utf8}
 use Rattle.text.specs.Utf8Laws.{utf8-ascii}
-use Rattle.zen.specs.Script.{Objects}
+use Rattle.scriptblock.specs.Script.{Objects}
 use Rattle.meaning.specs.Path.{Path}
 use Rattle.meaning.specs.Reference.{Ref}
 use Rattle.meaning.specs.Report.{orUnknown}

@@ -4,8 +4,8 @@ ghost use mathlib.Core.Path.{_≡_};
 ghost use Prim.Native.Nat.{ℕ, _+_, _≤_, _<_};
 ghost use lib.ListN.{length};
 ghost use Rattle.base.specs.Output.{Wrote};
-ghost use Rattle.zen.specs.Notes.{Noted};
-ghost use Rattle.zen.specs.Script.{Objects};
+ghost use Rattle.batch.specs.Notes.{Noted};
+ghost use Rattle.scriptblock.specs.Script.{Objects};
 ghost use Rattle.meaning.specs.Reference.{refIn};
 ghost use Rattle.meaning.specs.Scan.{Class, candidateKind};
 ghost use Rattle.objects.specs.Work.{oneIf};
@@ -17,13 +17,13 @@ ghost use Rattle.report.specs.Written.{Target, rowFor, RowRoom};
 ghost use Rattle.report.specs.Pieces.{kindFor, numberedAs, rowTexts, rowFront, rowNo, referenceText, RowDue, TextsRoom, TextsPut};
 use super::texts::put_both;
 use super::texts::put_length;
+use batch::notes::NOTES;
 use packages::package::Parts;
 use packages::package::kind_of;
 use packages::reference::put_reference;
 use packages::rows::Row;
 use packages::rows::put_names;
 use resolve::rows::Led;
-use zen::notes::NOTES;
 
 // A known flag.
 fn flag(b: bool) -> u8

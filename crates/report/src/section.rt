@@ -4,8 +4,8 @@ ghost use Prim.Native.Nat.{ℕ, _+_, _^_, _≤_, _<_};
 ghost use lib.ListN.{length};
 ghost use Rattle.base.specs.Output.{Wrote};
 ghost use Rattle.base.specs.Reading.{gives, runBlock};
-ghost use Rattle.zen.specs.Notes.{noteCount, Noted};
-ghost use Rattle.zen.specs.Script.{Objects};
+ghost use Rattle.batch.specs.Notes.{noteCount, Noted};
+ghost use Rattle.scriptblock.specs.Script.{Objects};
 ghost use Rattle.zen.specs.Zen.{packageBlock};
 ghost use Rattle.packages.specs.Package.{packageIn, readIn, PackageIn};
 ghost use Rattle.packages.specs.Walk.{blockAt, Site, Sites, AllRead};
@@ -16,6 +16,9 @@ use super::row::put_row;
 use base::output::put_be32;
 use base::output::put_be64;
 use base::output::put_byte;
+use batch::notes::NOTES;
+use batch::notes::note_names;
+use batch::texts::put_place_text;
 use packages::frame::block_at;
 use packages::frame::id_at;
 use packages::frame::next_at;
@@ -26,9 +29,6 @@ use packages::rows::candidate;
 use packages::rows::row_at;
 use resolve::rows::led_at;
 use zen::layout::layout_of;
-use zen::notes::NOTES;
-use zen::notes::note_names;
-use zen::texts::put_place_text;
 
 // How many bytes were written, and how many rows they have.
 pub struct Section {

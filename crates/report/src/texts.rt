@@ -6,7 +6,7 @@ ghost use lib.ListN.{length, drop};
 ghost use Rattle.text.specs.Name.{textBytes};
 ghost use Rattle.base.specs.Number.{beBytes};
 ghost use Rattle.base.specs.Output.{Wrote};
-ghost use Rattle.zen.specs.Script.{Objects};
+ghost use Rattle.scriptblock.specs.Script.{Objects};
 ghost use Rattle.meaning.specs.Reference.{Ref};
 ghost use Rattle.meaning.specs.Report.{orUnknown};
 ghost use Rattle.meaning.specs.Scan.{Class};

@@ -15,7 +15,7 @@ use Rattle.base.specs.Never.{never}
 use Rattle.base.specs.Number.{leAt}
 use Rattle.base.specs.NumberLaws.{leAt-drop}
 use Rattle.base.specs.Seek.{seek}
-use Rattle.zen.specs.Script.{Objects}
+use Rattle.scriptblock.specs.Script.{Objects}
 use Rattle.zen.specs.declared.tables.Export.{Export}
 use Rattle.meaning.specs.Key.{Key, public, sameKey}
 use Rattle.meaning.specs.Reference.{Package, Ref, script, import, export, null, bad, refBy, exportRef, importRef, refIn, meant}

@@ -10,7 +10,7 @@ use lib.ListN.{length, drop, length-drop}
 use Rattle.base.specs.Number.{leAt}
 use Rattle.base.specs.NumberLaws.{leAt-drop}
 use Rattle.base.specs.Seek.{seek}
-use Rattle.zen.specs.Script.{Objects}
+use Rattle.scriptblock.specs.Script.{Objects}
 use Rattle.meaning.specs.Key.{Key, public, sameKey}
 use Rattle.meaning.specs.Reference.{Ref, meant}
 use Rattle.meaning.specs.Scan.{Class}

@@ -3,7 +3,7 @@ use mathlib.Core.Path.{_≡_}
 use mathlib.Core.List.{List}
 use Prim.Native.Nat.{ℕ, _+_, _*_, _≤_}
 use lib.ListN.{length, drop}
-use Rattle.zen.specs.Script.{Objects}
+use Rattle.scriptblock.specs.Script.{Objects}
 use Rattle.meaning.specs.Reference.{Ref}
 use Rattle.meaning.specs.Scan.{Class}
 use Rattle.meaning.specs.Resolve.{Limits}

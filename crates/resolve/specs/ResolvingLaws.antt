@@ -12,7 +12,7 @@ use Rattle.base.specs.Never.{never}
 use Rattle.base.specs.Number.{leAt}
 use Rattle.base.specs.NumberLaws.{Bytes, bytes-part, drop-take, leAt-drop, leAt-lt}
 use Rattle.text.specs.Utf8.{utf8One, utf8}
-use Rattle.zen.specs.Script.{Objects}
+use Rattle.scriptblock.specs.Script.{Objects}
 use Rattle.meaning.specs.Path.{Path}
 use Rattle.meaning.specs.Reference.{Ref, null}
 use Rattle.meaning.specs.Report.{orUnknown, size}

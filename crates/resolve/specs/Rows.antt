@@ -11,7 +11,7 @@ use Rattle.base.specs.Find.{option, sum}
 use Rattle.base.specs.Number.{leAt}
 use Rattle.base.specs.NumberLaws.{Bytes}
 use Rattle.base.specs.Seek.{seek}
-use Rattle.zen.specs.Script.{Objects}
+use Rattle.scriptblock.specs.Script.{Objects}
 use Rattle.meaning.specs.Key.{Key, sameKey}
 use Rattle.meaning.specs.Path.{Path}
 use Rattle.meaning.specs.Reference.{Package, Ref, null, refIn, meant}

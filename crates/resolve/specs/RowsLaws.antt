@@ -8,8 +8,8 @@ use native.Mathlib.Numerals.{add-one}
 use lib.ListN.{length}
 use Rattle.base.specs.Find.{option}
 use Rattle.base.specs.FindLaws.{none-some}
-use Rattle.zen.specs.Script.{Objects}
-use Rattle.zen.specs.ScriptGood.{Good, script-good}
+use Rattle.scriptblock.specs.Script.{Objects}
+use Rattle.scriptblock.specs.ScriptGood.{Good, script-good}
 use Rattle.meaning.specs.Key.{Key}
 use Rattle.meaning.specs.Path.{pathOf}
 use Rattle.meaning.specs.Reference.{Ref, script, import, export, null, bad, meant}

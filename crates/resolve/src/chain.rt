@@ -3,7 +3,7 @@ ghost use mathlib.Core.List.{List};
 ghost use mathlib.Core.Path.{_≡_};
 ghost use Prim.Native.Nat.{ℕ, _<_};
 ghost use Rattle.base.specs.Seek.{seek};
-ghost use Rattle.zen.specs.Script.{Objects};
+ghost use Rattle.scriptblock.specs.Script.{Objects};
 ghost use Rattle.meaning.specs.Key.{public, sameKey};
 ghost use Rattle.meaning.specs.Reference.{Ref};
 ghost use Rattle.meaning.specs.Scan.{Class};

@@ -6,8 +6,8 @@ ghost use Prim.Native.Nat.{ℕ, _+_, _*_, _^_, _≤_, _<_};
 ghost use lib.ListN.{length};
 ghost use Rattle.base.specs.Number.{beAt};
 ghost use Rattle.text.specs.Utf8.{utf8};
-ghost use Rattle.zen.specs.Notes.{Noted};
-ghost use Rattle.zen.specs.Script.{Objects};
+ghost use Rattle.batch.specs.Notes.{Noted};
+ghost use Rattle.scriptblock.specs.Script.{Objects};
 ghost use Rattle.meaning.specs.Scan.{Class, isClass};
 ghost use Rattle.objects.specs.Work.{ObjectsIn, LinkedOf};
 ghost use Rattle.packages.specs.Package.{PackageIn};
@@ -16,6 +16,7 @@ ghost use Rattle.packages.specs.Walk.{Site};
 ghost use Rattle.table.specs.Table.{recordAt};
 ghost use Rattle.resolve.specs.Classes.{classNo, classFrom, ClassesIn, Classes, Entered, Stands, described};
 use base::index::index_kind;
+use batch::notes::NOTES;
 use packages::class_path::class_path_len;
 use packages::names::Name;
 use packages::package::Parts;
@@ -30,7 +31,6 @@ use table::entries::record_at;
 use table::words::get32;
 use table::words::set32;
 use table::words::set64;
-use zen::notes::NOTES;
 use zen::tables::Export;
 
 // Whether an export is a class; w holds the script objects of the block s.

@@ -2,7 +2,7 @@
 ghost use mathlib.Core.List.{List};
 ghost use Prim.Native.Nat.{ℕ, _+_, _≤_, _<_};
 ghost use lib.ListN.{length};
-ghost use Rattle.zen.specs.Script.{Objects};
+ghost use Rattle.scriptblock.specs.Script.{Objects};
 ghost use Rattle.meaning.specs.Reference.{Ref};
 ghost use Rattle.meaning.specs.Scan.{Class};
 ghost use Rattle.resolve.specs.Rows.{Tables, Kept, SomeClasses, ClassLinked, LinkedTo, SuperOnly};

@@ -6,12 +6,12 @@ use Prim.Native.Nat.{ℕ, _-_, _<_}
 use native.Mathlib.Omega.{arith}
 use lib.ListN.{length, getD}
 use Rattle.base.specs.Reading.{gives, run}
-use Rattle.zen.specs.Objects.{entryNumber}
-use Rattle.zen.specs.Script.{Objects, script}
-use Rattle.zen.specs.ScriptAccepted.{entries-of}
-use Rattle.zen.specs.ScriptAnswers.{entriesOf, noEntry}
-use Rattle.zen.specs.ScriptFacts.{number-is}
-use Rattle.zen.specs.declared.script.Entry.{Entry}
+use Rattle.scriptblock.specs.Objects.{entryNumber}
+use Rattle.scriptblock.specs.Script.{Objects, script}
+use Rattle.scriptblock.specs.ScriptAccepted.{entries-of}
+use Rattle.scriptblock.specs.ScriptAnswers.{entriesOf, noEntry}
+use Rattle.scriptblock.specs.ScriptFacts.{number-is}
+use Rattle.scriptblock.specs.declared.script.Entry.{Entry}
 use Rattle.meaning.specs.Path.{objectAt}
 use Rattle.scan.specs.ObjectLaws.{object-none, object-some}
 

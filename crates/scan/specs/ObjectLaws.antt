@@ -12,10 +12,10 @@ use Rattle.text.specs.Affix.{endsWith}
 use Rattle.base.specs.Find.{find}
 use Rattle.base.specs.Index.{kind}
 use Rattle.base.specs.SeekLaws.{First, Never, seek-never, seek-first}
-use Rattle.zen.specs.Objects.{entryNumber}
-use Rattle.zen.specs.Script.{Objects, objectName}
-use Rattle.zen.specs.ScriptAnswers.{noEntry}
-use Rattle.zen.specs.declared.script.Entry.{Entry}
+use Rattle.scriptblock.specs.Objects.{entryNumber}
+use Rattle.scriptblock.specs.Script.{Objects, objectName}
+use Rattle.scriptblock.specs.ScriptAnswers.{noEntry}
+use Rattle.scriptblock.specs.declared.script.Entry.{Entry}
 use Rattle.zen.specs.declared.tables.Export.{Export}
 use Rattle.meaning.specs.Path.{Path, objectAt, added, beyond, pathOf}
 use Rattle.meaning.specs.Scan.{classEnd, isClass}

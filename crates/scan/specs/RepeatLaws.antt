@@ -14,7 +14,7 @@ use lib.ListN.{length, take, getD}
 use lib.Seq.{take-suc, take-length}
 use Rattle.base.specs.Find.{orElse, kept}
 use Rattle.base.specs.Never.{never}
-use Rattle.zen.specs.Script.{Objects}
+use Rattle.scriptblock.specs.Script.{Objects}
 use Rattle.zen.specs.Zen.{noExport}
 use Rattle.zen.specs.declared.tables.Export.{Export}
 use Rattle.meaning.specs.Key.{Key, public}

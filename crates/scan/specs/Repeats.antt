@@ -8,12 +8,12 @@ use Prim.Native.Nat.{ℕ, zero, suc}
 use lib.Dec.{eqb}
 use lib.ListN.{length, getD}
 use Rattle.base.specs.Reading.{gives, run, runBlock}
-use Rattle.zen.specs.Notes.{Noted}
-use Rattle.zen.specs.Script.{Objects, script}
-use Rattle.zen.specs.ScriptAnswers.{scriptAnswer}
+use Rattle.batch.specs.Notes.{Noted}
+use Rattle.scriptblock.specs.Script.{Objects, script}
+use Rattle.scriptblock.specs.ScriptAnswers.{scriptAnswer}
+use Rattle.scriptblock.specs.declared.script.Layout.{Layout}
+use Rattle.scriptblock.specs.declared.script.Script.the-variants.{Accepted}
 use Rattle.zen.specs.Zen.{packageBlock, noExport}
-use Rattle.zen.specs.declared.script.Layout.{Layout}
-use Rattle.zen.specs.declared.script.Script.the-variants.{Accepted}
 use Rattle.zen.specs.declared.tables.Export.{Export}
 use Rattle.meaning.specs.Reference.{Package}
 use Rattle.meaning.specs.Scan.{isClass}

@@ -4,21 +4,21 @@ ghost use Prim.Native.Nat.{_<_};
 ghost use lib.ListN.{getD};
 ghost use Rattle.text.specs.Affix.{endsWith};
 ghost use Rattle.base.specs.Reading.{gives, run};
-ghost use Rattle.zen.specs.Script.{Objects, script, objectName};
-ghost use Rattle.zen.specs.ScriptAnswers.{scriptAnswer, noEntry};
-ghost use Rattle.zen.specs.declared.script.Script.the-variants.{Accepted};
+ghost use Rattle.scriptblock.specs.Script.{Objects, script, objectName};
+ghost use Rattle.scriptblock.specs.ScriptAnswers.{scriptAnswer, noEntry};
+ghost use Rattle.scriptblock.specs.declared.script.Script.the-variants.{Accepted};
 ghost use Rattle.meaning.specs.ClassTest.{isKnown};
 ghost use Rattle.meaning.specs.Path.{pathOf};
 ghost use Rattle.meaning.specs.Scan.{classEnd, isClass};
 ghost use Rattle.scan.specs.Repeats.{NotedScript};
 use base::index::index_kind;
-use zen::notes::NOTES;
-use zen::objects::find_entry;
-use zen::objects::object_place;
-use zen::script::Layout;
-use zen::script::entry_at;
+use batch::notes::NOTES;
+use batch::texts::place_ends_with;
+use scriptblock::objects::find_entry;
+use scriptblock::objects::object_place;
+use scriptblock::script::Layout;
+use scriptblock::script::entry_at;
 use zen::tables::Export;
-use zen::texts::place_ends_with;
 
 // Whether the path of the object with a global index is known, of at most `limit` objects.
 fn known(s: &[u8], l: Layout, index: u64, limit: usize) -> bool

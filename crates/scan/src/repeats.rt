@@ -3,22 +3,22 @@ ghost use mathlib.Core.List.{[]};
 ghost use mathlib.Core.Path.{_≡_};
 ghost use Prim.Native.Nat.{_+_, _^_, _≤_, _<_};
 ghost use Rattle.base.specs.Reading.{gives, run, runBlock};
-ghost use Rattle.zen.specs.Script.{Objects, script};
+ghost use Rattle.scriptblock.specs.Script.{Objects, script};
 ghost use Rattle.zen.specs.Zen.{packageBlock};
 ghost use Rattle.meaning.specs.Call.{placedFrom, firstRepeat};
 ghost use Rattle.packages.specs.Package.{readIn, PackageIn};
 ghost use Rattle.packages.specs.Walk.{packageAt, placeOf, packagesAt, Sites, AllRead};
 ghost use Rattle.scan.specs.Repeats.{NotedScript, ReadAt, isClassOf, hasClass, hasPublic, isBefore, isRepeat, repeatsIn, repeatBlock};
 use super::objects::is_class;
+use batch::notes::NOTES;
 use packages::frame::block_at;
 use packages::frame::id_at;
 use packages::frame::next_at;
 use packages::package::Parts;
 use packages::package::export_at;
 use packages::package::parts_of;
+use scriptblock::script::Layout;
 use zen::layout::layout_of;
-use zen::notes::NOTES;
-use zen::script::Layout;
 use zen::tables::Export;
 
 // Where the parts of an accepted block are.

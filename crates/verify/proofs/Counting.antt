@@ -5,12 +5,12 @@ use Prim.Native.Nat.{ℕ, _+_, _*_, _^_, _≤_, _<_}
 use native.Mathlib.Omega.{arith}
 use lib.ListN.{length, getD}
 use Rattle.base.specs.Reading.{gives, run}
-use Rattle.zen.specs.Script.{Objects, script}
-use Rattle.zen.specs.ScriptAnswers.{noEntry, scriptAnswer, entriesOf}
-use Rattle.zen.specs.ScriptFacts.{script-facts, objects-facts}
-use Rattle.zen.specs.declared.script.Entry.{Entry}
-use Rattle.zen.specs.declared.script.Layout.{Layout}
-use Rattle.zen.specs.declared.script.Script.the-variants.{Accepted}
+use Rattle.scriptblock.specs.Script.{Objects, script}
+use Rattle.scriptblock.specs.ScriptAnswers.{noEntry, scriptAnswer, entriesOf}
+use Rattle.scriptblock.specs.ScriptFacts.{script-facts, objects-facts}
+use Rattle.scriptblock.specs.declared.script.Entry.{Entry}
+use Rattle.scriptblock.specs.declared.script.Layout.{Layout}
+use Rattle.scriptblock.specs.declared.script.Script.the-variants.{Accepted}
 use Rattle.objects.specs.Numbers.{pathNo}
 use Rattle.objects.specs.Work.{ObjectsIn, LinkedOf}
 use Rattle.hashes.specs.Hashed.{hashedAs}

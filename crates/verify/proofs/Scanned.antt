@@ -8,11 +8,11 @@ use lib.ListN.{length, take}
 use lib.Seq.{length-take-le}
 use Rattle.base.specs.Answer.{refusal}
 use Rattle.base.specs.Reading.{gives, run}
-use Rattle.zen.specs.Script.{Objects, script}
-use Rattle.zen.specs.ScriptAnswers.{scriptAnswer}
-use Rattle.zen.specs.ScriptFacts.{script-facts}
-use Rattle.zen.specs.declared.script.Layout.{Layout}
-use Rattle.zen.specs.declared.script.Script.the-variants.{Accepted}
+use Rattle.scriptblock.specs.Script.{Objects, script}
+use Rattle.scriptblock.specs.ScriptAnswers.{scriptAnswer}
+use Rattle.scriptblock.specs.ScriptFacts.{script-facts}
+use Rattle.scriptblock.specs.declared.script.Layout.{Layout}
+use Rattle.scriptblock.specs.declared.script.Script.the-variants.{Accepted}
 use Rattle.meaning.specs.Call.{noneTwice, limits}
 use Rattle.packages.specs.declared.frame.Frame.{Frame}
 use Rattle.scan.specs.Repeats.{repeatBlock}

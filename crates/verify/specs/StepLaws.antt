@@ -8,8 +8,8 @@ use lib.ListN.{length}
 use Rattle.base.specs.Answer.{refusal}
 use Rattle.base.specs.NumberLaws.{Bytes}
 use Rattle.base.specs.Output.{Wrote}
-use Rattle.zen.specs.ScriptAccepted.{answer-of}
-use Rattle.zen.specs.ScriptFacts.{ScriptFacts, objects-facts}
+use Rattle.scriptblock.specs.ScriptAccepted.{answer-of}
+use Rattle.scriptblock.specs.ScriptFacts.{ScriptFacts, objects-facts}
 use Rattle.meaning.specs.Call.{refusedIn, accepted, Opened, holding, opened, numberOf, bufferAfter, limits}
 use Rattle.meaning.specs.Verify.{packageFlag, outputWith, outputOf, verifyAnswer, verified}
 use Rattle.meaning.specs.VerifyRefusals.{verify-opened, verify-refused, verify-accepted}

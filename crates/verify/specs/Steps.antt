@@ -4,7 +4,7 @@ use mathlib.Core.List.{List}
 use Prim.Native.Nat.{ℕ, _+_}
 use lib.ListN.{length}
 use Rattle.base.specs.Reading.{gives, run}
-use Rattle.zen.specs.Script.{Objects, script}
+use Rattle.scriptblock.specs.Script.{Objects, script}
 use Rattle.meaning.specs.Call.{accepted, holding, opened, numberOf, bufferAfter, limits}
 use Rattle.meaning.specs.Verify.{verifyAnswer}
 use Rattle.packages.specs.Walk.{packagesAt}

@@ -5,7 +5,7 @@ use Prim.Native.Nat.{ℕ, _+_, _-_}
 use lib.Dec.{eqb}
 use Rattle.base.specs.Index.{value}
 use Rattle.base.specs.Number.{beBytes}
-use Rattle.zen.specs.Script.{Objects}
+use Rattle.scriptblock.specs.Script.{Objects}
 use Rattle.meaning.specs.Verify.{Counts, isResolved, isMatch, countsOf, verifyVersion}
 use Rattle.meaning.specs.VerifyLaws.{scoredTo}
 use Rattle.hashes.specs.declared.path.Hashed.{Hashed}

@@ -11,10 +11,10 @@ use lib.Seq.{length-take-le}
 use Rattle.base.specs.Index.{value}
 use Rattle.base.specs.Number.{beBytes}
 use Rattle.base.specs.NumberLaws.{length-beBytes}
-use Rattle.zen.specs.Script.{Objects}
-use Rattle.zen.specs.ScriptFacts.{ScriptFacts}
-use Rattle.zen.specs.ScriptGood.{script-good}
-use Rattle.zen.specs.declared.script.Layout.{Layout}
+use Rattle.scriptblock.specs.Script.{Objects}
+use Rattle.scriptblock.specs.ScriptFacts.{ScriptFacts}
+use Rattle.scriptblock.specs.ScriptGood.{script-good}
+use Rattle.scriptblock.specs.declared.script.Layout.{Layout}
 use Rattle.meaning.specs.Path.{Path, pathOf}
 use Rattle.meaning.specs.Verify.{isResolved, isMatch, Counts, countsOf, verifyVersion, outputWith}
 use Rattle.meaning.specs.VerifyLaws.{scoredTo, scored-more, counts-all, resolved-are, sums-few}

@@ -3,19 +3,19 @@ ghost use mathlib.Core.Path.{_≡_};
 ghost use Prim.Native.Nat.{_^_, _≤_, _<_};
 ghost use lib.ListN.{length};
 ghost use Rattle.base.specs.Reading.{gives, run};
-ghost use Rattle.zen.specs.Script.{Objects, script};
-ghost use Rattle.zen.specs.ScriptAnswers.{scriptAnswer};
-ghost use Rattle.zen.specs.declared.script.Script.the-variants.{Accepted};
+ghost use Rattle.scriptblock.specs.Script.{Objects, script};
+ghost use Rattle.scriptblock.specs.ScriptAnswers.{scriptAnswer};
+ghost use Rattle.scriptblock.specs.declared.script.Script.the-variants.{Accepted};
 ghost use Rattle.objects.specs.Work.{LinkedOf};
 ghost use Rattle.scan.specs.Repeats.{NotedScript};
 ghost use Rattle.verify.specs.Tallies.{tallied, tallyOf};
 use base::index::index_value;
+use batch::notes::NOTES;
 use hashes::path::Hashed;
 use hashes::path::path_hash;
 use hashes::path::path_hash_by_scan;
-use zen::notes::NOTES;
-use zen::script::Layout;
-use zen::script::entry_at;
+use scriptblock::script::Layout;
+use scriptblock::script::entry_at;
 
 // Room for the chain of a path: three numbers for each of at most 65 objects.
 const CHAIN: usize = 195;

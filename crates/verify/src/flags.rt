@@ -13,6 +13,11 @@ ghost use Rattle.packages.specs.Row.{homeIn};
 ghost use Rattle.packages.specs.Walk.{packageAt, packagesAt, Sites, AllRead};
 ghost use Rattle.scan.specs.Repeats.{ReadAt};
 use base::number::le32;
+use batch::names::read_head;
+use batch::places::Place;
+use batch::places::name_start;
+use batch::reader::u30_le;
+use batch::texts::place_id;
 use packages::frame::block_at;
 use packages::frame::id_at;
 use packages::frame::next_at;
@@ -20,11 +25,6 @@ use packages::names::Name;
 use packages::package::Parts;
 use packages::package::parts_of;
 use zen::layout::layout_of;
-use zen::names::read_head;
-use zen::places::Place;
-use zen::places::name_start;
-use zen::reader::u30_le;
-use zen::texts::place_id;
 
 // Where a package's name is, and its number, by passing over the names before it: it is the only name that is asked for.
 fn home_of(b: &[u8], p: Parts) -> Name

@@ -6,11 +6,11 @@ use native.Mathlib.Omega.{arith}
 use lib.ListN.{length, take, drop, length-append, length-drop}
 use lib.Seq.{take-at, length-take-le}
 use Rattle.base.specs.Reading.{gives, run}
-use Rattle.zen.specs.Script.{Objects, script}
-use Rattle.zen.specs.ScriptAnswers.{scriptAnswer}
-use Rattle.zen.specs.ScriptFacts.{script-facts}
-use Rattle.zen.specs.declared.script.Layout.{Layout}
-use Rattle.zen.specs.declared.script.Script.the-variants.{Accepted}
+use Rattle.scriptblock.specs.Script.{Objects, script}
+use Rattle.scriptblock.specs.ScriptAnswers.{scriptAnswer}
+use Rattle.scriptblock.specs.ScriptFacts.{script-facts}
+use Rattle.scriptblock.specs.declared.script.Layout.{Layout}
+use Rattle.scriptblock.specs.declared.script.Script.the-variants.{Accepted}
 use Rattle.objects.specs.Work.{Entered, ObjectsIn}
 use Rattle.walk.specs.Found.{Linked}
 

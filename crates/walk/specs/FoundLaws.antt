@@ -10,7 +10,7 @@ use lib.Seq.{take-suc, take-length, length-take-le}
 use Rattle.base.specs.Find.{kept, filter, flat, sum}
 use Rattle.base.specs.FindLaws.{sum-same, length-flat}
 use Rattle.base.specs.LoopLaws.{flat-append, sum-append, filter-append}
-use Rattle.zen.specs.Script.{Objects}
+use Rattle.scriptblock.specs.Script.{Objects}
 use Rattle.zen.specs.Zen.{noExport}
 use Rattle.zen.specs.declared.tables.Export.{Export}
 use Rattle.meaning.specs.Key.{Key}

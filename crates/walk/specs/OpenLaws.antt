@@ -10,13 +10,13 @@ use lib.ListN.{length, take, drop}
 use Rattle.base.specs.Never.{never}
 use Rattle.base.specs.NumberLaws.{Bytes}
 use Rattle.base.specs.Reading.{Out, refused, gives, run}
-use Rattle.zen.specs.Script.{Objects, script}
-use Rattle.zen.specs.ScriptAccepted.{rejected-objects}
-use Rattle.zen.specs.ScriptAnswers.{opened as openedScript, faultAt, answerBy, scriptAnswer}
-use Rattle.zen.specs.ScriptLaws.{script-is}
-use Rattle.zen.specs.declared.script.Layout.{Layout}
-use Rattle.zen.specs.declared.script.Opened.the-variants.{Open}
-use Rattle.zen.specs.declared.script.Script.the-variants.{Accepted, Rejected}
+use Rattle.scriptblock.specs.Script.{Objects, script}
+use Rattle.scriptblock.specs.ScriptAccepted.{rejected-objects}
+use Rattle.scriptblock.specs.ScriptAnswers.{opened as openedScript, faultAt, answerBy, scriptAnswer}
+use Rattle.scriptblock.specs.ScriptLaws.{script-is}
+use Rattle.scriptblock.specs.declared.script.Layout.{Layout}
+use Rattle.scriptblock.specs.declared.script.Opened.the-variants.{Open}
+use Rattle.scriptblock.specs.declared.script.Script.the-variants.{Accepted, Rejected}
 use Rattle.meaning.specs.Call.{refusedIn, accepted, readFrom, Placed, firstRepeat, noneTwice, Opened, holding, openedIn, opened}
 use Rattle.meaning.specs.Frame.{Corpus, framed}
 use Rattle.meaning.specs.Reference.{Package}

@@ -5,7 +5,7 @@ use mathlib.Core.Option.{Option}
 use Prim.Native.Nat.{ℕ, _+_, _-_}
 use lib.ListN.{take, drop}
 use Rattle.base.specs.NumberLaws.{Bytes}
-use Rattle.zen.specs.Script.{Objects}
+use Rattle.scriptblock.specs.Script.{Objects}
 use Rattle.meaning.specs.Call.{Placed, placedFrom, firstRepeat}
 use Rattle.meaning.specs.Frame.{framed}
 use Rattle.packages.specs.Framing.{framedAs}

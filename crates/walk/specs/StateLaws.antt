@@ -15,9 +15,9 @@ use Rattle.base.specs.Find.{kept}
 use Rattle.base.specs.Index.{kind}
 use Rattle.base.specs.Never.{never}
 use Rattle.base.specs.NumberLaws.{Bytes}
-use Rattle.zen.specs.Script.{Objects}
+use Rattle.scriptblock.specs.Script.{Objects}
+use Rattle.scriptblock.specs.declared.script.Entry.{Entry}
 use Rattle.zen.specs.Zen.{Read, noExport}
-use Rattle.zen.specs.declared.script.Entry.{Entry}
 use Rattle.zen.specs.declared.tables.Export.{Export}
 use Rattle.meaning.specs.Call.{Placed}
 use Rattle.meaning.specs.ClassTest.{namesClass, class-test-none}

@@ -7,7 +7,7 @@ use Prim.Native.Nat.{ℕ, _+_, _*_, _≤_}
 use lib.ListN.{length, getD}
 use Rattle.base.specs.Find.{kept}
 use Rattle.base.specs.Number.{beAt}
-use Rattle.zen.specs.Script.{Objects}
+use Rattle.scriptblock.specs.Script.{Objects}
 use Rattle.zen.specs.Zen.{noExport}
 use Rattle.meaning.specs.Call.{Placed}
 use Rattle.meaning.specs.Reference.{Package}

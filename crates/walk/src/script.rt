@@ -3,17 +3,17 @@ ghost use mathlib.Core.Path.{_≡_};
 ghost use Prim.Native.Nat.{_*_, _^_, _≤_, _<_};
 ghost use lib.ListN.{length};
 ghost use Rattle.base.specs.Reading.{run};
-ghost use Rattle.zen.specs.Notes.{Noted};
-ghost use Rattle.zen.specs.Script.{script};
-ghost use Rattle.zen.specs.ScriptAnswers.{opened, scriptAnswer};
-ghost use Rattle.zen.specs.declared.script.Layout.{Layout};
-ghost use Rattle.zen.specs.declared.script.Opened.the-variants.{Open};
-ghost use Rattle.zen.specs.declared.script.Script.the-variants.{Accepted, Rejected};
+ghost use Rattle.batch.specs.Notes.{Noted};
+ghost use Rattle.scriptblock.specs.Script.{script};
+ghost use Rattle.scriptblock.specs.ScriptAnswers.{opened, scriptAnswer};
+ghost use Rattle.scriptblock.specs.declared.script.Layout.{Layout};
+ghost use Rattle.scriptblock.specs.declared.script.Opened.the-variants.{Open};
+ghost use Rattle.scriptblock.specs.declared.script.Script.the-variants.{Accepted, Rejected};
 ghost use Rattle.walk.specs.Found.{Linked};
+use batch::notes::NOTES;
 use objects::enter::enter;
 use objects::link::link;
-use zen::notes::NOTES;
-use zen::script::Layout;
+use scriptblock::script::Layout;
 
 // Enters the objects of a script block that was opened, and links each to its outer: 0, or the question that the block fails (10 to 13).
 pub fn enter_script(s: &[u8], l: Layout, notes: &[u32; NOTES], w: &mut [u8]) -> u8

@@ -12,7 +12,7 @@ use Rattle.base.specs.Number.{beBytes, leBytes}
 use Rattle.base.specs.Reading.{Out, refused, gives, runBlock, rows}
 use Rattle.base.specs.Signed.{twos}
 use Rattle.text.specs.Utf16.{utf16, units, encodeOne, encode16}
-use Rattle.zen.specs.Batch.{batch, noNames, someNames, body, head, headOf, strings}
+use Rattle.batch.specs.Batch.{batch, noNames, someNames, body, head, headOf, strings}
 use Rattle.written.specs.BatchBytes.{stringBytes, headBytes, someBytes, batchBytes}
 use Rattle.written.specs.HeaderBytes.{Description, exportBytes, importedBytes, hashesStart, exportsStart, importedStart, headerSize, offsetsOf}
 use Rattle.written.specs.HeaderBytes.{summaryBytes, contentBytes, headerWith, headerOf, short, writable, described}

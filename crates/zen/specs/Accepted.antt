@@ -16,18 +16,18 @@ use Rattle.base.specs.ReadingGives.{refused-gives}
 use Rattle.base.specs.ReadingRows.{cells, cells-at, cells-length}
 use Rattle.base.specs.Number.{leAt}
 use Rattle.base.specs.NumberLaws.{Bytes, bytes-part, leAt-part, leAt-lt}
-use Rattle.zen.specs.Batch.{batch}
+use Rattle.batch.specs.Batch.{batch}
+use Rattle.batch.specs.Places.{textsAt, Held}
+use Rattle.batch.specs.FoundBatch.{FoundAt, found-by, found-end, found-held}
+use Rattle.batch.specs.declared.names.Names.{Names}
 use Rattle.zen.specs.Zen.{Read, Tables, Imports, summary, ordered, bulk, tables, exportAt, imports, content, header, lead, packageBlock, named, noExport}
 use Rattle.zen.specs.Answers.{Order, answer, hashesOf, exportsOf, namesOf, importedOf, numbersOf, hashCount, exportCount}
 use Rattle.zen.specs.TableLaws.{bulk-got, tables-is, hashesIn, exportsIn}
 use Rattle.zen.specs.AnswersLaws.{accepted-got}
-use Rattle.zen.specs.Places.{textsAt, Held}
 use Rattle.zen.specs.SummaryLaws.{order-of, summary-got}
 use Rattle.zen.specs.BlockLaws.{block-is, block-low, block-bad, lead-got}
-use Rattle.zen.specs.FoundBatch.{FoundAt, found-by, found-end, found-held}
 use Rattle.zen.specs.ImportLaws.{imports-short, imports-is}
 use Rattle.zen.specs.declared.summary.Summary.{Summary}
-use Rattle.zen.specs.declared.names.Names.{Names}
 use Rattle.zen.specs.declared.zen.Layout.{Layout}
 use Rattle.zen.specs.declared.zen.Package.the-variants.{Accepted}
 

@@ -1,38 +1,27 @@
--- The code's answers, as functions of what a reading gives.
+-- The code's answers about a package, as functions of what a reading gives.
 use mathlib.Core.List.{List, []}
 use Prim.Native.Nat.{ℕ, _-_, _/_, _≤_}
 use Rattle.base.specs.Reading.{Out, refused, gives, Got, bad, got}
-use Rattle.zen.specs.Batch.{Batch}
+use Rattle.batch.specs.declared.names.NameBatch.{NameBatch}
+use Rattle.batch.specs.declared.names.NameBatch.the-variants.{Found, Refused}
 use Rattle.zen.specs.Zen.{Read, Imports, importedName, packageName}
 use Rattle.zen.specs.declared.summary.Summary.{Summary}
 use Rattle.zen.specs.declared.tables.Export.{Export}
 use Rattle.zen.specs.declared.zen.Layout.{Layout}
 use Rattle.zen.specs.declared.zen.Package.{Package}
 use Rattle.zen.specs.declared.zen.Package.the-variants.{Accepted, Rejected}
-use Rattle.zen.specs.declared.names.NameBatch.{NameBatch}
-use Rattle.zen.specs.declared.names.NameBatch.the-variants.{Found, Refused}
 use Rattle.zen.specs.declared.lead.Lead.{Lead}
 use Rattle.zen.specs.declared.lead.Lead.the-variants.{Header, Fault}
 use Rattle.zen.specs.declared.summary.Summed.{Summed}
 use Rattle.zen.specs.declared.summary.Summed.the-variants.{Told, Missed}
-use Rattle.zen.specs.declared.names.Checked.{Checked}
-use Rattle.zen.specs.declared.names.Checked.the-variants.{Passed, Failed}
 
 unfoldable pub led : Got ℕ → Lead
 led (bad e) = Fault e
 led (got size n) = Header size
 
-unfoldable pub checked : {A : Type 0} → Got A → Checked
-checked (bad e) = Failed e
-checked (got a n) = Passed
-
 unfoldable pub summed : Got Summary → Summed
 summed (bad e) = Missed e
 summed (got m n) = Told m
-
-unfoldable pub batched : Got Batch → NameBatch
-batched (bad e) = Refused e
-batched (got b n) = Found (b .place)
 
 unfoldable pub imported : Got Imports → NameBatch
 imported (bad e) = Refused e

@@ -10,8 +10,8 @@ use Rattle.base.specs.Reading.{Out, refused, gives, run, runBlock, rows}
 use Rattle.base.specs.ReadingMarks.{Mark, whole, low, none, marks, marksBlock}
 use Rattle.base.specs.Signed.{twos}
 use Rattle.text.specs.Utf16.{utf16, units}
-use Rattle.zen.specs.Batch.{batch, noNames, someNames, body, head, headOf, strings}
-use Rattle.zen.specs.Script.{Objects, entry, entries, opening, script, objectName}
+use Rattle.batch.specs.Batch.{batch, noNames, someNames, body, head, headOf, strings}
+use Rattle.scriptblock.specs.Script.{Objects, entry, entries, opening, script, objectName}
 use Rattle.zen.specs.Listed.{nameMarks, batchMarks, entryMarks, summaryMarks, exportMarks, scriptMarks, tableMarks, headerMarks, packageMarks}
 use Rattle.zen.specs.Zen.{Read, packageBlock, lead, header, content, imports, tables, summary, offset, ordered, bulk, export, exportName, importedName, packageName}
 

@@ -9,13 +9,13 @@ use Rattle.base.specs.Reading.{bad, got, walk, rows}
 use Rattle.base.specs.ReadingLaws.{ask-is, pick-cong, then-walk, then-bad, number-there, number-short}
 use Rattle.base.specs.ReadingRows.{cells, rows-there, rows-short}
 use Rattle.base.specs.Number.{leAt}
-use Rattle.zen.specs.Batch.{u32, batch}
+use Rattle.batch.specs.Batch.{u32, batch}
+use Rattle.batch.specs.BatchAnswers.{batched}
+use Rattle.batch.specs.FoundBatch.{FoundAt}
+use Rattle.batch.specs.BatchAnswersLaws.{batched-refused}
+use Rattle.batch.specs.declared.names.Names.{Names}
+use Rattle.batch.specs.declared.names.NameBatch.the-variants.{Refused}
 use Rattle.zen.specs.Zen.{imports}
-use Rattle.zen.specs.Answers.{batched}
-use Rattle.zen.specs.FoundBatch.{FoundAt}
-use Rattle.zen.specs.AnswersLaws.{batched-refused}
-use Rattle.zen.specs.declared.names.Names.{Names}
-use Rattle.zen.specs.declared.names.NameBatch.the-variants.{Refused}
 
 -- the imported names, by their questions
 module _ (s : List ℕ) (at index count : ℕ) where

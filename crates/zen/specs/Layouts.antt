@@ -15,15 +15,15 @@ use Rattle.base.specs.Reading.{gives, Got, bad, got, runBlock, walk, rows}
 use Rattle.base.specs.ReadingLaws.{walk-bind, chain-by, pick-by, ask-by, bad-got, walk-within, out}
 use Rattle.base.specs.ReadingGives.{refused-gives}
 use Rattle.base.specs.ReadingRows.{cells}
-use Rattle.zen.specs.Batch.{u32, Batch, batch, someNames, body, strings, headAt}
-use Rattle.zen.specs.BatchLaws.{strings-got, batch-is, some-is, body-hashes, body-heads, body-room, body-is}
+use Rattle.batch.specs.Batch.{u32, Batch, batch, someNames, body, strings, headAt}
+use Rattle.batch.specs.BatchLaws.{strings-got, batch-is, some-is, body-hashes, body-heads, body-room, body-is}
+use Rattle.batch.specs.declared.names.Names.{Names}
 use Rattle.zen.specs.Zen.{Read, Tables, Imports, summary, summaryAt, ordered, bulk, tables, named, imports, content, header, lead, packageBlock}
 use Rattle.zen.specs.Answers.{Order, answer}
 use Rattle.zen.specs.AnswersLaws.{accepted-got}
 use Rattle.zen.specs.SummaryLaws.{order-of, summary-got}
 use Rattle.zen.specs.TableLaws.{bulk-got, tables-is, exportsIn}
 use Rattle.zen.specs.BlockLaws.{block-is, block-low, block-bad, lead-got}
-use Rattle.zen.specs.declared.names.Names.{Names}
 use Rattle.zen.specs.declared.summary.Summary.{Summary}
 use Rattle.zen.specs.declared.zen.Layout.{Layout}
 use Rattle.zen.specs.declared.zen.Package.the-variants.{Accepted}

@@ -6,8 +6,8 @@ use lib.Dec.{eqb}
 use lib.ListN.{replicate}
 use Rattle.base.specs.ReadingMarks.{Mark, whole, low, none}
 use Rattle.base.specs.ReadingTrail.{copies}
-use Rattle.zen.specs.declared.names.Names.{Names}
-use Rattle.zen.specs.declared.script.Layout as Script
+use Rattle.batch.specs.declared.names.Names.{Names}
+use Rattle.scriptblock.specs.declared.script.Layout as Script
 use Rattle.zen.specs.declared.zen.Layout as Package
 
 abbrev pub joined : List (List Mark) → List Mark

@@ -18,13 +18,13 @@ use Rattle.base.specs.Reading.{got, give, walk, ask, rows, onto}
 use Rattle.base.specs.ReadingLaws.{walk-bind, chain-by, pick-by, ask-by, bad-got}
 use Rattle.base.specs.ReadingMarks.{Mark, whole, none}
 use Rattle.base.specs.ReadingTrail.{trail, trail-bind, trail-ask, trail-rows, copies, copies-replicate}
-use Rattle.zen.specs.Batch.{u32, u64, Batch, batch, noNames, someNames, body, head, strings, stringsOn}
-use Rattle.zen.specs.Script.{Start, Objects, entry, fresh, entriesOn, entries, opening, script}
+use Rattle.batch.specs.Batch.{u32, u64, Batch, batch, noNames, someNames, body, head, strings, stringsOn}
+use Rattle.batch.specs.declared.names.Head.{Head}
+use Rattle.scriptblock.specs.Script.{Start, Objects, entry, fresh, entriesOn, entries, opening, script}
+use Rattle.scriptblock.specs.declared.script.Entry.{Entry}
 use Rattle.zen.specs.Zen.{Tables, Imports, Read, offset, summary, bulk, export, named, tables, imports, content, header, ordered}
 use Rattle.zen.specs.TableLaws.{in-parts}
 use Rattle.zen.specs.Listed.{joined, nameMarks, batchMarks, entryMarks, summaryMarks, exportMarks, scriptMarks, tableMarks, headerMarks}
-use Rattle.zen.specs.declared.names.Head.{Head}
-use Rattle.zen.specs.declared.script.Entry.{Entry}
 use Rattle.zen.specs.declared.summary.Summary.{Summary}
 use Rattle.zen.specs.declared.zen.Layout.{Layout}
 

@@ -7,14 +7,14 @@ use lib.ListN.{length, take, getD}
 use Rattle.text.specs.Name.{suffix}
 use Rattle.base.specs.NumberLaws.{Bytes}
 use Rattle.base.specs.Reading.{gives, runBlock}
+use Rattle.batch.specs.Places.{placeAt}
+use Rattle.batch.specs.Holds.{Holds}
+use Rattle.batch.specs.declared.places.Place.{Place}
 use Rattle.zen.specs.Zen.{Read, packageBlock, noExport, importedName, packageName}
 use Rattle.zen.specs.Answers.{answer, exportsOf, hashesOf, namesOf, importedOf, numbersOf, importedNameOf, packageNameOf, exportCount, hashCount}
 use Rattle.zen.specs.AnswersLaws.{accepted-got}
-use Rattle.zen.specs.Places.{placeAt}
-use Rattle.zen.specs.Holds.{Holds}
 use Rattle.zen.specs.Accepted.{Parts, parts}
 use Rattle.zen.specs.PackageLaws.{name-count, imported-count, number-count, export-index, name-text, imported-text}
-use Rattle.zen.specs.declared.places.Place.{Place}
 use Rattle.zen.specs.declared.zen.Layout.{Layout}
 use Rattle.zen.specs.declared.zen.Package.the-variants.{Accepted}
 

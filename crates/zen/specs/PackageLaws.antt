@@ -11,14 +11,14 @@ use Rattle.base.specs.Reading.{refused, gives, runBlock}
 use Rattle.base.specs.ReadingRows.{cells-length}
 use Rattle.base.specs.NumberLaws.{Bytes}
 use Rattle.text.specs.Name.{suffix, rendered}
+use Rattle.batch.specs.Places.{placeAt, partAt}
+use Rattle.batch.specs.PlacesLaws.{texts-length}
+use Rattle.batch.specs.Holds.{Holds, holds-take}
+use Rattle.batch.specs.declared.places.Place.{Place}
 use Rattle.zen.specs.Zen.{Read, packageBlock, named, noExport}
 use Rattle.zen.specs.Answers.{answer, namesOf, exportsOf, importedOf, numbersOf, importedNameOf, packageNameOf}
 use Rattle.zen.specs.AnswersLaws.{accepted-got, rejected-got}
-use Rattle.zen.specs.Places.{placeAt, partAt}
-use Rattle.zen.specs.PlacesLaws.{texts-length}
-use Rattle.zen.specs.Holds.{Holds, holds-take}
 use Rattle.zen.specs.Accepted.{parts}
-use Rattle.zen.specs.declared.places.Place.{Place}
 use Rattle.zen.specs.declared.tables.Export.{Export}
 use Rattle.zen.specs.declared.zen.Layout.{Layout}
 use Rattle.zen.specs.declared.zen.Package.the-variants.{Accepted, Rejected}

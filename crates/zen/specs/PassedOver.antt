@@ -14,11 +14,11 @@ use Rattle.base.specs.ReadingMarks.{whole, none, Agree, marks, marks-length, ag
 use Rattle.base.specs.ReadingRewrite.{Rewritten, rewriting, rewrite, run-rewrite, block-length, block-rewrite}
 use Rattle.base.specs.ReadingTrail.{trail, trail-marks, run-got}
 use Rattle.base.specs.ReadingGives.{refused-gives}
-use Rattle.zen.specs.Batch.{Batch, batch}
-use Rattle.zen.specs.Script.{Objects, entry, script}
+use Rattle.batch.specs.Batch.{Batch, batch}
+use Rattle.scriptblock.specs.Script.{Objects, entry, script}
+use Rattle.scriptblock.specs.ScriptLaws.{entry-there}
 use Rattle.zen.specs.Zen.{Read, summary, export, lead, header, packageBlock}
 use Rattle.zen.specs.BlockLaws.{block-low, block-bad, lead-got}
-use Rattle.zen.specs.ScriptLaws.{entry-there}
 use Rattle.zen.specs.TableLaws.{export-there}
 use Rattle.zen.specs.Listed.{batchMarks, entryMarks, summaryMarks, exportMarks, scriptMarks, headerMarks, packageMarks}
 use Rattle.zen.specs.ListedLaws.{batch-trail, entry-trail, summary-trail, export-trail, script-trail, header-trail}

@@ -9,24 +9,25 @@ use Rattle.base.specs.Number.{leAt}
 use Rattle.base.specs.Reading.{Out, refused, gives, Got, bad, got, rows}
 use Rattle.base.specs.Signed.{twos}
 use Rattle.text.specs.Utf16.{utf16, units}
-use Rattle.zen.specs.Cursor.{worded, wordAt}
-use Rattle.zen.specs.Field.{low30}
-use Rattle.zen.specs.Batch.{headOf, headAt, Batch, batch, noNames, someNames, body, head, strings}
-use Rattle.zen.specs.Notes.{stepOf}
-use Rattle.zen.specs.Places.{nameStart, textsAt, placeAt, partAt}
-use Rattle.zen.specs.Script.{Objects, fresh, opening}
-use Rattle.zen.specs.ScriptAnswers.{openedBy, opened, entryAt, noEntry, faultOf, faultOn, freshAt, faultAt, answerBy, scriptAnswer, entriesOf, objectNames}
+use Rattle.batch.specs.Cursor.{worded, wordAt}
+use Rattle.batch.specs.Field.{low30}
+use Rattle.batch.specs.Batch.{headOf, headAt, Batch, batch, noNames, someNames, body, head, strings}
+use Rattle.batch.specs.Notes.{stepOf}
+use Rattle.batch.specs.Places.{nameStart, textsAt, placeAt, partAt}
+use Rattle.batch.specs.BatchAnswers.{checked, batched}
+use Rattle.batch.specs.declared.cursor.Word.the-variants as Word
+use Rattle.batch.specs.declared.names.Checked.the-variants.{Passed, Failed}
+use Rattle.batch.specs.declared.names.NameBatch.the-variants.{Found, Refused}
+use Rattle.scriptblock.specs.Script.{Objects, fresh, opening}
+use Rattle.scriptblock.specs.ScriptAnswers.{openedBy, opened, entryAt, noEntry, faultOf, faultOn, freshAt, faultAt, answerBy, scriptAnswer, entriesOf, objectNames}
+use Rattle.scriptblock.specs.declared.script.Entry.{Entry}
+use Rattle.scriptblock.specs.declared.script.Opened.the-variants.{Open, Shut}
+use Rattle.scriptblock.specs.declared.script.Script.{Script}
+use Rattle.scriptblock.specs.declared.script.Script.the-variants as Scripts
 use Rattle.zen.specs.Zen.{Read, Imports, summaryAt, exportAt, noExport, named, importedName}
-use Rattle.zen.specs.Answers.{checked, summed, batched, imported, answer, exportsOf, hashesOf, namesOf, importedOf, numbersOf, importedNameOf, packageNameOf, exportCount, hashCount}
+use Rattle.zen.specs.Answers.{summed, imported, answer, exportsOf, hashesOf, namesOf, importedOf, numbersOf, importedNameOf, packageNameOf, exportCount, hashCount}
 use Rattle.zen.specs.Examples.{large-bytes, large, inner-A, two, two-objects}
-use Rattle.zen.specs.declared.script.Entry.{Entry}
-use Rattle.zen.specs.declared.cursor.Word.the-variants as Word
-use Rattle.zen.specs.declared.names.Checked.the-variants.{Passed, Failed}
-use Rattle.zen.specs.declared.names.NameBatch.the-variants.{Found, Refused}
 use Rattle.zen.specs.declared.summary.Summed.the-variants.{Told, Missed}
-use Rattle.zen.specs.declared.script.Opened.the-variants.{Open, Shut}
-use Rattle.zen.specs.declared.script.Script.{Script}
-use Rattle.zen.specs.declared.script.Script.the-variants as Scripts
 use Rattle.zen.specs.declared.zen.Layout.{Layout}
 use Rattle.zen.specs.declared.zen.Package.the-variants as Package
 

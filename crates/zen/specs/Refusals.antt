@@ -12,11 +12,11 @@ use Rattle.base.specs.ReadingRefusals.{Within, within, Asks, none, after, bits,
 use Rattle.base.specs.ReadingRefusals.{asks-last, asks-number, asks-bind, asks-rows}
 use Rattle.base.specs.Signed.{twos}
 use Rattle.text.specs.Utf16.{isWell}
-use Rattle.zen.specs.Batch.{head, stringsOn, strings, noNames, body, someNames, batch}
-use Rattle.zen.specs.Script.{entry, fresh, entriesOn, entries, opening, script}
+use Rattle.batch.specs.Batch.{head, stringsOn, strings, noNames, body, someNames, batch}
+use Rattle.batch.specs.declared.names.Head.{Head}
+use Rattle.scriptblock.specs.Script.{entry, fresh, entriesOn, entries, opening, script}
+use Rattle.scriptblock.specs.declared.script.Entry.{Entry}
 use Rattle.zen.specs.Zen.{offset, summary, ordered, bulk, export, named, tables, imports, content, header, lead, packageBlock}
-use Rattle.zen.specs.declared.names.Head.{Head}
-use Rattle.zen.specs.declared.script.Entry.{Entry}
 use Rattle.zen.specs.declared.summary.Summary.{Summary}
 
 -- ---- a name batch: 3 to 7

@@ -15,9 +15,9 @@ use Rattle.base.specs.ReadingRows.{rows-got}
 use Rattle.base.specs.Number.{le, leAt}
 use Rattle.base.specs.NumberLaws.{leAt-is}
 use Rattle.base.specs.Signed.{twos}
+use Rattle.batch.specs.Field.{low30}
 use Rattle.zen.specs.Zen.{offset, summary, summaryAt, ordered}
 use Rattle.zen.specs.Answers.{Order}
-use Rattle.zen.specs.Field.{low30}
 use Rattle.zen.specs.declared.summary.Summary.{Summary}
 
 -- an offset

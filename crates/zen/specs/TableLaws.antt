@@ -17,10 +17,10 @@ use Rattle.base.specs.ReadingRows.{cells, rows-there}
 use Rattle.base.specs.Number.{le, leAt}
 use Rattle.base.specs.NumberLaws.{leAt-is}
 use Rattle.base.specs.Signed.{twos}
-use Rattle.zen.specs.Batch.{u64}
+use Rattle.batch.specs.Batch.{u64}
+use Rattle.batch.specs.Field.{low30}
 use Rattle.zen.specs.Zen.{bulk, export, exportAt, named, Tables, tables}
 use Rattle.zen.specs.Answers.{Order}
-use Rattle.zen.specs.Field.{low30}
 use Rattle.zen.specs.declared.summary.Summary.{Summary}
 use Rattle.zen.specs.declared.tables.Export.{Export}
 

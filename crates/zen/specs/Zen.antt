@@ -9,8 +9,8 @@ use lib.Signed.{nonNeg}
 use Rattle.base.specs.Signed.{twos}
 use Rattle.text.specs.Name.{suffix}
 use Rattle.base.specs.Number.{leAt}
-use Rattle.zen.specs.Field.{low30}
-use Rattle.zen.specs.Batch.{u32, u64, Batch, batch}
+use Rattle.batch.specs.Field.{low30}
+use Rattle.batch.specs.Batch.{u32, u64, Batch, batch}
 use Rattle.zen.specs.declared.summary.Summary.{Summary}
 use Rattle.zen.specs.declared.tables.Export.{Export}
 use Rattle.zen.specs.declared.zen.Layout.{Layout}

@@ -4,20 +4,20 @@ ghost use Prim.Native.Nat.{_<_};
 ghost use lib.ListN.{length, getD, take};
 ghost use Rattle.base.specs.Reading.{runBlock};
 ghost use Rattle.text.specs.Id.{idOf};
+ghost use Rattle.batch.specs.Places.{placeAt};
+ghost use Rattle.batch.specs.Notes.{noteCount, Noted};
 ghost use Rattle.zen.specs.Zen.{noExport, packageBlock};
 ghost use Rattle.zen.specs.Answers.{answer, exportsOf, hashesOf, numbersOf, importedNameOf, exportCount, hashCount};
-ghost use Rattle.zen.specs.Places.{placeAt};
-ghost use Rattle.zen.specs.Notes.{noteCount, Noted};
 ghost use Rattle.zen.specs.declared.zen.Package.the-variants.{Accepted};
-use super::notes::NOTES;
-use super::notes::note_names;
-use super::notes::place_at;
-use super::places::Place;
-use super::reader;
 use super::tables::Export;
 use super::tables::export_in;
-use super::texts::place_id;
 use super::zen::Layout;
+use batch::notes::NOTES;
+use batch::notes::note_names;
+use batch::notes::place_at;
+use batch::places::Place;
+use batch::reader;
+use batch::texts::place_id;
 
 // The public hash of number i of an accepted package.
 pub fn hash_at(b: &[u8], l: Layout, i: usize) -> u64

@@ -5,8 +5,8 @@ ghost use lib.ListN.{length};
 ghost use Rattle.base.specs.Reading.{walk};
 ghost use Rattle.zen.specs.Zen.{imports};
 ghost use Rattle.zen.specs.Answers.{imported};
-use super::names::NameBatch;
-use super::names::read_batch;
+use batch::names::NameBatch;
+use batch::names::read_batch;
 
 // The imported names: questions 3 to 7, 3, 22, 10.
 pub fn check_imports(s: &[u8], at: usize, index: usize, count: usize) -> NameBatch

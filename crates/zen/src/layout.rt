@@ -8,10 +8,10 @@ ghost use Rattle.zen.specs.Answers.{answer};
 ghost use Rattle.zen.specs.Layouts.{namesAt, layoutAt, BatchAt, LayoutAt};
 ghost use Rattle.zen.specs.declared.zen.Layout.{Layout};
 ghost use Rattle.zen.specs.declared.zen.Package.the-variants.{Accepted};
-use super::names::Names;
-use super::reader;
 use super::summary::Summary;
 use super::zen::Layout;
+use batch::names::Names;
+use batch::reader;
 
 // The parts of a batch.
 fn batch_in(s: &[u8], at: usize) -> Names

@@ -1,13 +1,13 @@
 // What stands before the summary of a package header (zen.rs): the versioning flag and the header size, through one cursor.
 ghost use mathlib.Core.Path.{_≡_};
 ghost use Rattle.base.specs.Reading.{walk};
-ghost use Rattle.zen.specs.Cursor.{wordAt, behind};
+ghost use Rattle.batch.specs.Cursor.{wordAt, behind};
 ghost use Rattle.zen.specs.Zen.{lead};
 ghost use Rattle.zen.specs.Answers.{led};
-use super::cursor::Word;
-use super::cursor::new;
-use super::cursor::next;
-use super::cursor::read_u32;
+use batch::cursor::Word;
+use batch::cursor::new;
+use batch::cursor::next;
+use batch::cursor::read_u32;
 
 // The header size, or the question that fails.
 pub enum Lead {

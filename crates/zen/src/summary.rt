@@ -3,10 +3,11 @@ ghost use mathlib.Core.Path.{_≡_};
 ghost use Prim.Native.Nat.{_+_, _-_, _≤_, _<_};
 ghost use lib.ListN.{length};
 ghost use Rattle.base.specs.Reading.{walk, rows};
+ghost use Rattle.batch.specs.BatchAnswers.{checked};
 ghost use Rattle.zen.specs.Zen.{offset, summary, ordered, summaryAt};
-ghost use Rattle.zen.specs.Answers.{checked, summed};
-use super::names::Checked;
-use super::reader;
+ghost use Rattle.zen.specs.Answers.{summed};
+use batch::names::Checked;
+use batch::reader;
 
 pub struct Summary {
     pub index: usize,

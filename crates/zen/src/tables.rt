@@ -4,11 +4,12 @@ ghost use Prim.Native.Nat.{_+_, _*_, _-_, _≤_, _<_};
 ghost use lib.ListN.{length};
 ghost use Rattle.base.specs.Reading.{walk};
 ghost use Rattle.base.specs.ReadingRows.{cells};
+ghost use Rattle.batch.specs.BatchAnswers.{checked};
 ghost use Rattle.zen.specs.Zen.{bulk, exportAt, named, tables};
-ghost use Rattle.zen.specs.Answers.{checked, Order};
-use super::names::Checked;
-use super::reader;
+ghost use Rattle.zen.specs.Answers.{Order};
 use super::summary::Summary;
+use batch::names::Checked;
+use batch::reader;
 
 pub struct Export {
     pub index: usize,

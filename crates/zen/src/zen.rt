@@ -8,16 +8,16 @@ ghost use Rattle.zen.specs.Answers.{answer, Order};
 use super::imports::check_imports;
 use super::lead::Lead;
 use super::lead::read_lead;
-use super::names::Checked;
-use super::names::NameBatch;
-use super::names::Names;
-use super::names::read_batch;
 use super::summary::Summary;
 use super::summary::Summed;
 use super::summary::in_order;
 use super::summary::read_summary;
 use super::tables::check_bulk;
 use super::tables::check_tables;
+use batch::names::Checked;
+use batch::names::NameBatch;
+use batch::names::Names;
+use batch::names::read_batch;
 
 // Where the parts of an accepted package are.
 pub struct Layout {

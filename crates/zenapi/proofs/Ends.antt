@@ -8,14 +8,14 @@ use native.Mathlib.Omega.{arith}
 use lib.ListN.{length, take, drop, getD, drop-of-length-le}
 use lib.Seq.{drop-cons, length-take-le}
 use Rattle.base.specs.NumberLaws.{Bytes}
+use Rattle.batch.specs.Places.{placeAt}
+use Rattle.batch.specs.PlacesLaws.{place-inside}
+use Rattle.batch.specs.declared.names.Names.{Names}
+use Rattle.batch.specs.declared.places.Place.{Place}
 use Rattle.zen.specs.Accepted.{parts}
 use Rattle.zen.specs.Answers.{answer, exportsOf, exportCount}
 use Rattle.zen.specs.PackageLaws.{export-index}
-use Rattle.zen.specs.Places.{placeAt}
-use Rattle.zen.specs.PlacesLaws.{place-inside}
 use Rattle.zen.specs.Zen.{noExport}
-use Rattle.zen.specs.declared.names.Names.{Names}
-use Rattle.zen.specs.declared.places.Place.{Place}
 use Rattle.zen.specs.declared.tables.Export.{Export}
 use Rattle.zen.specs.declared.zen.Layout.{Layout}
 use Rattle.zen.specs.declared.zen.Package.the-variants.{Accepted}

@@ -5,12 +5,12 @@ use Prim.Native.Nat.{ℕ, _≤_, _<_}
 use native.Mathlib.Omega.{arith}
 use lib.ListN.{length, getD}
 use Rattle.base.specs.Reading.{refused}
-use Rattle.zen.specs.ScriptAccepted.{accepted-objects, rejected-objects, script-parts, entry-count}
-use Rattle.zen.specs.ScriptAnswers.{scriptAnswer, entriesOf, noEntry}
-use Rattle.zen.specs.declared.script.Entry.{Entry}
-use Rattle.zen.specs.declared.script.Layout.{Layout}
-use Rattle.zen.specs.declared.script.Script.{Script}
-use Rattle.zen.specs.declared.script.Script.the-variants.{Accepted, Rejected}
+use Rattle.scriptblock.specs.ScriptAccepted.{accepted-objects, rejected-objects, script-parts, entry-count}
+use Rattle.scriptblock.specs.ScriptAnswers.{scriptAnswer, entriesOf, noEntry}
+use Rattle.scriptblock.specs.declared.script.Entry.{Entry}
+use Rattle.scriptblock.specs.declared.script.Layout.{Layout}
+use Rattle.scriptblock.specs.declared.script.Script.{Script}
+use Rattle.scriptblock.specs.declared.script.Script.the-variants.{Accepted, Rejected}
 use Rattle.zenapi.specs.Answers.{scriptIn, none, refusal, objectFields, objectAnswer}
 use Rattle.zenapi.proofs.Cells.{cell-at, cell-past}
 

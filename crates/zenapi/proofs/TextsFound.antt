@@ -11,11 +11,11 @@ use Rattle.base.specs.NumberLaws.{Bytes}
 use Rattle.base.specs.Output.{Wrote}
 use Rattle.base.specs.Reading.{refused}
 use Rattle.text.specs.Utf8.{utf8}
+use Rattle.batch.specs.Holds.{Holds}
+use Rattle.batch.specs.Places.{placeAt, partAt}
+use Rattle.batch.specs.declared.places.Place.{Place}
 use Rattle.zen.specs.Answers.{answer, namesOf, importedOf, numbersOf}
-use Rattle.zen.specs.Holds.{Holds}
 use Rattle.zen.specs.PackageLaws.{rejected-read, name-count, imported-count, name-text, imported-text, imported-rendered}
-use Rattle.zen.specs.Places.{placeAt, partAt}
-use Rattle.zen.specs.declared.places.Place.{Place}
 use Rattle.zen.specs.declared.zen.Layout.{Layout}
 use Rattle.zen.specs.declared.zen.Package.{Package}
 use Rattle.zen.specs.declared.zen.Package.the-variants.{Accepted, Rejected}

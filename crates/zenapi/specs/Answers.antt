@@ -6,13 +6,13 @@ use lib.Dec.{ltb}
 use lib.ListN.{length, take, getD}
 use Rattle.text.specs.Id.{idOf}
 use Rattle.base.specs.Reading.{Out, refused, gives, run, runBlock}
+use Rattle.batch.specs.Places.{placeAt}
+use Rattle.batch.specs.declared.names.Names.{Names}
+use Rattle.scriptblock.specs.Script.{Objects, script}
+use Rattle.scriptblock.specs.ScriptAnswers.{entriesOf}
+use Rattle.scriptblock.specs.declared.script.Entry.{Entry}
 use Rattle.zen.specs.Answers.{exportsOf, importedOf, importedNameOf}
-use Rattle.zen.specs.Places.{placeAt}
-use Rattle.zen.specs.Script.{Objects, script}
-use Rattle.zen.specs.ScriptAnswers.{entriesOf}
 use Rattle.zen.specs.Zen.{Read, packageBlock}
-use Rattle.zen.specs.declared.names.Names.{Names}
-use Rattle.zen.specs.declared.script.Entry.{Entry}
 use Rattle.zen.specs.declared.tables.Export.{Export}
 
 abbrev pub packageIn : List ℕ → Out Read

@@ -9,11 +9,11 @@ use Rattle.text.specs.Name.{base, rendered}
 use Rattle.base.specs.Output.{over}
 use Rattle.base.specs.Reading.{Out}
 use Rattle.text.specs.Utf8.{utf8}
+use Rattle.batch.specs.Holds.{Holds}
+use Rattle.batch.specs.Places.{partAt}
+use Rattle.batch.specs.declared.places.Place.{Place}
 use Rattle.zen.specs.Answers.{namesOf, importedOf, importedNameOf}
-use Rattle.zen.specs.Holds.{Holds}
-use Rattle.zen.specs.Places.{partAt}
 use Rattle.zen.specs.Zen.{Read}
-use Rattle.zen.specs.declared.places.Place.{Place}
 use Rattle.zenapi.specs.Answers.{packageIn, none}
 use Rattle.zenapi.specs.declared.texts.Text.{Text}
 use Rattle.zenapi.specs.declared.texts.Text.the-variants.{At, Missing}

@@ -2,10 +2,10 @@
 ghost use mathlib.Core.Path.{_≡_};
 ghost use lib.ListN.{getD};
 ghost use Rattle.zenapi.specs.Answers.{scriptIn, none, refusal, objectFields, objectAnswer};
-use zen::script::Entry;
-use zen::script::Script;
-use zen::script::check_script;
-use zen::script::entry_at;
+use scriptblock::script::Entry;
+use scriptblock::script::Script;
+use scriptblock::script::check_script;
+use scriptblock::script::entry_at;
 
 // The refusal, or 0.
 #[no_mangle]

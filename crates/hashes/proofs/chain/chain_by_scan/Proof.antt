@@ -7,9 +7,9 @@ use borrow.Author.Needs.{needs}
 use lib.ListN.{length, drop}
 use Rattle.base.specs.NumberLaws.{Bytes}
 use Rattle.base.specs.Reading.{gives, run}
-use Rattle.zen.specs.Script.{Objects, script}
-use Rattle.zen.specs.ScriptAccepted.{script-parts, entry-count}
-use Rattle.zen.specs.declared.places.Place.{Place}
+use Rattle.batch.specs.declared.places.Place.{Place}
+use Rattle.scriptblock.specs.Script.{Objects, script}
+use Rattle.scriptblock.specs.ScriptAccepted.{script-parts, entry-count}
 use Rattle.objects.specs.Numbers.{entryNo, linkOf}
 use Rattle.objects.specs.NumberLaws.{link-null}
 use Rattle.objects.specs.Work.{oneIf, packed}

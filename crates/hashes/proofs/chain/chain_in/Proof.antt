@@ -5,7 +5,7 @@ use Prim.Native.Nat.{ℕ, _-_, _*_, _≤_, _<_}
 use native.Mathlib.Omega.{arith}
 use lib.ListN.{length}
 use Rattle.base.specs.NumberLaws.{Bytes}
-use Rattle.zen.specs.Script.{Objects}
+use Rattle.scriptblock.specs.Script.{Objects}
 use Rattle.objects.specs.Numbers.{entryNo, linkOf}
 use Rattle.objects.specs.PathLaws.{link-inside, link-at}
 use Rattle.objects.specs.Work.{ObjectsIn}

@@ -1,6 +1,6 @@
 -- `path::path_hash`: the chain tells the path, and its hash is the path's. Assumes nothing.
 use native.Mathlib.Omega.{arith}
-use Rattle.zen.specs.Script.{Objects}
+use Rattle.scriptblock.specs.Script.{Objects}
 use Rattle.objects.specs.Numbers.{pathNo}
 use Rattle.objects.specs.Work.{ObjectsIn}
 use Rattle.hashes.specs.Chain.{Tells}

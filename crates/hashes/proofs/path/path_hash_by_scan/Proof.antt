@@ -3,7 +3,7 @@ use Prim.Native.Nat.{_≤_}
 use native.Mathlib.Omega.{arith}
 use borrow.Author.Needs.{needs}
 use lib.ListN.{length}
-use Rattle.zen.specs.ScriptFacts.{script-facts}
+use Rattle.scriptblock.specs.ScriptFacts.{script-facts}
 use Rattle.hashes.specs.ChainLaws.{tells-unknown, tells-known}
 use Rattle.hashes.specs.ScanLaws.{rest, names-inside}
 use Rattle.hashes.proofs.path.path_hash_by_scan.Statement.{statement}

@@ -9,7 +9,7 @@ use Rattle.base.specs.OutputLaws.{wrote-none, wrote-as, wrote-rest, wrote-sets,
 use Rattle.text.specs.Name.{suffix}
 use Rattle.text.specs.Units.{nameUnits}
 use Rattle.text.specs.Utf16.{unitBytes}
-use Rattle.zen.specs.Holds.{textAt}
+use Rattle.batch.specs.Holds.{textAt}
 use Rattle.hashes.specs.PieceLaws.{piece-size, piece-behind, piece-front}
 use Rattle.hashes.proofs.units.put_piece.Statement.{statement}
 use Rattle.hashes.proofs.units.put_piece.Tie as tie

@@ -15,7 +15,7 @@ use Rattle.header.specs.Places.{textAt, nextText, textsFrom}
 use Rattle.header.specs.Parts.{textsFit}
 use Rattle.header.specs.PartsLaws.{fit-first}
 use Rattle.header.specs.WritingLaws.{text-turn, text-last}
-use Rattle.header.specs.BatchFront.{length-head}
+use Rattle.description.specs.BatchFront.{length-head}
 use Rattle.header.proofs.names.put_heads.Statement.{statement}
 use Rattle.header.proofs.names.put_heads.Tie as tie
 

@@ -3,7 +3,7 @@ use native.Mathlib.Omega.{arith}
 use borrow.Author.Needs.{needs}
 use Rattle.base.specs.Number.{leBytes}
 use Rattle.base.specs.OutputLaws.{wrote-as}
-use Rattle.header.specs.HeaderFront.{length-export}
+use Rattle.description.specs.HeaderFront.{length-export}
 use Rattle.header.specs.Places.{exportIn}
 use Rattle.header.specs.WritingLaws.{export-made}
 use Rattle.header.proofs.tables.put_export.Statement.{statement}

@@ -6,7 +6,7 @@ use Prim.Native.Nat.{ℕ, _*_, _≤_, _<_}
 use native.Mathlib.Omega.{arith}
 use borrow.Author.Needs.{needs}
 use lib.ListN.{length}
-use Rattle.zen.specs.Script.{Objects}
+use Rattle.scriptblock.specs.Script.{Objects}
 use Rattle.meaning.specs.ClassTest.{isKnown}
 use Rattle.objects.specs.Numbers.{entryNo, pathNo}
 use Rattle.objects.specs.Work.{ObjectsIn}

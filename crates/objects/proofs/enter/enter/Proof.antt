@@ -5,9 +5,9 @@ use Prim.Native.Nat.{_-_, _≤_, _<_}
 use native.Mathlib.Omega.{arith}
 use borrow.Author.Needs.{needs}
 use Rattle.base.specs.NumberLaws.{Bytes}
-use Rattle.zen.specs.ScriptAnswers.{faultAt}
-use Rattle.zen.specs.ScriptFaults.{faultFrom, no-fault, fault-first, fault-none, fault-own, fault-seen, fault-next}
-use Rattle.zen.specs.ScriptLaws.{open-fits}
+use Rattle.scriptblock.specs.ScriptAnswers.{faultAt}
+use Rattle.scriptblock.specs.ScriptFaults.{faultFrom, no-fault, fault-first, fault-none, fault-own, fault-seen, fault-next}
+use Rattle.scriptblock.specs.ScriptLaws.{open-fits}
 use Rattle.table.specs.TableLaws.{holds-linked}
 use Rattle.objects.specs.Work.{Entered}
 use Rattle.objects.specs.WorkLaws.{entered-none}

@@ -1,14 +1,14 @@
 -- `enter::put_object` meets its contract: the place holds a name. Assumes nothing.
-use Rattle.zen.specs.Holds.{holds-name, holds-own}
-use Rattle.zen.specs.PlacesLaws.{place-size}
+use Rattle.batch.specs.Holds.{holds-name, holds-own}
+use Rattle.batch.specs.PlacesLaws.{place-size}
 use borrow.Author.Needs.{needs}
 use Rattle.objects.proofs.enter.put_object.Statement.{statement}
 use Rattle.objects.proofs.enter.put_object.Tie as tie
 use Rattle.objects.proofs.enter.put_object.Reads as reads
 use Rattle.objects.proofs.enter.put_object.Lts as lts
 use Rattle.objects.proofs.enter.describe.Reads as describe-reads
-use Rattle.zen.proofs.notes.place_at.Reads as place-at-reads
-use Rattle.zen.proofs.texts.place_len.Reads as place-len-reads
+use Rattle.batch.proofs.notes.place_at.Reads as place-at-reads
+use Rattle.batch.proofs.texts.place_len.Reads as place-len-reads
 
 place-at-requires : tie.Need-place-at-requires
 place-at-requires c κs = search needs

@@ -3,9 +3,9 @@ use mathlib.Core.Path.{_≡_}
 use Prim.Native.Nat.{_-_, _≤_}
 use native.Mathlib.Omega.{arith}
 use Rattle.base.specs.Reading.{run}
-use Rattle.zen.specs.Script.{script}
-use Rattle.zen.specs.ScriptAnswers.{scriptAnswer}
-use Rattle.zen.specs.declared.script.Script.the-variants.{Accepted}
+use Rattle.scriptblock.specs.Script.{script}
+use Rattle.scriptblock.specs.ScriptAnswers.{scriptAnswer}
+use Rattle.scriptblock.specs.declared.script.Script.the-variants.{Accepted}
 use Rattle.objects.specs.Work.{Entered}
 use Rattle.objects.specs.WorkLaws.{link-kept}
 use Rattle.objects.specs.LinkLaws.{all-keyed, entries-there, LinkedTo, linked-more, all-linked}

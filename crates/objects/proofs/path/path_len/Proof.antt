@@ -6,7 +6,7 @@ use Prim.Native.Nat.{ℕ, _+_, _*_, _-_, _≤_, _<_}
 use native.Mathlib.Omega.{arith}
 use lib.ListN.{length}
 use Rattle.base.specs.NumberLaws.{leAt-lt}
-use Rattle.zen.specs.Script.{Objects}
+use Rattle.scriptblock.specs.Script.{Objects}
 use Rattle.objects.specs.Numbers.{entryNo, pathNo}
 use Rattle.objects.specs.Work.{ObjectsIn}
 use Rattle.objects.specs.PathLaws.{path-lost, path-top, path-up, link-inside, link-at}

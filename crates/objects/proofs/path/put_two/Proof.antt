@@ -7,7 +7,7 @@ use borrow.Author.Needs.{needs}
 use lib.ListN.{length}
 use Rattle.base.specs.Output.{Wrote}
 use Rattle.base.specs.OutputLaws.{wrote-length, wrote-rest}
-use Rattle.zen.specs.Script.{Objects}
+use Rattle.scriptblock.specs.Script.{Objects}
 use Rattle.objects.specs.Numbers.{pathNo}
 use Rattle.objects.specs.PathLaws.{path-end}
 use Rattle.objects.specs.Told.{pathBytes, Written}

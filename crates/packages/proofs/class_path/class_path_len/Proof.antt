@@ -9,7 +9,7 @@ use lib.ListN.{length, length-append}
 use Rattle.base.specs.Choose.{pick}
 use Rattle.base.specs.Literal.{quoted}
 use Rattle.text.specs.Utf8.{utf8}
-use Rattle.zen.specs.Holds.{nameAt}
+use Rattle.batch.specs.Holds.{nameAt}
 use Rattle.packages.specs.ClassPath.{pathBytes}
 use Rattle.packages.specs.Row.{wholeAt}
 use Rattle.packages.specs.declared.names.Name.{Name}

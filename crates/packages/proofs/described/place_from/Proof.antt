@@ -1,6 +1,6 @@
 -- `packages::described::place_from` meets its contract: the start that is known, and what the name's header says. Assumes nothing.
 use borrow.Author.Needs.{needs}
-use Rattle.zen.specs.Places.{placeAt}
+use Rattle.batch.specs.Places.{placeAt}
 use Rattle.packages.specs.PackageLaws.{names-held}
 use Rattle.packages.proofs.described.place_from.Statement.{statement}
 use Rattle.packages.proofs.described.place_from.Tie as tie

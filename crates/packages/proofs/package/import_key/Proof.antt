@@ -6,9 +6,9 @@ use borrow.Author.Needs.{needs}
 use lib.ListN.{getD}
 use Rattle.text.specs.Id.{idOf}
 use Rattle.base.specs.Index.{importName, importHash}
-use Rattle.zen.specs.Holds.{Holds, nameAt, holds-own}
+use Rattle.batch.specs.Holds.{Holds, nameAt, holds-own}
+use Rattle.batch.specs.declared.places.Place.{Place}
 use Rattle.zen.specs.Zen.{importedName}
-use Rattle.zen.specs.declared.places.Place.{Place}
 use Rattle.packages.specs.Package.{readIn}
 use Rattle.packages.specs.Meaning.{keyed}
 use Rattle.packages.specs.declared.package.Words.{Words}

@@ -7,9 +7,9 @@ use borrow.Author.Needs.{needs}
 use lib.ListN.{length, getD, length-append}
 use Rattle.base.specs.Literal.{quoted}
 use Rattle.text.specs.Utf8.{utf8}
-use Rattle.zen.specs.Holds.{Holds, nameAt, holds-own}
+use Rattle.batch.specs.Holds.{Holds, nameAt, holds-own}
+use Rattle.batch.specs.declared.places.Place.{Place}
 use Rattle.zen.specs.Zen.{noExport, exportName}
-use Rattle.zen.specs.declared.places.Place.{Place}
 use Rattle.zen.specs.declared.tables.Export.{Export}
 use Rattle.packages.specs.Package.{readIn}
 use Rattle.packages.specs.PackageLaws.{export-named}

@@ -10,9 +10,9 @@ use Rattle.text.specs.DigitsLaws.{length-hex}
 use Rattle.base.specs.Index.{importName, importHash}
 use Rattle.base.specs.Literal.{quoted}
 use Rattle.text.specs.Utf8.{utf8}
-use Rattle.zen.specs.Holds.{Holds, nameAt, holds-own}
+use Rattle.batch.specs.Holds.{Holds, nameAt, holds-own}
+use Rattle.batch.specs.declared.places.Place.{Place}
 use Rattle.zen.specs.Zen.{importedName}
-use Rattle.zen.specs.declared.places.Place.{Place}
 use Rattle.packages.specs.Package.{readIn}
 use Rattle.packages.specs.RefBytes.{importBytes}
 use Rattle.packages.proofs.reference.import_len.Statement.{statement}

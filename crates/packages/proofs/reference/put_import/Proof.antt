@@ -10,8 +10,8 @@ use Rattle.base.specs.Literal.{quoted}
 use Rattle.text.specs.Utf8.{utf8}
 use Rattle.base.specs.Output.{Wrote}
 use Rattle.base.specs.OutputLaws.{wrote-as, wrote-rest, next-room, front-fits}
-use Rattle.zen.specs.Holds.{Holds, nameAt, holds-own}
-use Rattle.zen.specs.declared.places.Place.{Place}
+use Rattle.batch.specs.Holds.{Holds, nameAt, holds-own}
+use Rattle.batch.specs.declared.places.Place.{Place}
 use Rattle.packages.specs.Package.{readIn}
 use Rattle.packages.specs.RefBytes.{importBytes}
 use Rattle.packages.proofs.reference.put_import.Statement.{statement}

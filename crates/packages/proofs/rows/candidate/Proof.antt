@@ -6,8 +6,8 @@ use Prim.Native.Nat.{ℕ, _<_}
 use borrow.Author.Needs.{needs}
 use lib.ListN.{getD}
 use Rattle.text.specs.Affix.{startsWith, endsWith}
-use Rattle.zen.specs.Holds.{Holds, textAt, holds-own}
-use Rattle.zen.specs.declared.places.Place.{Place}
+use Rattle.batch.specs.Holds.{Holds, textAt, holds-own}
+use Rattle.batch.specs.declared.places.Place.{Place}
 use Rattle.zen.specs.declared.tables.Export.{Export}
 use Rattle.meaning.specs.Scan.{candidateKind, genVariable, defaultStart}
 use Rattle.packages.specs.Package.{readIn, PackageIn}

@@ -6,7 +6,7 @@ use borrow.Author.Needs.{needs}
 use native.Mathlib.Omega.{arith}
 use borrow.Author.Tests.{eq-eqb, ne-eqb}
 use Rattle.text.specs.AffixLaws.{unitSize}
-use Rattle.zen.specs.declared.places.Place.{Place}
+use Rattle.batch.specs.declared.places.Place.{Place}
 use Rattle.packages.specs.Row.{instancePlace}
 use Rattle.packages.specs.declared.rows.Row.{Row}
 use Rattle.packages.proofs.rows.instance.Statement.{statement}

@@ -6,7 +6,7 @@ use borrow.Author.Needs.{needs}
 use native.Mathlib.Omega.{arith}
 use lib.ListN.{length}
 use Rattle.text.specs.Utf8.{utf8}
-use Rattle.zen.specs.Holds.{nameAt}
+use Rattle.batch.specs.Holds.{nameAt}
 use Rattle.packages.specs.Row.{outerAt, namesSize, RowHolds}
 use Rattle.packages.specs.RowLaws.{instance-size, instance-whole}
 use Rattle.packages.specs.declared.rows.Row.{Row}

@@ -6,7 +6,7 @@ use Prim.Native.Nat.{ℕ, _≤_}
 use borrow.Author.Needs.{needs}
 use lib.ListN.{length}
 use Rattle.text.specs.Utf8.{utf8}
-use Rattle.zen.specs.Holds.{nameAt}
+use Rattle.batch.specs.Holds.{nameAt}
 use Rattle.packages.specs.Row.{outerAt}
 use Rattle.packages.specs.declared.rows.Row.{Row}
 use Rattle.packages.proofs.rows.outer_len.Statement.{statement}

@@ -8,8 +8,8 @@ use Rattle.text.specs.Name.{suffix, textBytes}
 use Rattle.base.specs.NumberLaws.{Bytes}
 use Rattle.base.specs.Output.{Wrote}
 use Rattle.base.specs.OutputLaws.{wrote-rest, next-room, front-fits}
-use Rattle.zen.specs.Holds.{Holds, textAt, nameAt, holds-own}
-use Rattle.zen.specs.declared.places.Place.{Place}
+use Rattle.batch.specs.Holds.{Holds, textAt, nameAt, holds-own}
+use Rattle.batch.specs.declared.places.Place.{Place}
 use Rattle.packages.specs.Row.{wholeAt, instanceBase, instanceAt, instancePlace, outerAt, namesAt, RowHolds}
 use Rattle.packages.specs.RowLaws.{instance-holds, instance-room}
 use Rattle.packages.specs.declared.rows.Row.{Row}

@@ -11,7 +11,7 @@ use Rattle.text.specs.NameLaws.{textBytes-length}
 use Rattle.base.specs.Number.{beBytes}
 use Rattle.base.specs.Output.{Wrote}
 use Rattle.base.specs.OutputLaws.{wrote-as}
-use Rattle.zen.specs.Holds.{nameAt}
+use Rattle.batch.specs.Holds.{nameAt}
 use Rattle.packages.specs.Row.{outerAt}
 use Rattle.packages.specs.declared.rows.Row.{Row}
 use Rattle.packages.proofs.rows.put_outer.Statement.{statement}

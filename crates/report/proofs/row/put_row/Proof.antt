@@ -4,7 +4,7 @@ use Prim.Native.Nat.{ℕ, _≤_}
 use native.Mathlib.Omega.{arith}
 use borrow.Author.Needs.{needs}
 use lib.ListN.{length}
-use Rattle.zen.specs.Script.{Objects}
+use Rattle.scriptblock.specs.Script.{Objects}
 use Rattle.meaning.specs.Scan.{Class}
 use Rattle.resolve.specs.Rows.{limitsOf}
 use Rattle.report.specs.Written.{rowFor}

@@ -7,7 +7,7 @@ use lib.ListN.{length}
 use Rattle.base.specs.NumberLaws.{Bytes}
 use Rattle.base.specs.Output.{Wrote}
 use Rattle.base.specs.OutputLaws.{wrote-length, wrote-rest, next-room, front-fits}
-use Rattle.zen.specs.Script.{Objects}
+use Rattle.scriptblock.specs.Script.{Objects}
 use Rattle.meaning.specs.Reference.{Ref, refIn}
 use Rattle.meaning.specs.Report.{rowOf}
 use Rattle.meaning.specs.Scan.{Class}

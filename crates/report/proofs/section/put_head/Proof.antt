@@ -10,7 +10,7 @@ use Rattle.base.specs.Number.{beBytes}
 use Rattle.base.specs.NumberLaws.{Bytes, length-beBytes}
 use Rattle.base.specs.Output.{Wrote}
 use Rattle.base.specs.OutputLaws.{wrote-rest, next-room, front-fits}
-use Rattle.zen.specs.Holds.{Holds, textAt, nameAt}
+use Rattle.batch.specs.Holds.{Holds, textAt, nameAt}
 use Rattle.packages.specs.ClassPath.{home-holds, home-name}
 use Rattle.packages.specs.Package.{packageIn, PackageIn}
 use Rattle.packages.specs.PackageLaws.{export-count}

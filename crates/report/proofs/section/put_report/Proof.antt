@@ -10,7 +10,7 @@ use Rattle.base.specs.Number.{beBytes}
 use Rattle.base.specs.NumberLaws.{length-beBytes}
 use Rattle.base.specs.Output.{Wrote}
 use Rattle.base.specs.OutputLaws.{wrote-front, wrote-count, wrote-as}
-use Rattle.zen.specs.Script.{Objects}
+use Rattle.scriptblock.specs.Script.{Objects}
 use Rattle.packages.specs.Walk.{packagesAt}
 use Rattle.packages.specs.WalkLaws.{packages-length}
 use Rattle.walk.specs.Found.{classesIn, foundIn}

@@ -7,7 +7,7 @@ use native.Mathlib.Omega.{arith}
 use borrow.Author.Needs.{needs}
 use lib.ListN.{length, take, drop, getD}
 use Rattle.base.specs.Find.{flat}
-use Rattle.zen.specs.Notes.{noteCount}
+use Rattle.batch.specs.Notes.{noteCount}
 use Rattle.meaning.specs.Reference.{Package}
 use Rattle.packages.specs.Walk.{placeOf, packageAt, packagesAt}
 use Rattle.packages.specs.WalkLaws.{place-none, place-next, packages-length, package-no}

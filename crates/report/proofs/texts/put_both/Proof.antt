@@ -11,7 +11,7 @@ use lib.ListN.{length, length-append}
 use Rattle.text.specs.Name.{textBytes}
 use Rattle.base.specs.Output.{Wrote}
 use Rattle.base.specs.OutputLaws.{wrote-as, wrote-length, wrote-rest, next-room, front-fits}
-use Rattle.zen.specs.Script.{Objects}
+use Rattle.scriptblock.specs.Script.{Objects}
 use Rattle.meaning.specs.Reference.{Ref}
 use Rattle.meaning.specs.Report.{orUnknown}
 use Rattle.meaning.specs.Scan.{Class}

@@ -5,7 +5,7 @@ use mathlib.Core.Path.{_≡_, refl, _∙_}
 use Prim.Native.Nat.{ℕ, _-_, _≤_}
 use native.Mathlib.Omega.{arith}
 use lib.ListN.{length}
-use Rattle.zen.specs.Script.{Objects}
+use Rattle.scriptblock.specs.Script.{Objects}
 use Rattle.meaning.specs.Reference.{Ref}
 use Rattle.meaning.specs.Scan.{Class}
 use Rattle.resolve.specs.Rows.{Tables, Kept, LinkedTo}

@@ -8,7 +8,7 @@ use lib.ListN.{length, take, getD}
 use lib.Seq.{take-all}
 use Rattle.base.specs.Find.{sum}
 use Rattle.base.specs.LoopLaws.{sum-take}
-use Rattle.zen.specs.Script.{Objects}
+use Rattle.scriptblock.specs.Script.{Objects}
 use Rattle.meaning.specs.Reference.{Ref, null}
 use Rattle.meaning.specs.Scan.{Class}
 use Rattle.resolve.specs.Rows.{Kept, limitsOf, targetSize}

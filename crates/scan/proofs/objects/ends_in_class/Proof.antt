@@ -8,16 +8,16 @@ use lib.ListN.{length, getD}
 use Rattle.text.specs.Affix.{endsWith}
 use Rattle.base.specs.NumberLaws.{Bytes}
 use Rattle.base.specs.Reading.{gives, run}
-use Rattle.zen.specs.Holds.{textAt, Holds, holds-own}
-use Rattle.zen.specs.Places.{placeAt}
-use Rattle.zen.specs.Script.{Objects, script, objectName}
-use Rattle.zen.specs.ScriptAccepted.{script-parts, entry-count}
-use Rattle.zen.specs.ScriptAnswers.{scriptAnswer, entriesOf, noEntry}
-use Rattle.zen.specs.ScriptFacts.{objects-facts, script-facts}
-use Rattle.zen.specs.declared.places.Place.{Place}
-use Rattle.zen.specs.declared.script.Entry.{Entry}
-use Rattle.zen.specs.declared.script.Layout.{Layout}
-use Rattle.zen.specs.declared.script.Script.the-variants.{Accepted}
+use Rattle.batch.specs.Holds.{textAt, Holds, holds-own}
+use Rattle.batch.specs.Places.{placeAt}
+use Rattle.batch.specs.declared.places.Place.{Place}
+use Rattle.scriptblock.specs.Script.{Objects, script, objectName}
+use Rattle.scriptblock.specs.ScriptAccepted.{script-parts, entry-count}
+use Rattle.scriptblock.specs.ScriptAnswers.{scriptAnswer, entriesOf, noEntry}
+use Rattle.scriptblock.specs.ScriptFacts.{objects-facts, script-facts}
+use Rattle.scriptblock.specs.declared.script.Entry.{Entry}
+use Rattle.scriptblock.specs.declared.script.Layout.{Layout}
+use Rattle.scriptblock.specs.declared.script.Script.the-variants.{Accepted}
 use Rattle.meaning.specs.ClassTest.{name-numbered, name-plain}
 use Rattle.meaning.specs.Scan.{classEnd}
 use Rattle.scan.proofs.objects.ends_in_class.Statement.{statement}

@@ -10,12 +10,12 @@ use lib.ListN.{length, getD}
 use Rattle.text.specs.Affix.{endsWith}
 use Rattle.base.specs.Index.{kind}
 use Rattle.base.specs.Reading.{gives, run}
-use Rattle.zen.specs.Objects.{entryNumber}
-use Rattle.zen.specs.Script.{Objects, script, objectName}
-use Rattle.zen.specs.ScriptAccepted.{script-parts, entry-count}
-use Rattle.zen.specs.ScriptAnswers.{scriptAnswer, entriesOf, noEntry}
-use Rattle.zen.specs.declared.script.Layout.{Layout}
-use Rattle.zen.specs.declared.script.Script.the-variants.{Accepted}
+use Rattle.scriptblock.specs.Objects.{entryNumber}
+use Rattle.scriptblock.specs.Script.{Objects, script, objectName}
+use Rattle.scriptblock.specs.ScriptAccepted.{script-parts, entry-count}
+use Rattle.scriptblock.specs.ScriptAnswers.{scriptAnswer, entriesOf, noEntry}
+use Rattle.scriptblock.specs.declared.script.Layout.{Layout}
+use Rattle.scriptblock.specs.declared.script.Script.the-variants.{Accepted}
 use Rattle.zen.specs.declared.tables.Export.{Export}
 use Rattle.meaning.specs.ClassTest.{isKnown, namesClass}
 use Rattle.meaning.specs.Path.{pathOf}

@@ -5,7 +5,7 @@ use Prim.Native.Nat.{_≤_}
 use native.Mathlib.Omega.{arith}
 use borrow.Author.Needs.{needs}
 use Rattle.base.specs.Reading.{gives, run}
-use Rattle.zen.specs.Script.{Objects, script}
+use Rattle.scriptblock.specs.Script.{Objects, script}
 use Rattle.meaning.specs.ClassTest.{isKnown}
 use Rattle.meaning.specs.Path.{pathOf}
 use Rattle.scan.specs.ObjectLaws.{known-end, known-none, known-top, known-up}

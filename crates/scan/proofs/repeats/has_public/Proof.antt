@@ -6,7 +6,7 @@ use Prim.Native.Nat.{ℕ}
 use borrow.Author.Needs.{needs}
 use borrow.Author.Tests.{eq-eqb, ne-eqb}
 use Rattle.base.specs.Number.{beAt}
-use Rattle.zen.specs.Script.{Objects}
+use Rattle.scriptblock.specs.Script.{Objects}
 use Rattle.packages.specs.Package.{readIn, PackageIn}
 use Rattle.packages.specs.PackageLaws.{export-count}
 use Rattle.packages.specs.Walk.{blockAt, packageAt}

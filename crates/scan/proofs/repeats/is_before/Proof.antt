@@ -4,7 +4,7 @@ use mathlib.Core.Bool.{false}
 use Prim.Native.Nat.{_-_, _≤_}
 use borrow.Author.Needs.{needs}
 use Rattle.base.specs.Reading.{gives, run}
-use Rattle.zen.specs.Script.{Objects, script}
+use Rattle.scriptblock.specs.Script.{Objects, script}
 use Rattle.packages.specs.Walk.{packageAt, placeOf}
 use Rattle.packages.specs.WalkLaws.{place-none}
 use Rattle.scan.specs.Repeats.{hasPublic, isBefore}

@@ -5,7 +5,7 @@ use Prim.Native.Nat.{_-_, _≤_}
 use native.Mathlib.Omega.{arith}
 use borrow.Author.Needs.{needs}
 use Rattle.base.specs.Reading.{gives, run}
-use Rattle.zen.specs.Script.{Objects, script}
+use Rattle.scriptblock.specs.Script.{Objects, script}
 use Rattle.packages.specs.Walk.{placeOf}
 use Rattle.packages.specs.WalkLaws.{place-none, all-less}
 use Rattle.scan.specs.Repeats.{below, repeatsIn}

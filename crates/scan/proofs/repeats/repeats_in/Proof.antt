@@ -7,7 +7,7 @@ use native.Mathlib.Omega.{arith}
 use borrow.Author.Needs.{needs}
 use Rattle.base.specs.Number.{beAt}
 use Rattle.base.specs.Reading.{gives, run}
-use Rattle.zen.specs.Script.{Objects, script}
+use Rattle.scriptblock.specs.Script.{Objects, script}
 use Rattle.packages.specs.Package.{readIn, PackageIn}
 use Rattle.packages.specs.PackageLaws.{export-count}
 use Rattle.packages.specs.Walk.{blockAt, placeOf}

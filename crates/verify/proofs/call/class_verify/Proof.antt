@@ -4,9 +4,9 @@ use Prim.Native.Nat.{_-_}
 use native.Mathlib.Omega.{arith}
 use borrow.Author.Needs.{needs}
 use lib.ListN.{take, drop}
-use Rattle.zen.specs.ScriptAnswers.{opened}
-use Rattle.zen.specs.ScriptLaws.{script-shut}
-use Rattle.zen.specs.declared.script.Opened.the-variants.{Open}
+use Rattle.scriptblock.specs.ScriptAnswers.{opened}
+use Rattle.scriptblock.specs.ScriptLaws.{script-shut}
+use Rattle.scriptblock.specs.declared.script.Opened.the-variants.{Open}
 use Rattle.meaning.specs.Call.{limits}
 use Rattle.walk.specs.OpenSteps.{Begun}
 use Rattle.walk.specs.OpenLaws.{begun, begun-inside, opened-broken, opened-script}

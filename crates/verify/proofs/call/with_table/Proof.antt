@@ -3,9 +3,9 @@ use mathlib.Core.Path.{_≡_, refl, sym}
 use native.Mathlib.Omega.{arith}
 use borrow.Author.Needs.{needs}
 use Rattle.base.specs.Reading.{run}
-use Rattle.zen.specs.Script.{script}
-use Rattle.zen.specs.ScriptAnswers.{scriptAnswer}
-use Rattle.zen.specs.declared.script.Script.the-variants.{Accepted}
+use Rattle.scriptblock.specs.Script.{script}
+use Rattle.scriptblock.specs.ScriptAnswers.{scriptAnswer}
+use Rattle.scriptblock.specs.declared.script.Script.the-variants.{Accepted}
 use Rattle.meaning.specs.Call.{limits}
 use Rattle.objects.specs.EnterLaws.{open-held}
 use Rattle.walk.specs.Found.{Linked}

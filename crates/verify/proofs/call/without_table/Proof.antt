@@ -3,11 +3,11 @@ use mathlib.Core.Path.{_≡_, refl, sym, _∙_}
 use native.Mathlib.Omega.{arith}
 use borrow.Author.Needs.{needs}
 use Rattle.base.specs.Reading.{run}
-use Rattle.zen.specs.Script.{script}
-use Rattle.zen.specs.ScriptAccepted.{script-parts}
-use Rattle.zen.specs.ScriptAnswers.{scriptAnswer}
-use Rattle.zen.specs.ScriptFacts.{script-facts}
-use Rattle.zen.specs.declared.script.Script.the-variants.{Accepted}
+use Rattle.scriptblock.specs.Script.{script}
+use Rattle.scriptblock.specs.ScriptAccepted.{script-parts}
+use Rattle.scriptblock.specs.ScriptAnswers.{scriptAnswer}
+use Rattle.scriptblock.specs.ScriptFacts.{script-facts}
+use Rattle.scriptblock.specs.declared.script.Script.the-variants.{Accepted}
 use Rattle.meaning.specs.Call.{limits}
 use Rattle.scan.specs.BlockLaws.{blocks-refused}
 use Rattle.walk.specs.OpenLaws.{begun-sites, begun-few, begun-bytes, begun-small, opened-script, opened-package}

@@ -5,7 +5,7 @@ use Prim.Native.Nat.{ℕ}
 use borrow.Author.Needs.{needs}
 use Rattle.text.specs.Id.{idOf}
 use Rattle.base.specs.NumberLaws.{Bytes}
-use Rattle.zen.specs.Holds.{Holds}
+use Rattle.batch.specs.Holds.{Holds}
 use Rattle.zen.specs.Zen.{packageName}
 use Rattle.packages.specs.ClassPath.{home-holds, home-name}
 use Rattle.packages.specs.Package.{readIn, PackageIn}

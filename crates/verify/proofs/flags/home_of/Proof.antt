@@ -6,8 +6,8 @@ use native.Mathlib.Omega.{arith}
 use borrow.Author.Needs.{needs}
 use lib.ListN.{length}
 use Rattle.base.specs.NumberLaws.{Bytes}
-use Rattle.zen.specs.Places.{nameStart, placeAt}
-use Rattle.zen.specs.PlacesLaws.{start-le}
+use Rattle.batch.specs.Places.{nameStart, placeAt}
+use Rattle.batch.specs.PlacesLaws.{start-le}
 use Rattle.packages.specs.Package.{readIn, PackageIn}
 use Rattle.packages.specs.PackageLaws.{names-held, home-room, home-index, home-number, home-named}
 use Rattle.packages.specs.declared.package.Parts.{Parts}

@@ -3,8 +3,8 @@ use mathlib.Core.Path.{refl, sym, _∙_, ap}
 use native.Mathlib.Omega.{arith}
 use borrow.Author.Needs.{needs}
 use lib.ListN.{length}
-use Rattle.zen.specs.ScriptLaws.{open-fits, script-fault, script-left, script-accepted}
-use Rattle.zen.specs.declared.script.Script.the-variants.{Rejected}
+use Rattle.scriptblock.specs.ScriptLaws.{open-fits, script-fault, script-left, script-accepted}
+use Rattle.scriptblock.specs.declared.script.Script.the-variants.{Rejected}
 use Rattle.walk.proofs.Tabled.{front-length, Filled, filled-front, linked-after, linked-length}
 use Rattle.walk.proofs.script.enter_script.Statement.{statement}
 use Rattle.walk.proofs.script.enter_script.Tie as tie

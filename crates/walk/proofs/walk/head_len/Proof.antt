@@ -7,7 +7,7 @@ use borrow.Author.Needs.{needs}
 use lib.ListN.{length}
 use Rattle.base.specs.NumberLaws.{Bytes}
 use Rattle.text.specs.Utf8.{utf8}
-use Rattle.zen.specs.Holds.{Holds}
+use Rattle.batch.specs.Holds.{Holds}
 use Rattle.packages.specs.ClassPath.{home-holds}
 use Rattle.packages.specs.Package.{packageIn, PackageIn}
 use Rattle.packages.specs.Row.{homeIn, baseAt, wholeAt}

@@ -7,7 +7,7 @@ use native.Mathlib.Omega.{arith}
 use borrow.Author.Needs.{needs}
 use lib.ListN.{length, take, drop, length-drop}
 use Rattle.base.specs.Number.{beAt}
-use Rattle.zen.specs.Script.{Objects}
+use Rattle.scriptblock.specs.Script.{Objects}
 use Rattle.meaning.specs.Scan.{Class, classAt}
 use Rattle.packages.specs.Package.{packageIn}
 use Rattle.packages.specs.Row.{exportNo}

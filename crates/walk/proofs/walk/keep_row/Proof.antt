@@ -7,7 +7,7 @@ use native.Mathlib.Omega.{arith}
 use borrow.Author.Needs.{needs}
 use lib.ListN.{length, take, drop}
 use Rattle.base.specs.NumberLaws.{Bytes}
-use Rattle.zen.specs.Script.{Objects}
+use Rattle.scriptblock.specs.Script.{Objects}
 use Rattle.meaning.specs.Reference.{refIn}
 use Rattle.meaning.specs.Scan.{candidateKind}
 use Rattle.packages.specs.Meaning.{wordsOf}

@@ -7,9 +7,9 @@ use native.Mathlib.Omega.{arith}
 use borrow.Author.Needs.{needs}
 use lib.ListN.{length}
 use Rattle.base.specs.Reading.{gives, refused, runBlock}
+use Rattle.scriptblock.specs.Script.{Objects}
 use Rattle.zen.specs.Answers.{answer}
 use Rattle.zen.specs.AnswersLaws.{rejected-got}
-use Rattle.zen.specs.Script.{Objects}
 use Rattle.zen.specs.Zen.{packageBlock}
 use Rattle.zen.specs.declared.zen.Layout.{Layout}
 use Rattle.zen.specs.declared.zen.Package.{Package}

@@ -7,7 +7,7 @@ use native.Mathlib.Omega.{arith}
 use borrow.Author.Needs.{needs}
 use lib.ListN.{length, take, drop}
 use lib.Seq.{length-take-le}
-use Rattle.zen.specs.Script.{Objects}
+use Rattle.scriptblock.specs.Script.{Objects}
 use Rattle.zen.specs.declared.tables.Export.{Export}
 use Rattle.meaning.specs.Scan.{isClass}
 use Rattle.objects.specs.Work.{ObjectsIn, LinkedOf}

@@ -6,7 +6,7 @@ use Prim.Native.Nat.{ℕ, _+_, _-_, _≤_}
 use native.Mathlib.Omega.{arith}
 use borrow.Author.Needs.{needs}
 use lib.ListN.{length}
-use Rattle.zen.specs.Script.{Objects}
+use Rattle.scriptblock.specs.Script.{Objects}
 use Rattle.packages.specs.Package.{packageIn, PackageIn}
 use Rattle.packages.specs.PackageLaws.{export-count}
 use Rattle.packages.specs.declared.package.Parts.{Parts}

@@ -9,8 +9,8 @@ use lib.Seq.{length-take-le}
 use Rattle.base.specs.Number.{beAt}
 use Rattle.base.specs.NumberLaws.{Bytes}
 use Rattle.base.specs.Reading.{gives, refused, runBlock}
-use Rattle.zen.specs.Notes.{noteCount}
-use Rattle.zen.specs.Script.{Objects}
+use Rattle.batch.specs.Notes.{noteCount}
+use Rattle.scriptblock.specs.Script.{Objects}
 use Rattle.zen.specs.Zen.{packageBlock}
 use Rattle.meaning.specs.Call.{readFrom, refusedIn}
 use Rattle.meaning.specs.Reference.{Package}

@@ -5,9 +5,9 @@ use borrow.Author.Needs.{needs}
 use lib.ListN.{getD}
 use Rattle.text.specs.Id.{idOf}
 use Rattle.base.specs.Reading.{runBlock}
+use Rattle.batch.specs.Holds.{Holds, holds-own}
 use Rattle.zen.specs.Answers.{importedOf}
 use Rattle.zen.specs.Zen.{packageBlock}
-use Rattle.zen.specs.Holds.{Holds, holds-own}
 use Rattle.zen.specs.PackageLaws.{imported-text, imported-rendered}
 use Rattle.zen.proofs.access.imported_id.Statement.{statement}
 use Rattle.zen.proofs.access.imported_id.Tie as tie

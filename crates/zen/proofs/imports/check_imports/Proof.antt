@@ -7,12 +7,12 @@ use borrow.Author.Needs.{needs}
 use borrow.Author.Tests.{lt-ltb, le-ltb, eq-eqb, ne-eqb}
 use lib.ListN.{length}
 use Rattle.base.specs.Reading.{walk}
+use Rattle.batch.specs.FoundBatch.{FoundAt, found-at}
+use Rattle.batch.specs.declared.names.Names.{Names}
+use Rattle.batch.specs.declared.names.NameBatch.the-variants.{Found, Refused}
 use Rattle.zen.specs.Zen.{imports}
 use Rattle.zen.specs.Answers.{imported}
-use Rattle.zen.specs.FoundBatch.{FoundAt, found-at}
 use Rattle.zen.specs.ImportLaws.{imports-refused, imports-short, imports-is}
-use Rattle.zen.specs.declared.names.Names.{Names}
-use Rattle.zen.specs.declared.names.NameBatch.the-variants.{Found, Refused}
 use Rattle.zen.proofs.imports.check_imports.Statement.{statement}
 use Rattle.zen.proofs.imports.check_imports.Tie as tie
 

@@ -8,13 +8,13 @@ use borrow.Author.Needs.{needs}
 use borrow.Author.Tests.{le-leb, lt-leb, eq-eqb, ne-eqb}
 use Rattle.base.specs.Reading.{bad, got, walk}
 use Rattle.base.specs.Number.{leAt}
+use Rattle.batch.specs.Cursor.{wordAt, behind}
+use Rattle.batch.specs.CursorLaws.{word-got, word-short, behind-got}
+use Rattle.batch.specs.declared.cursor.Word.{Word}
+use Rattle.batch.specs.declared.cursor.Word.the-variants.{Got, Short}
 use Rattle.zen.specs.Zen.{lead}
 use Rattle.zen.specs.Answers.{led}
 use Rattle.zen.specs.BlockLaws.{lead-is}
-use Rattle.zen.specs.Cursor.{wordAt, behind}
-use Rattle.zen.specs.CursorLaws.{word-got, word-short, behind-got}
-use Rattle.zen.specs.declared.cursor.Word.{Word}
-use Rattle.zen.specs.declared.cursor.Word.the-variants.{Got, Short}
 use Rattle.zen.specs.declared.lead.Lead.the-variants.{Header, Fault}
 use Rattle.zen.proofs.lead.lead_of.Statement.{statement}
 use Rattle.zen.proofs.lead.lead_of.Tie as tie

@@ -35,28 +35,28 @@ use denote.Triple.Spec.{tripleOf}
 use denote.Triple.Table.{entered, cited}
 use denote.Triple.Walked.{says, walkOf, ends-at}
 use Rattle.base.specs.Reading.{walk as reading}
+use Rattle.batch.specs.Cursor.{wordAt, behind}
+use Rattle.batch.specs.declared.cursor.Cursor.{Cursor}
+use Rattle.batch.specs.declared.cursor.Word.{Word}
+use Rattle.batch.proofs.Walk.{CursorAt, answered, sliced, block-stayed, block-meets}
+use Rattle.batch.proofs.cursor.Cursor as T
+use Rattle.batch.proofs.cursor.Cursor.Laws as T′
+use Rattle.batch.proofs.cursor.Word as S
+use Rattle.batch.proofs.cursor.Word.Laws as S′
+use Rattle.batch.proofs.cursor.new as new
+use Rattle.batch.proofs.cursor.new.Symbol.{name as #new, routine as new-routine}
+use Rattle.batch.proofs.cursor.new.Met.{met as new-met}
+use Rattle.batch.proofs.cursor.read_u32 as read
+use Rattle.batch.proofs.cursor.read_u32.Symbol.{name as #read-u32, routine as read-routine}
+use Rattle.batch.proofs.cursor.read_u32.Met.{met as read-met}
+use Rattle.batch.proofs.cursor.next as next
+use Rattle.batch.proofs.cursor.next.Symbol.{name as #next, routine as next-routine}
+use Rattle.batch.proofs.cursor.next.Met.{met as next-met}
 use Rattle.zen.specs.Zen.{lead}
 use Rattle.zen.specs.Answers.{led}
-use Rattle.zen.specs.Cursor.{wordAt, behind}
-use Rattle.zen.specs.declared.cursor.Cursor.{Cursor}
-use Rattle.zen.specs.declared.cursor.Word.{Word}
 use Rattle.zen.specs.declared.lead.Lead.{Lead}
-use Rattle.zen.proofs.Walk.{CursorAt, answered, sliced, block-stayed, block-meets}
-use Rattle.zen.proofs.cursor.Cursor as T
-use Rattle.zen.proofs.cursor.Cursor.Laws as T′
-use Rattle.zen.proofs.cursor.Word as S
-use Rattle.zen.proofs.cursor.Word.Laws as S′
 use Rattle.zen.proofs.lead.Lead as L
 use Rattle.zen.proofs.lead.Lead.Laws as L′
-use Rattle.zen.proofs.cursor.new as new
-use Rattle.zen.proofs.cursor.new.Symbol.{name as #new, routine as new-routine}
-use Rattle.zen.proofs.cursor.new.Met.{met as new-met}
-use Rattle.zen.proofs.cursor.read_u32 as read
-use Rattle.zen.proofs.cursor.read_u32.Symbol.{name as #read-u32, routine as read-routine}
-use Rattle.zen.proofs.cursor.read_u32.Met.{met as read-met}
-use Rattle.zen.proofs.cursor.next as next
-use Rattle.zen.proofs.cursor.next.Symbol.{name as #next, routine as next-routine}
-use Rattle.zen.proofs.cursor.next.Met.{met as next-met}
 use Rattle.zen.proofs.lead.lead_of as asks
 use Rattle.zen.proofs.lead.lead_of.Symbol.{name as #lead-of, routine as asks-routine}
 use Rattle.zen.proofs.lead.lead_of.Met.{met as asks-met}
@@ -222,7 +222,7 @@ read-lead-spec 𝓤 H 𝓜 𝓖 𝓡 =
     (λ κ q s g p. via 𝓤 _ (fst∗ 𝓤 _ (emp 𝓤))
     (walk 𝓤 H (𝓖 .A) (𝓜 .mem) (𝓡 .run) (givenOf 𝓤 H 𝓜 𝓖) κ q s (tables 𝓤 H 𝓜 𝓡 code.env .C) (tables 𝓤 H 𝓜 𝓡 code.env .Λ)
     (fmOf 𝓤 H (givenOf 𝓤 H 𝓜 𝓖 .laws) (tablesOf 𝓤 H 𝓜 (tables 𝓤 H 𝓜 𝓡 code.env)))
-    (cited 𝓤 H (New 𝓤 H (𝓖 .A) (𝓜 .mem) (𝓡 .run)) 𝓜 𝓡 code.env #new new-routine code.calls-zen·cursor·new (new-met 𝓤 H 𝓜 𝓖 𝓡))
-    (cited 𝓤 H (Read 𝓤 H (𝓖 .A) (𝓜 .mem) (𝓡 .run)) 𝓜 𝓡 code.env #read-u32 read-routine code.calls-zen·cursor·read-u32 (read-met 𝓤 H 𝓜 𝓖 𝓡))
-    (cited 𝓤 H (Next 𝓤 H (𝓖 .A) (𝓜 .mem) (𝓡 .run)) 𝓜 𝓡 code.env #next next-routine code.calls-zen·cursor·next (next-met 𝓤 H 𝓜 𝓖 𝓡))
+    (cited 𝓤 H (New 𝓤 H (𝓖 .A) (𝓜 .mem) (𝓡 .run)) 𝓜 𝓡 code.env #new new-routine code.calls-batch·cursor·new (new-met 𝓤 H 𝓜 𝓖 𝓡))
+    (cited 𝓤 H (Read 𝓤 H (𝓖 .A) (𝓜 .mem) (𝓡 .run)) 𝓜 𝓡 code.env #read-u32 read-routine code.calls-batch·cursor·read-u32 (read-met 𝓤 H 𝓜 𝓖 𝓡))
+    (cited 𝓤 H (Next 𝓤 H (𝓖 .A) (𝓜 .mem) (𝓡 .run)) 𝓜 𝓡 code.env #next next-routine code.calls-batch·cursor·next (next-met 𝓤 H 𝓜 𝓖 𝓡))
     (cited 𝓤 H (Asks 𝓤 H (𝓖 .A) (𝓜 .mem) (𝓡 .run)) 𝓜 𝓡 code.env #lead-of asks-routine code.calls-zen·lead·lead-of (asks-met 𝓤 H 𝓜 𝓖 𝓡)) p)))

@@ -11,11 +11,11 @@ use Rattle.base.specs.SignedSize.{sizeIn}
 use Rattle.base.specs.SignedLaws.{size-is, size-none}
 use Rattle.base.specs.declared.signed.Size.{Size}
 use Rattle.base.specs.declared.signed.Size.the-variants.{Of, Negative}
+use Rattle.batch.specs.BatchAnswers.{checked}
+use Rattle.batch.specs.BatchAnswersLaws.{rows-none, rows-pass, rows-fail}
+use Rattle.batch.specs.declared.names.Checked.the-variants.{Passed, Failed}
 use Rattle.zen.specs.Zen.{offset}
-use Rattle.zen.specs.Answers.{checked}
-use Rattle.zen.specs.AnswersLaws.{rows-none, rows-pass, rows-fail}
 use Rattle.zen.specs.SummaryLaws.{offset-short, offset-negative, offset-there}
-use Rattle.zen.specs.declared.names.Checked.the-variants.{Passed, Failed}
 use Rattle.zen.proofs.summary.check_offsets.Statement.{statement}
 use Rattle.zen.proofs.summary.check_offsets.Tie as tie
 

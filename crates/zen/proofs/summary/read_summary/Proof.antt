@@ -5,12 +5,13 @@ use mathlib.Core.List.{List}
 use lib.ListN.{length}
 use borrow.Author.Needs.{needs}
 use Rattle.base.specs.Reading.{walk, rows}
+use Rattle.batch.specs.BatchAnswers.{checked}
+use Rattle.batch.specs.BatchAnswersLaws.{checked-passed, checked-failed}
+use Rattle.batch.specs.declared.names.Checked.{Checked}
+use Rattle.batch.specs.declared.names.Checked.the-variants.{Passed, Failed}
 use Rattle.zen.specs.Zen.{offset, summary, summaryAt}
-use Rattle.zen.specs.Answers.{checked, summed}
-use Rattle.zen.specs.AnswersLaws.{checked-passed, checked-failed}
+use Rattle.zen.specs.Answers.{summed}
 use Rattle.zen.specs.SummaryLaws.{summary-short, summary-failed, summary-passed}
-use Rattle.zen.specs.declared.names.Checked.{Checked}
-use Rattle.zen.specs.declared.names.Checked.the-variants.{Passed, Failed}
 use Rattle.zen.specs.declared.summary.Summary.{Summary}
 use Rattle.zen.specs.declared.summary.Summed.the-variants.{Told, Missed}
 use Rattle.zen.proofs.summary.read_summary.Statement.{statement}

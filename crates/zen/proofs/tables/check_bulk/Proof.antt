@@ -12,10 +12,10 @@ use Rattle.base.specs.SignedSize.{sizeIn}
 use Rattle.base.specs.SignedLaws.{size-is, size-none}
 use Rattle.base.specs.declared.signed.Size.{Size}
 use Rattle.base.specs.declared.signed.Size.the-variants.{Of, Negative}
+use Rattle.batch.specs.BatchAnswers.{checked}
+use Rattle.batch.specs.declared.names.Checked.the-variants.{Passed, Failed}
 use Rattle.zen.specs.Zen.{bulk}
-use Rattle.zen.specs.Answers.{checked}
 use Rattle.zen.specs.TableLaws.{bulk-is}
-use Rattle.zen.specs.declared.names.Checked.the-variants.{Passed, Failed}
 use Rattle.zen.proofs.tables.check_bulk.Statement.{statement}
 use Rattle.zen.proofs.tables.check_bulk.Tie as tie
 

@@ -7,10 +7,11 @@ use lib.ListN.{length}
 use borrow.Author.Needs.{needs}
 use borrow.Author.Tests.{eq-eqb, ne-eqb}
 use Rattle.base.specs.Reading.{walk}
+use Rattle.batch.specs.BatchAnswers.{checked}
+use Rattle.batch.specs.declared.names.Checked.the-variants.{Passed, Failed}
 use Rattle.zen.specs.Zen.{tables, named}
 use Rattle.zen.specs.TableLaws.{tables-is, exportsIn}
-use Rattle.zen.specs.Answers.{checked, Order}
-use Rattle.zen.specs.declared.names.Checked.the-variants.{Passed, Failed}
+use Rattle.zen.specs.Answers.{Order}
 use Rattle.zen.specs.declared.summary.Summary.{Summary}
 use Rattle.zen.proofs.tables.check_tables.Statement.{statement}
 use Rattle.zen.proofs.tables.check_tables.Tie as tie

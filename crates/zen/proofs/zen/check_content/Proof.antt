@@ -7,17 +7,19 @@ use lib.ListN.{length}
 use borrow.Author.Needs.{needs}
 use Rattle.base.specs.Reading.{walk, got}
 use Rattle.base.specs.ReadingLaws.{out, then-walk, then-bad}
-use Rattle.zen.specs.Batch.{batch}
+use Rattle.batch.specs.Batch.{batch}
+use Rattle.batch.specs.BatchAnswers.{checked, batched}
+use Rattle.batch.specs.BatchAnswersLaws.{checked-passed, checked-failed, batched-refused}
+use Rattle.batch.specs.FoundBatch.{FoundAt, found-at}
+use Rattle.batch.specs.declared.names.Checked.{Checked}
+use Rattle.batch.specs.declared.names.Checked.the-variants.{Passed, Failed}
+use Rattle.batch.specs.declared.names.Names.{Names}
+use Rattle.batch.specs.declared.names.NameBatch.{NameBatch}
+use Rattle.batch.specs.declared.names.NameBatch.the-variants.{Found, Refused}
 use Rattle.zen.specs.Zen.{bulk, tables, Tables, imports, content}
-use Rattle.zen.specs.Answers.{checked, batched, imported, answer, Order}
-use Rattle.zen.specs.AnswersLaws.{checked-passed, checked-failed, batched-refused, imported-refused, imported-found}
+use Rattle.zen.specs.Answers.{imported, answer, Order}
+use Rattle.zen.specs.AnswersLaws.{imported-refused, imported-found}
 use Rattle.zen.specs.TableLaws.{bulk-got, tables-end}
-use Rattle.zen.specs.FoundBatch.{FoundAt, found-at}
-use Rattle.zen.specs.declared.names.Checked.{Checked}
-use Rattle.zen.specs.declared.names.Checked.the-variants.{Passed, Failed}
-use Rattle.zen.specs.declared.names.Names.{Names}
-use Rattle.zen.specs.declared.names.NameBatch.{NameBatch}
-use Rattle.zen.specs.declared.names.NameBatch.the-variants.{Found, Refused}
 use Rattle.zen.specs.declared.summary.Summary.{Summary}
 use Rattle.zen.specs.declared.zen.Package.the-variants.{Accepted, Rejected}
 use Rattle.zen.proofs.zen.check_content.Statement.{statement}

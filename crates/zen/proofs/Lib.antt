@@ -1,3 +1,0 @@
-pub mod Noting
-pub mod Seeking
-pub mod Walk
