@@ -8,6 +8,8 @@ pub mod Units
 pub mod UnitsLaws
 pub mod Utf8
 pub mod Utf8Laws
+pub mod UnitLength
+pub mod UnitLengthLaws
 pub mod Digits
 pub mod DigitsLaws
 pub mod Name

@@ -9,9 +9,9 @@ ghost use Rattle.text.specs.Utf8.{utf8};
 ghost use Rattle.text.specs.Name.{decoded, base, suffix, rendered, textBytes};
 use super::digits::decimal_len;
 use super::digits::put_decimal;
+use super::measure::units_len;
 use super::units::unit_count;
 use super::utf8::put_utf8;
-use super::utf8::utf8_len;
 use super::utf16::Scalar;
 use super::utf16::scalar_at;
 use base::output::put_be32;
@@ -21,23 +21,7 @@ pub fn base_len(part: &[u8], wide: bool) -> usize
     requires { ⌜ (isWell (decoded wide (now part)) ≡ true) × (length (now part) < 2 ^ 32) ⌝ }
     ensures { λ r. ⌜ (r ≡ length (utf8 (base wide (now (part .entry))))) × (r ≤ 4 * length (now (part .entry))) ⌝ }
 {
-    let n = unit_count(part, wide);
-    let mut at: usize = 0;
-    let mut i = 0;
-    while i < n {
-        match scalar_at(part, wide, i) {
-            Scalar::One(c) => {
-                at += utf8_len(c);
-                i += 1;
-            }
-            Scalar::Two(c) => {
-                at += utf8_len(c);
-                i += 2;
-            }
-            Scalar::Ill => return at,
-        }
-    }
-    at
+    units_len(part, wide)
 }
 
 // The base.

@@ -1,10 +1,12 @@
 // Scalar values of units (the Unicode Standard, D91).
 ghost use mathlib.Core.Path.{_≡_};
+ghost use mathlib.Core.Bool.{true};
 ghost use Prim.Native.Nat.{_<_};
 ghost use lib.ListN.{length, drop};
 ghost use Rattle.text.specs.Utf16.{isWell};
 ghost use Rattle.text.specs.Name.{decoded};
 ghost use Rattle.text.specs.Units.{unitsOf, scalarOf};
+ghost use Rattle.text.specs.UnitLength.{isSingle, allSingle};
 use super::units::unit_at;
 use super::units::unit_count;
 
@@ -44,21 +46,55 @@ pub fn scalar_at(part: &[u8], wide: bool, i: usize) -> Scalar
     Scalar::Two(0x10000 + (u - 0xD800) * 0x400 + (v - 0xDC00))
 }
 
-// Whether a part is a text: always for one-byte text, and for wide text where its surrogates pair.
-pub fn is_text(part: &[u8], wide: bool) -> bool
-    ensures { λ r. ⌜ r ≡ isWell (decoded wide (now (part .entry))) ⌝ }
+// Whether a unit is a scalar value by itself: no surrogate.
+pub fn is_single(u: u32) -> bool
+    ensures { λ r. ⌜ r ≡ isSingle u ⌝ }
 {
-    if !wide {
+    if u < 0xD800 {
         return true;
     }
-    let n = unit_count(part, wide);
+    0xE000 <= u
+}
+
+// Whether no unit of wide text is a surrogate. The loop runs to the end whatever it meets, so that the compiler can take many units a turn.
+fn all_single(part: &[u8]) -> bool
+    ensures { λ r. ⌜ r ≡ allSingle (unitsOf true (now (part .entry))) ⌝ }
+{
+    let n = unit_count(part, true);
+    let mut all = true;
     let mut i = 0;
     while i < n {
-        match scalar_at(part, wide, i) {
+        all = all & is_single(unit_at(part, true, i));
+        i += 1;
+    }
+    all
+}
+
+// Whether the surrogates of wide text pair.
+fn is_paired(part: &[u8]) -> bool
+    ensures { λ r. ⌜ r ≡ isWell (decoded true (now (part .entry))) ⌝ }
+{
+    let n = unit_count(part, true);
+    let mut i = 0;
+    while i < n {
+        match scalar_at(part, true, i) {
             Scalar::One(_) => i += 1,
             Scalar::Two(_) => i += 2,
             Scalar::Ill => return false,
         }
     }
     true
+}
+
+// Whether a part is a text: always for one-byte text, and for wide text where its surrogates pair. Most have none, which is asked first.
+pub fn is_text(part: &[u8], wide: bool) -> bool
+    ensures { λ r. ⌜ r ≡ isWell (decoded wide (now (part .entry))) ⌝ }
+{
+    if !wide {
+        return true;
+    }
+    if all_single(part) {
+        return true;
+    }
+    is_paired(part)
 }

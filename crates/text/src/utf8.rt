@@ -5,22 +5,6 @@ ghost use lib.ListN.{length};
 ghost use Rattle.base.specs.Output.{Wrote};
 ghost use Rattle.text.specs.Utf8.{utf8One};
 
-// How many bytes a scalar value takes.
-pub fn utf8_len(scalar: u32) -> usize
-    ensures { λ r. ⌜ (r ≡ length (utf8One scalar)) × (r ≤ 4) ⌝ }
-{
-    if scalar < 0x80 {
-        return 1;
-    }
-    if scalar < 0x800 {
-        return 2;
-    }
-    if scalar < 0x10000 {
-        return 3;
-    }
-    4
-}
-
 // A scalar value.
 pub fn put_utf8(out: &mut [u8], c: u32) -> usize
     requires { ⌜ (c < 0x110000) × (length (utf8One c) ≤ length (now out)) ⌝ }
