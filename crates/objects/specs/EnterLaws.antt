@@ -22,8 +22,8 @@ use Rattle.scriptblock.specs.declared.script.Opened.the-variants.{Open}
 use Rattle.table.specs.Entries.{find}
 use Rattle.table.specs.EntryLaws.{find-le, find-key, find-none}
 use Rattle.table.specs.Table.{recordAt, Holds as TableHolds, Added}
-use Rattle.objects.specs.Work.{lowOf, highOf, oneIf, described, Entered}
-use Rattle.objects.specs.WorkLaws.{whole, entered-more}
+use Rattle.objects.specs.Work.{firstOf, secondOf, oneIf, described, Entered}
+use Rattle.objects.specs.WorkLaws.{entered-more}
 
 -- what is open: its names are held
 pub open-held : (b : List ℕ) {l : Layout} → opened b ≡ Open l → Bytes b → Held b (l .names)
@@ -36,25 +36,25 @@ open-held b {l} q bs = go (walk opening b 0) refl q
 
 -- question 12: r is what the table answers to entry i's global index
 module _ (b : List ℕ) (l : Layout) (i : ℕ) {e : Entry} (is : e ≡ entryOf b l i) {w : List ℕ} (t : Entered b l i w) (r : ℕ)
-    (found : (los his : ℕ → ℕ) → TableHolds (l .count) 44 i los his w → r ≡ find los his (lowOf (e .global)) (highOf (e .global)) i) where
+    (found : (los his : ℕ → ℕ) → TableHolds (l .count) 44 i los his w → r ≡ find los his (firstOf (e .global)) (secondOf (e .global)) i) where
   abbrev los : ℕ → ℕ
-  los j = lowOf (entryOf b l j .global)
+  los j = firstOf (entryOf b l j .global)
 
   abbrev his : ℕ → ℕ
-  his j = highOf (entryOf b l j .global)
+  his j = secondOf (entryOf b l j .global)
 
-  answer : r ≡ find los his (lowOf (e .global)) (highOf (e .global)) i
+  answer : r ≡ find los his (firstOf (e .global)) (secondOf (e .global)) i
   answer = found los his (t .keys)
 
   pub is-new : r ≡ 0 → freshAt b (l .entries) i (e .global) ≡ true
-  is-new z = all-fresh b (l .entries) i (e .global) λ j h q. find-none los his (lowOf (e .global)) (highOf (e .global)) i (sym answer ∙ z) j h (ap lowOf q) (ap highOf q)
+  is-new z = all-fresh b (l .entries) i (e .global) λ j h q. find-none los his (firstOf (e .global)) (secondOf (e .global)) i (sym answer ∙ z) j h (ap firstOf q) (ap secondOf q)
 
   pub is-old : 0 < r → freshAt b (l .entries) i (e .global) ≡ false
   is-old p =
-      let f = find los his (lowOf (e .global)) (highOf (e .global)) i in
-      let s = find-key los his (lowOf (e .global)) (highOf (e .global)) i (omega (arith, answer)) in
-      fresh-seen b (l .entries) i (e .global) (f - 1) (omega (arith, answer, find-le los his (lowOf (e .global)) (highOf (e .global)) i))
-      (whole (entryOf b l (f - 1) .global) (e .global) (s .0) (s .1))
+      let f = find los his (firstOf (e .global)) (secondOf (e .global)) i in
+      let s = find-key los his (firstOf (e .global)) (secondOf (e .global)) i (omega (arith, answer)) in
+      fresh-seen b (l .entries) i (e .global) (f - 1) (omega (arith, answer, find-le los his (firstOf (e .global)) (secondOf (e .global)) i))
+      (s .1)
 
 oneIf-le : (t : Bool) → oneIf t ≤ 1
 oneIf-le true = omega arith
@@ -62,7 +62,7 @@ oneIf-le false = omega arith
 
 -- one more, in a block shorter than 2^32 bytes: all that is stored fits
 module _ (b : List ℕ) (l : Layout) (bs : Bytes b) (d : Held b (l .names)) (short : length b < 2 ^ 32) {i : ℕ} {w v w′ : List ℕ} (t : Entered b l i w) (h : i < l .count) where
-  pub entered-next : {e : Entry} → e ≡ entryOf b l i → e .index < l .names .count → Added (l .count) 44 i (lowOf (e .global)) (highOf (e .global)) w v
+  pub entered-next : {e : Entry} → e ≡ entryOf b l i → e .index < l .names .count → Added (l .count) 44 i (firstOf (e .global)) (secondOf (e .global)) w v
       → w′ ≡ described (recordAt (l .count) 44 i) (placeAt b (l .names) (e .index)) (e .number) (length (utf8 (nameAt b (placeAt b (l .names) (e .index)) (e .number)))) v
       → Entered b l (i + 1) w′
   unfolding entryAt

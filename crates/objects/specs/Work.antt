@@ -1,5 +1,5 @@
 -- What the part of `work` that is lent for S script objects holds, 48 S bytes: a look-up table of S buckets, whose record i, of 44 bytes, is
--- object i. Its key is the object's global index in two halves; bytes 24 to 43 are: where its outer leads (24), its name's start in the block
+-- object i. Its key is 0 and the object's global index; bytes 24 to 43 are: where its outer leads (24), its name's start in the block
 -- (28), twice the name's size, and 1 if it is UTF-16 (32), its instance number (36), the length of its rendered name in UTF-8 (40).
 -- Assumes nothing.
 use mathlib.Core.Path.{_≡_}
@@ -24,12 +24,12 @@ use Rattle.table.specs.Table.{recordAt, Holds}
 use Rattle.objects.specs.Numbers.{entryNo, linkOf}
 use Rattle.objects.specs.declared.object.Object.{Object}
 
--- the halves of a key
-abbrev pub lowOf : ℕ → ℕ
-lowOf g = g % 2 ^ 32
+-- the halves of a key: the second is asked first, and tells all
+abbrev pub firstOf : ℕ → ℕ
+firstOf g = 0
 
-abbrev pub highOf : ℕ → ℕ
-highOf g = g / 2 ^ 32
+abbrev pub secondOf : ℕ → ℕ
+secondOf g = g
 
 abbrev pub oneIf : Bool → ℕ
 oneIf true = 1
@@ -53,7 +53,7 @@ pub record Columns (b : List ℕ) (n : Names) (e : Entry) (w : List ℕ) (at : �
 -- the first k objects of the block b are entered
 pub record Entered (b : List ℕ) (l : Layout) (k : ℕ) (w : List ℕ) : Type 0 where
   pub size : length w ≡ 48 * l .count
-  pub keys : Holds (l .count) 44 k (λ i. lowOf (entryOf b l i .global)) (λ i. highOf (entryOf b l i .global)) w
+  pub keys : Holds (l .count) 44 k (λ i. firstOf (entryOf b l i .global)) (λ i. secondOf (entryOf b l i .global)) w
   pub columns : (i : ℕ) → i < k → Columns b (l .names) (entryOf b l i) w (recordAt (l .count) 44 i)
 
 -- all objects o of the block b, which was read, are entered

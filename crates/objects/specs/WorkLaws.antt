@@ -1,5 +1,5 @@
 -- Laws of what the work buffer holds: objects entered one by one, and linked one by one. Assumes nothing.
-use mathlib.Core.Path.{_≡_, sym, _∙_, ap}
+use mathlib.Core.Path.{_≡_, refl, sym, _∙_, ap}
 use mathlib.Core.Logic.{inl, inr, by-cases}
 use mathlib.Core.List.{List}
 use Prim.Native.Nat.{ℕ, zero, suc, _+_, _-_, _*_, _^_, _≤_, _<_}
@@ -26,7 +26,7 @@ use Rattle.table.specs.AddedLaws.{added-read, added-kept}
 use Rattle.table.specs.TableLaws.{record-other, holds-column, holds-cleared, cleared-kept}
 use Rattle.objects.specs.Numbers.{entryNo, numberOf}
 use Rattle.objects.specs.NumberLaws.{number-zero, number-only}
-use Rattle.objects.specs.Work.{lowOf, highOf, packed, described, Columns, Entered, AllIn}
+use Rattle.objects.specs.Work.{firstOf, secondOf, packed, described, Columns, Entered, AllIn}
 
 -- ---- a record described
 
@@ -93,13 +93,13 @@ module _ (b : List ℕ) (l : Layout) where
   pub entered-none : (w : List ℕ) → length w ≡ 48 * l .count → l .count < 2 ^ 32 → Entered b l 0 (cleared (l .count) w)
   entered-none w size few = record {
     size = cleared-kept (l .count) w (omega arith) .size ∙ size;
-    keys = holds-cleared (l .count) w (omega arith) 44 (λ i. lowOf (entryOf b l i .global)) (λ i. highOf (entryOf b l i .global)) few (omega arith);
+    keys = holds-cleared (l .count) w (omega arith) 44 (λ i. firstOf (entryOf b l i .global)) (λ i. secondOf (entryOf b l i .global)) few (omega arith);
     columns = λ i h. absurd (omega arith);
   }
 
   -- one more: the table has it, and its record is described
   module _ {i : ℕ} {w v w′ : List ℕ} (t : Entered b l i w) (h : i < l .count) {e : Entry} (is : e ≡ entryOf b l i)
-      (a : Added (l .count) 44 i (lowOf (e .global)) (highOf (e .global)) w v)
+      (a : Added (l .count) 44 i (firstOf (e .global)) (secondOf (e .global)) w v)
       (q : w′ ≡ described (recordAt (l .count) 44 i) (placeAt b (l .names) (e .index)) (e .number) (length (utf8 (nameAt b (placeAt b (l .names) (e .index)) (e .number)))) v) where
     abbrev place : Place
     place = placeAt b (l .names) (e .index)
@@ -132,7 +132,7 @@ module _ (b : List ℕ) (l : Layout) where
 
     pub entered-more : place .start < 2 ^ 32 → packed place < 2 ^ 32 → e .number < 2 ^ 32 → len < 2 ^ 32 → Entered b l (i + 1) w′
     entered-more hs hp hn hl =
-        let g = a .holds (λ j. lowOf (entryOf b l j .global)) (λ j. highOf (entryOf b l j .global)) (t .keys) (rw is) (rw is) in
+        let g = a .holds (λ j. firstOf (entryOf b l j .global)) (λ j. secondOf (entryOf b l j .global)) (t .keys) refl (rw is) in
         record {
           size = change .size ∙ sized;
           keys = holds-column g change i (omega arith) (omega arith);
@@ -172,10 +172,6 @@ module _ (b : List ℕ) (l : Layout) where
 
 -- ---- the objects of a block that was read
 
--- the halves make the whole
-pub whole : (g h : ℕ) → lowOf g ≡ lowOf h → highOf g ≡ highOf h → g ≡ h
-whole g h p q = omega arith
-
 module _ {b : List ℕ} {o : Objects} {w : List ℕ} (t : AllIn b o w) where
   pub parts-of : ScriptParts b (o .layout)
   parts-of = script-parts b (o .layout) (answer-of (t .read))
@@ -201,26 +197,26 @@ module _ {b : List ℕ} {o : Objects} {w : List ℕ} (t : AllIn b o w) where
 
   -- what a look-up finds is the number of a global index
   pub found-number : (g r : ℕ)
-      → r ≡ find (λ i. lowOf (entryOf b (o .layout) i .global)) (λ i. highOf (entryOf b (o .layout) i .global)) (lowOf g) (highOf g) (o .layout .count)
+      → r ≡ find (λ i. firstOf (entryOf b (o .layout) i .global)) (λ i. secondOf (entryOf b (o .layout) i .global)) (firstOf g) (secondOf g) (o .layout .count)
       → r ≡ numberOf (o .entries) g
   found-number g r f = go r f
     where
       los : ℕ → ℕ
-      los i = lowOf (entryOf b (o .layout) i .global)
+      los i = firstOf (entryOf b (o .layout) i .global)
 
       his : ℕ → ℕ
-      his i = highOf (entryOf b (o .layout) i .global)
+      his i = secondOf (entryOf b (o .layout) i .global)
 
-      go : (r : ℕ) → r ≡ find los his (lowOf g) (highOf g) (o .layout .count) → r ≡ numberOf (o .entries) g
+      go : (r : ℕ) → r ≡ find los his (firstOf g) (secondOf g) (o .layout .count) → r ≡ numberOf (o .entries) g
       go zero f = sym (number-zero (o .entries) g λ i h e.
           let k : i < o .layout .count = omega (arith, entries-length) in
           let x : entryOf b (o .layout) i .global ≡ g = rw (entry-no i k) at e in
-          find-none los his (lowOf g) (highOf g) (o .layout .count) (sym f) i k (ap lowOf x) (ap highOf x))
+          find-none los his (firstOf g) (secondOf g) (o .layout .count) (sym f) i k (ap firstOf x) (ap secondOf x))
       go (suc i) f =
-          let k : i < o .layout .count = omega (arith, find-le los his (lowOf g) (highOf g) (o .layout .count)) in
-          let s = find-key los his (lowOf g) (highOf g) (o .layout .count) (omega arith) in
-          let n : find los his (lowOf g) (highOf g) (o .layout .count) - 1 ≡ i = omega arith in
-          let x : entryOf b (o .layout) i .global ≡ g = whole (entryOf b (o .layout) i .global) g (rw n at (s .0)) (rw n at (s .1)) in
+          let k : i < o .layout .count = omega (arith, find-le los his (firstOf g) (secondOf g) (o .layout .count)) in
+          let s = find-key los his (firstOf g) (secondOf g) (o .layout .count) (omega arith) in
+          let n : find los his (firstOf g) (secondOf g) (o .layout .count) - 1 ≡ i = omega arith in
+          let x : entryOf b (o .layout) i .global ≡ g = rw n at (s .1) in
           let y : entryNo o i .global ≡ g = rw (entry-no i k) x in
           let z : numberOf (o .entries) g ≡ i + 1 = number-only (o .entries) g i (omega (arith, entries-length)) y (λ j l e. only g i k y j (omega (arith, entries-length)) e) in
           omega arith

@@ -73,7 +73,7 @@ pub fn enter(b: &[u8], l: Layout, notes: &[u32; NOTES], w: &mut [u8]) -> u8
             return fault;
         }
         let g = e.global;
-        if 0 < add(w, n, 44, i, g % 4294967296, g / 4294967296) {
+        if 0 < add(w, n, 44, i, 0, g) {
             return 12;
         }
         put_object(b, l.names, notes, w, record_at(n, 44, i), e);

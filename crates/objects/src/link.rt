@@ -21,7 +21,7 @@ pub fn find(w: &[u8], index: u64) -> usize
     requires { ⌜ Keyed (now w) ⌝ }
     ensures { λ r. ⌜ ((b : List ℕ) (o : Objects) → AllIn b o (now (w .entry)) → r ≡ numberOf (o .entries) index) ⌝ }
 {
-    look_up(w, w.len() / 48, 44, index % 4294967296, index / 4294967296)
+    look_up(w, w.len() / 48, 44, 0, index)
 }
 
 // Where an outer leads: 0 to no object, 1 to none at all, else two more than the object's number.

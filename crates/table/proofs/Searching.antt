@@ -1,4 +1,4 @@
--- The search in the code: after d turns at a place, with x and y left of the key. Assumes nothing.
+-- The search in the code: after d turns at a place, with x left of the half of the key whose bit is next. Assumes nothing.
 use mathlib.Core.Path.{_≡_, refl, sym, ap, _∙_}
 use mathlib.Core.Logic.{by-cases}
 use mathlib.Core.Bool.{Bool, true, false, _&&_, false≢true}
@@ -10,23 +10,22 @@ use lib.Dec.{eqb}
 use lib.ListN.{length}
 use Rattle.base.specs.Number.{leAt}
 use Rattle.table.specs.Entries.{keyIs}
-use Rattle.table.specs.Tree.{rest, turn, Place, head, below, bucket, stops, walk, spot, At}
-use Rattle.table.specs.TurnLaws.{rest-low, rest-high, rest-next, turn-is}
+use Rattle.table.specs.Tree.{rest, nextRest, turn, Place, head, below, bucket, stops, walk, spot, At}
+use Rattle.table.specs.TurnLaws.{rest-first, rest-next, turn-is}
 use Rattle.table.specs.TreeLaws.{bucket-lt, stops-none, stops-key, walk-stop, walk-turn, at-start, at-few, at-next, at-full}
 use Rattle.table.specs.Table.{recordAt, placeAt, linkAt, Holds, Ended}
 use Rattle.table.specs.TableLaws.{record-next}
 
-pub record Search (n stride k : ℕ) (lo hi : ℕ → ℕ) (w : List ℕ) (t : Holds n stride k lo hi w) (a b place link d x y : ℕ) : Type 0 where
+pub record Search (n stride k : ℕ) (lo hi : ℕ → ℕ) (w : List ℕ) (t : Holds n stride k lo hi w) (a b place link d x : ℕ) : Type 0 where
   pub spotted : Place
   pub here : At (t .depth) lo hi n k a b d spotted
   pub at : place ≡ placeAt n stride spotted
   pub linked : link ≡ linkAt n stride w spotted
   pub same : spot n (linkAt n stride w) lo hi a b ≡ walk (linkAt n stride w) lo hi a b (128 - d) d spotted
   pub next : x ≡ rest d a b
-  pub then : y ≡ rest (d + 1) a b
 
 module _ {n stride k : ℕ} {lo hi : ℕ → ℕ} {w : List ℕ} (t : Holds n stride k lo hi w) (a b : ℕ) where
-  pub search-start : (place link : ℕ) → 0 < n → place ≡ 4 * bucket n a b → link ≡ leAt 4 w place → Search n stride k lo hi w t a b place link 0 a b
+  pub search-start : (place link : ℕ) → 0 < n → place ≡ 4 * bucket n a b → link ≡ leAt 4 w place → Search n stride k lo hi w t a b place link 0 b
   unfolding spot
   search-start place link h e f =
       record {
@@ -35,15 +34,14 @@ module _ {n stride k : ℕ} {lo hi : ℕ → ℕ} {w : List ℕ} (t : Holds n st
         at = e;
         linked = f ∙ ap (leAt 4 w) e;
         same = refl;
-        next = sym (rest-low a b);
-        then = sym (rest-high a b);
+        next = sym (rest-first a b);
       }
 
   -- the head can be read
   pub head-room : (r : ℕ) → 0 < n → r ≡ bucket n a b → 4 * r + 4 ≤ length w
   head-room r h e = let o = t .room in omega (arith, bucket-lt n a b h)
 
-  module _ {place link d x y : ℕ} (s : Search n stride k lo hi w t a b place link d x y) where
+  module _ {place link d x : ℕ} (s : Search n stride k lo hi w t a b place link d x) where
     few : link ≤ k
     few = let e = s .linked in omega (arith, at-few (t .depth) lo hi (linkAt n stride w) n k (t .tree) a b (s .here))
 
@@ -81,9 +79,9 @@ module _ {n stride k : ℕ} {lo hi : ℕ → ℕ} {w : List ℕ} (t : Holds n st
               (λ (o : ¬ (d < 128)). absurd (false≢true (sym e ∙ is-key ∙ ap (λ (c : ℕ). keyIs lo hi a b (c - 1)) (s .linked)
               ∙ at-full (t .depth) lo hi (linkAt n stride w) n k (t .tree) a b fa fb (s .here) (rw (s .linked) at more) (omega arith))))
 
-          pub search-turn : (place′ link′ : ℕ) → place′ ≡ at + 4 * (x % 2) → link′ ≡ leAt 4 w place′
-              → Search n stride k lo hi w t a b place′ link′ (d + 1) y (x / 2)
-          search-turn place′ link′ f g =
+          pub search-turn : (place′ link′ x′ : ℕ) → place′ ≡ at + 4 * (x % 2) → link′ ≡ leAt 4 w place′ → x′ ≡ nextRest x (d + 1) a
+              → Search n stride k lo hi w t a b place′ link′ (d + 1) x′
+          search-turn place′ link′ x′ f g l =
               let q : 0 < linkAt n stride w (s .spotted) = rw (s .linked) at more in
               let no : stops lo hi a b (linkAt n stride w (s .spotted)) ≡ false =
               rw (← s .linked) (stops-key lo hi a b link more ∙ sym is-key ∙ e) in
@@ -96,6 +94,5 @@ module _ {n stride k : ℕ} {lo hi : ℕ → ℕ} {w : List ℕ} (t : Holds n st
                 at = to;
                 linked = g ∙ ap (leAt 4 w) to;
                 same = s .same ∙ rw left (walk-turn lo hi a b (linkAt n stride w) (128 - (d + 1)) d (s .spotted) no);
-                next = s .then;
-                then = rw (s .next) (sym (rest-next d a b));
+                next = l ∙ rw (s .next) (rest-next d a b);
               }

@@ -4,16 +4,25 @@ use mathlib.Core.Path.{_≡_}
 use mathlib.Core.Bool.{Bool, true, cond}
 use Prim.Native.Nat.{ℕ, zero, suc, _+_, _-_, _*_, _/_, _%_, _^_, _≤_, _<_}
 use lib.Bits.{bitXor}
+use lib.Dec.{eqb, ltb}
 use Rattle.city.specs.Word.{mulw}
 use Rattle.table.specs.Entries.{keyIs}
 
--- ---- turns: the bits of the key (a, b) from the lowest, of a and of b in turn
+-- ---- turns: the bits of the key (a, b), those of b from the lowest and then those of a
+
+-- a number halved d times
+unfoldable pub halved : ℕ → ℕ → ℕ
+halved zero u = u
+halved (suc d) u = halved d u / 2
 
 -- what is left after d turns of the half whose bit is next
 unfoldable pub rest : ℕ → ℕ → ℕ → ℕ
-rest zero a b = a
-rest (suc zero) a b = b
-rest (suc (suc d)) a b = rest d a b / 2
+unfolding halved
+rest d a b = cond (ltb d 64) (halved d b) (halved (d - 64) a)
+
+-- the same from what was left a turn before
+unfoldable pub nextRest : ℕ → ℕ → ℕ → ℕ
+nextRest x d a = cond (eqb d 64) a (x / 2)
 
 -- the side to go to after d turns: 0 left, 1 right
 unfoldable pub turn : ℕ → ℕ → ℕ → ℕ
@@ -37,7 +46,7 @@ In n k (below i s) = (i < k) × (s < 2)
 
 -- the bucket of a key: that it is below n is all that counts
 unfoldable pub bucket : ℕ → ℕ → ℕ → ℕ
-bucket n a b = mulw (bitXor a (mulw b 0x9e37_79b9_7f4a_7c15)) 0x9e37_79b9_7f4a_7c15 / 2 ^ 32 * n / 2 ^ 32
+bucket n a b = mulw (bitXor b (mulw a 0x9e37_79b9_7f4a_7c15)) 0x9e37_79b9_7f4a_7c15 / 2 ^ 32 * n / 2 ^ 32
 
 -- ---- a search for (a, b)
 

@@ -1,24 +1,35 @@
 -- Laws of turns: what is left of a key, and that 128 turns tell two keys apart. Assumes nothing.
 use mathlib.Core.Path.{_≡_, refl, sym, _∙_}
-use mathlib.Core.Logic.{by-cases}
-use Prim.Native.Nat.{ℕ, zero, suc, _+_, _*_, _/_, _%_, _^_, _≤_, _<_}
+use mathlib.Core.Bool.{cond}
+use mathlib.Core.Logic.{_⊎_, inl, inr, by-cases}
+use Prim.Native.Nat.{ℕ, zero, suc, _+_, _-_, _*_, _/_, _%_, _^_, _≤_, _<_}
 use native.Mathlib.Nat.{pow-suc, mod-lt, zero-lt-suc}
 use native.Mathlib.Numerals.{add-one}
 use native.Mathlib.Decide.{ℕ-discrete}
 use native.Mathlib.Omega.{arith}
-use Rattle.table.specs.Tree.{rest, turn, Agree}
+use lib.Dec.{eqb, ltb}
+use borrow.Author.Tests.{lt-ltb, le-ltb, eq-eqb, ne-eqb}
+use Rattle.base.specs.Choose.{lt-or-le}
+use Rattle.table.specs.Tree.{halved, rest, nextRest, turn, Agree}
 
-pub rest-low : (a b : ℕ) → rest 0 a b ≡ a
-unfolding rest
-rest-low a b = refl
+pub rest-first : (a b : ℕ) → rest 0 a b ≡ b
+unfolding rest halved
+rest-first a b = refl
 
-pub rest-high : (a b : ℕ) → rest (0 + 1) a b ≡ b
-unfolding rest
-rest-high a b = refl
-
-pub rest-next : (d a b : ℕ) → rest (d + 1 + 1) a b ≡ rest d a b / 2
-unfolding rest
-rest-next d a b = rw (add-one (d + 1), add-one d, rest)
+pub rest-next : (d a b : ℕ) → nextRest (rest d a b) (d + 1) a ≡ rest (d + 1) a b
+unfolding rest halved nextRest
+rest-next d a b = go (lt-or-le d 63) (lt-or-le d 64)
+  where
+    go : (d < 63) ⊎ (63 ≤ d) → (d < 64) ⊎ (64 ≤ d) → cond (eqb (d + 1) 64) a (cond (ltb d 64) (halved d b) (halved (d - 64) a) / 2)
+        ≡ cond (ltb (d + 1) 64) (halved (d + 1) b) (halved (d + 1 - 64) a)
+    go (inl h) _ = rw (ne-eqb (d + 1) 64 (λ e. omega arith), lt-ltb d 64 (omega arith), lt-ltb (d + 1) 64 (omega arith), add-one d)
+    go (inr h) (inl k) =
+        let e : d + 1 ≡ 64 = omega arith in
+        let z : d + 1 - 64 ≡ 0 = omega arith in
+        rw (eq-eqb (d + 1) 64 e, le-ltb (d + 1) 64 (omega arith), z)
+    go (inr h) (inr k) =
+        let s : d + 1 - 64 ≡ suc (d - 64) = omega arith in
+        rw (ne-eqb (d + 1) 64 (λ e. omega arith), le-ltb d 64 k, le-ltb (d + 1) 64 (omega arith), s)
 
 pub turn-is : (d a b : ℕ) → rest d a b % 2 ≡ turn d a b
 unfolding turn
@@ -41,29 +52,40 @@ agree-join d a b x y p q f g h =
 halves : (u v : ℕ) → u / 2 ≡ v / 2 → u % 2 ≡ v % 2 → u ≡ v
 halves u v e f = omega arith
 
--- keys with the same turns and the same rest are the same
-agree-rest : (d a b x y : ℕ) → Agree d a b x y → rest d a b ≡ rest d x y → rest (suc d) a b ≡ rest (suc d) x y → (a ≡ x) × (b ≡ y)
-unfolding rest turn
-agree-rest zero a b x y f p q = (p, q)
-agree-rest (suc d) a b x y f p q =
-    agree-rest d a b x y (record { same = λ e l. f .same e (omega arith) }) (halves (rest d a b) (rest d x y) q (f .same d (omega arith))) p
+-- numbers with the same bits and the same rest are the same
+halved-same : (d u v : ℕ) → ((e : ℕ) → e < d → halved e u % 2 ≡ halved e v % 2) → halved d u ≡ halved d v → u ≡ v
+unfolding halved
+halved-same zero u v f p = p
+halved-same (suc d) u v f p = halved-same d u v (λ e l. f e (omega arith)) (halves (halved d u) (halved d v) p (f d (omega arith)))
 
 half-lt : (u m : ℕ) → u < 2 ^ suc m → u / 2 < 2 ^ m
 half-lt u m h = let g : u < 2 ^ m * 2 = rw pow-suc at h in omega arith
 
--- two more turns take a bit of each half
-rest-lt : (i j a b : ℕ) → a < 2 ^ (i + j) → b < 2 ^ (i + j) → (rest (2 * i) a b < 2 ^ j) × (rest (suc (2 * i)) a b < 2 ^ j)
-unfolding rest
-rest-lt zero j a b f g = let s : 0 + j ≡ j = omega arith in (rw s at f, rw s at g)
-rest-lt (suc i) j a b f g =
+halved-lt : (i j u : ℕ) → u < 2 ^ (i + j) → halved i u < 2 ^ j
+unfolding halved
+halved-lt zero j u f = let s : 0 + j ≡ j = omega arith in rw s at f
+halved-lt (suc i) j u f =
     let s : i + suc j ≡ suc i + j = omega arith in
-    let t : 2 * suc i ≡ suc (suc (2 * i)) = omega arith in
-    let r = rest-lt i (suc j) a b (rw s f) (rw s g) in
-    rw (t, rest) (half-lt (rest (2 * i) a b) j (r .0), half-lt (rest (suc (2 * i)) a b) j (r .1))
+    half-lt (halved i u) j (halved-lt i (suc j) u (rw s f))
+
+-- 64 bits tell two numbers apart
+apart : (u v : ℕ) → u < 2 ^ 64 → v < 2 ^ 64 → ((e : ℕ) → e < 64 → halved e u % 2 ≡ halved e v % 2) → u ≡ v
+apart u v lu lv f = halved-same 64 u v f (omega (arith, halved-lt 64 0 u lu, halved-lt 64 0 v lv))
+
+-- the turns are the bits of the second half, then those of the first
+turn-second : (e a b : ℕ) → e < 64 → turn e a b ≡ halved e b % 2
+unfolding turn rest
+turn-second e a b h = rw (lt-ltb e 64 h)
+
+turn-first : (e a b : ℕ) → turn (64 + e) a b ≡ halved e a % 2
+unfolding turn rest
+turn-first e a b =
+    let s : 64 + e - 64 ≡ e = omega arith in
+    rw (le-ltb (64 + e) 64 (omega arith), s)
 
 -- 128 turns tell two keys apart
 pub agree-all : (d a b x y : ℕ) → 128 ≤ d → a < 2 ^ 64 → b < 2 ^ 64 → x < 2 ^ 64 → y < 2 ^ 64 → Agree d a b x y → (a ≡ x) × (b ≡ y)
-agree-all d a b x y h la lb lx ly f =
-    let p = rest-lt 64 0 a b la lb in
-    let q = rest-lt 64 0 x y lx ly in
-    agree-rest 128 a b x y (record { same = λ e l. f .same e (omega arith) }) (omega arith) (omega arith)
+agree-all d a b x y h la lb lx ly f = (
+  apart a x la lx (λ e l. sym (turn-first e a b) ∙ (f .same (64 + e) (omega arith) ∙ turn-first e x y)),
+  apart b y lb ly (λ e l. sym (turn-second e a b l) ∙ (f .same e (omega arith) ∙ turn-second e x y l)),
+)

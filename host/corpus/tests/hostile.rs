@@ -100,7 +100,8 @@ fn classes_and_rows() {
     });
     let wanted = [
         ("objects in one bucket", 0, 200),
-        ("class keys that agree in 88 turns", 200, 200),
+        ("class keys that agree in 47 turns", 200, 200),
+        ("class keys that agree in 111 turns", 200, 200),
         ("chains of 64 classes", 64, 200),
         ("chains of 64 among many classes", 256, 200),
         ("a ring of classes", 200, 200),

@@ -13,9 +13,10 @@ pub const LONGEST: usize = 32_767;
 /// A name, and a corpus with so much of it.
 pub type Shape = (&'static str, fn(u32) -> Described);
 
-pub const SHAPES: [Shape; 15] = [
+pub const SHAPES: [Shape; 16] = [
     ("objects in one bucket", one_bucket),
-    ("class keys that agree in 88 turns", alike),
+    ("class keys that agree in 47 turns", alike),
+    ("class keys that agree in 111 turns", all_alike),
     ("chains of 64 classes", |n| chains(n, 1)),
     ("chains of 64 among many classes", |n| {
         chains(n, n.div_ceil(64))
@@ -90,20 +91,19 @@ const FACTOR: u64 = 0x9e37_79b9_7f4a_7c15;
 
 /// The bucket of a key among n, as the call's table has it (crates/table/specs/Tree.antt).
 pub fn bucket(n: u64, lo: u64, hi: u64) -> u64 {
-    let x = (lo ^ hi.wrapping_mul(FACTOR)).wrapping_mul(FACTOR);
+    let x = (hi ^ lo.wrapping_mul(FACTOR)).wrapping_mul(FACTOR);
     ((x >> 32) * n) >> 32
 }
 
 /// The two words by which an object is found.
 pub fn object_key(global: u64) -> (u64, u64) {
-    (global % (1 << 32), global >> 32)
+    (0, global)
 }
 
 /// Global indices below 2^32 with this upper half that fall into the first of n buckets. Products of consecutive numbers
 /// and a factor go round in even steps, so from one that is low the next is one of three numbers of steps away.
 pub fn first_bucket(n: u64, half: u64) -> impl Iterator<Item = u64> {
-    let mixed = half.wrapping_mul(FACTOR);
-    let global = move |u: u64| half << 32 | (u ^ (mixed % (1 << 32)));
+    let global = move |u: u64| half << 32 | u;
     let low = move |u: u64| {
         let (lo, hi) = object_key(global(u));
         bucket(n, lo, hi) == 0
@@ -136,15 +136,27 @@ fn one_bucket(n: u32) -> Described {
     of_package(corpus, package)
 }
 
-/// n classes in a table of eight buckets, since there are two objects: of their keys, turn by turn a bit of the id and of
-/// the hash, the first 88 turns agree. A row for each.
+/// n classes of one package in a table of eight buckets, since there are two objects: of their keys, turn by turn a bit of
+/// the hash and then of the id, the first 47 turns agree, and 17 are left to tell them apart. A row for each.
 fn alike(n: u32) -> Described {
     let mut package = named(&[ROW, ""]);
-    let classes = (1..=u64::from(n)).map(|i| class(script_index(1), i << 44));
+    let classes = (1..=u64::from(n)).map(|i| class(script_index(1), i << 47));
     package.exports.extend(classes);
     let rows = (0..n).map(|i| row(i, i.into()));
     package.exports.extend(rows);
     of_package(natives(), package)
+}
+
+/// n packages, each with a class and a row of it. All hashes are one, and of the ids the first 47 bits agree.
+fn all_alike(n: u32) -> Described {
+    let mut corpus = natives();
+    for i in 0..n {
+        let mut package = named(&[ROW, ""]);
+        package.exports.push(class(script_index(1), 1));
+        package.exports.push(row(i, 0));
+        corpus.packages.push((u64::from(i) << 47, package));
+    }
+    corpus
 }
 
 // ---- Chains

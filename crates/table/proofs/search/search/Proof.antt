@@ -10,11 +10,11 @@ use Rattle.table.proofs.search.search.Statement.{statement}
 use Rattle.table.proofs.search.search.Tie as tie
 
 abbrev Inv-loop : tie.InvT-loop
-Inv-loop w n stride lo hi place₀ link₀ depth₀ x₀ y₀ place link depth x y =
-    (k : ℕ) (los his : ℕ → ℕ) (t : Holds n stride k los his w) → Search n stride k los his w t lo hi place link depth x y
+Inv-loop w n stride lo hi place₀ link₀ depth₀ x₀ place link depth x =
+    (k : ℕ) (los his : ℕ → ℕ) (t : Holds n stride k los his w) → Search n stride k los his w t lo hi place link depth x
 
 abbrev μ-loop : tie.MeasureT-loop
-μ-loop w n stride lo hi place₀ link₀ depth₀ x₀ y₀ place link depth x y = 128 - depth
+μ-loop w n stride lo hi place₀ link₀ depth₀ x₀ place link depth x = 128 - depth
 
 bucket-of-requires : tie.Need-bucket-of-requires Inv-loop μ-loop
 bucket-of-requires c κs = c .before .pre .0 .linked .holds .few
@@ -78,15 +78,19 @@ left c =
 add-depth : tie.Need-add-depth Inv-loop μ-loop
 add-depth c = let l = left c in search needs
 
+next-rest-requires : tie.Need-next-rest-requires Inv-loop μ-loop
+next-rest-requires c κs = search needs
+
 loop-less : tie.Need-loop-less Inv-loop μ-loop
-loop-less c = let l = left c in omega arith
+loop-less c = let l = left (c .before) in omega arith
 
 loop-again : tie.Need-loop-again Inv-loop μ-loop
 loop-again c =
-    let s = c .before .before .before .before .before .before .before .before .before in
-    λ k los his t. search-turn t _ _ (c .before .before .before .before .before .loop .inv k los his t) (c .before .before .before .before .loop-test .taken)
-    _ (c .before .before .before .record-at .ensures) _ (c .before .before .has-key .ensures) (s .fits .lo .fits) (s .fits .hi .fits) (c .before .if1 .left)
-    _ _ refl (c .get322 .ensures)
+    let g = c .before in
+    let s = g .before .before .before .before .before .before .before .before .before in
+    λ k los his t. search-turn t _ _ (g .before .before .before .before .before .loop .inv k los his t) (g .before .before .before .before .loop-test .taken)
+    _ (g .before .before .before .record-at .ensures) _ (g .before .before .has-key .ensures) (s .fits .lo .fits) (s .fits .hi .fits) (g .before .if1 .left)
+    _ _ _ refl (g .get322 .ensures) (c .next-rest .ensures)
 
 returns-2 : tie.Need-returns-2 Inv-loop μ-loop
 returns-2 c = λ k los his t. search-none t _ _ (c .before .loop .inv k los his t) (c .loop-test .left)
@@ -109,6 +113,7 @@ search-spec =
     add-place
     get32-requires-2
     add-depth
+    next-rest-requires
     loop-less
     loop-again
     returns-2)
