@@ -18,7 +18,8 @@ use Rattle.report.specs.CallSteps.{workNeeded, Gathered, Answered}
 use Rattle.report.specs.CallLaws.{answer-beyond, answer-outside, answer-fits, refused-by, answered-refused, answered-report}
 use Rattle.walk.specs.Found.{classesIn}
 use Rattle.walk.specs.FoundLaws.{found-size, found-once}
-use Rattle.resolve.specs.Rows.{Kept, SomeClasses, SomeKept, Resolution, limitsOf}
+use Rattle.resolve.specs.Rows.{Kept, SomeClasses, SomeKept, Resolved, Resolution, limitsOf}
+use Rattle.pool.specs.Pool.{Roomy, Pooled}
 use Rattle.report.specs.Written.{reportAt, Ready, ReportRoom}
 use Rattle.walk.specs.declared.walk.Census.{Census}
 
@@ -26,6 +27,12 @@ use Rattle.walk.specs.declared.walk.Census.{Census}
 abbrev pub Links : ℕ → ℕ → List ℕ → List ℕ → Type 0
 Links n classes w v =
     (s b : List ℕ) (o : Objects) (xs : List Class) (refs : List Ref) → Kept s b o n xs refs w → classes ≤ length xs → Kept s b o n xs refs v
+
+-- texts were kept
+abbrev pub Pools : List ℕ → ℕ → ℕ → ℕ → ℕ → List ℕ → List ℕ → Type 0
+Pools b n classes rows objects w v =
+    (c : List ℕ) (o : Objects) (xs : List Class) (lookups : ℕ) (refs : List Ref) → Resolved c b o n xs lookups refs w → length xs ≡ classes → length refs ≡ rows
+    → Pooled c b o n xs lookups objects refs v
 
 -- ---- what was gathered
 
@@ -117,22 +124,39 @@ module _ {lookups limit : ℕ} {c : List ℕ} {f : Frame} {s : List ℕ} {n : �
         (answer-outside (limitsOf lookups limit) c (length w) (length old) f objects s (z .gathered .read) opens (enough (z .gathered))
         (rw whole-size at h)) e)
 
-  -- the report fits
-  ready : Ready c s objects n (f .«end» + 4) (f .count) lookups limit w′
-  ready = record { holds = resolved .holds }
+  -- texts can be kept
+  pub finish-roomy : length v ≡ length w → Roomy s n (t .classes) (t .rows) w′
+  finish-roomy e = record {
+    corpus = c;
+    objects = objects;
+    table = classes (z .gathered);
+    lookups = lookups;
+    refs = refs (z .gathered);
+    holds = resolved .holds;
+    classes-are = classes-are (z .gathered);
+    rows-are = rows-are (z .gathered);
+    room =
+        let (a, b, _) = z .gathered .state .entered (z .gathered .all) in omega (arith, resolved .length-is, z .gathered .state .room (z .gathered .all), a, b);
+  }
 
-  pub finish-room : (old : List ℕ) → t .size + total ≤ 4294967299 → t .size + total ≤ length old → ReportRoom c s n (f .«end» + 4) (f .count) limit w′ old
-  finish-room old small fits =
-      record { read = objects; lookups = lookups; ready = ready; room = rw whole-size at fits; small = rw whole-size at small }
+  -- the report fits
+  ready : {w″ : List ℕ} → Pools s n (t .classes) (t .rows) limit w′ w″ → Ready c s objects n (f .«end» + 4) (f .count) lookups limit w″
+  ready p = record {
+    holds = p c objects (classes (z .gathered)) lookups (refs (z .gathered)) (resolved .holds) (classes-are (z .gathered)) (rows-are (z .gathered));
+  }
+
+  pub finish-room : {w″ : List ℕ} → Pools s n (t .classes) (t .rows) limit w′ w″ → (old : List ℕ) → t .size + total ≤ 4294967299 → t .size + total ≤ length old → ReportRoom c s n (f .«end» + 4) (f .count) limit w″ old
+  finish-room p old small fits =
+      record { read = objects; lookups = lookups; ready = ready p; room = rw whole-size at fits; small = rw whole-size at small }
 
   -- and was put
-  pub finish-report : {old new : List ℕ} {r : ℕ} → t .size + total ≤ 4294967299 → t .size + total ≤ length old
-      → ((o : Objects) (k : ℕ) → Ready c s o n (f .«end» + 4) (f .count) k limit w′
+  pub finish-report : {w″ : List ℕ} → Pools s n (t .classes) (t .rows) limit w′ w″ → {old new : List ℕ} {r : ℕ} → t .size + total ≤ 4294967299 → t .size + total ≤ length old
+      → ((o : Objects) (k : ℕ) → Ready c s o n (f .«end» + 4) (f .count) k limit w″
       → length (reportAt (limitsOf k limit) o c (f .«end» + 4) (f .count)) ≤ length old
       → Wrote old (reportAt (limitsOf k limit) o c (f .«end» + 4) (f .count)) new r)
       → Answered (limitsOf lookups limit) c (length w) old new r
-  finish-report {old} small fits put =
+  finish-report p {old} small fits put =
       answered-report
       (answer-fits (limitsOf lookups limit) c (length w) (length old) f objects s (z .gathered .read) opens (enough (z .gathered))
       (rw whole-size at small) (rw whole-size at fits))
-      (put objects lookups ready (rw whole-size at fits))
+      (put objects lookups (ready p) (rw whole-size at fits))

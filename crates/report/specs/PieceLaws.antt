@@ -114,8 +114,8 @@ module _ (b : List ℕ) (p : Parts) (k i : ℕ) where
       go none = refl
       go (some u) = refl
 
-module _ {s b : List ℕ} {n : ℕ} {w d : List ℕ} {p : Parts} {v : Row} {l : Led} {o : Objects} {xs : List Class} {lookups id i : ℕ}
-    (a : PackageIn d p) (due : RowDue s b n w d p v l o xs lookups id i) (objects : ℕ) where
+module _ {s b : List ℕ} {n objects : ℕ} {w d : List ℕ} {p : Parts} {v : Row} {l : Led} {o : Objects} {xs : List Class} {lookups id i : ℕ}
+    (a : PackageIn d p) (due : RowDue s b n objects w d p v l o xs lookups id i) where
   abbrev said : Said
   said = rowNo (limitsOf lookups objects) xs o id d i
 

@@ -53,10 +53,10 @@ abbrev pub rowNo : Limits → List Class → Objects → ℕ → List ℕ → �
 rowNo m xs o id d i = rowOf m (look xs) o (packageIn id d) (exportNo d i)
 
 -- v is that export as a candidate, and l is where its class index leads
-pub record RowDue (s b : List ℕ) (n : ℕ) (w d : List ℕ) (p : Parts) (v : Row) (l : Led) (o : Objects) (xs : List Class) (lookups id i : ℕ) : Type 0 where
+pub record RowDue (s b : List ℕ) (n objects : ℕ) (w d : List ℕ) (p : Parts) (v : Row) (l : Led) (o : Objects) (xs : List Class) (lookups id i : ℕ) : Type 0 where
   pub inside : i < p .count
   pub row-is : v ≡ rowIn d p (candidateKind (readIn d) (exportNo d i)) i
-  pub target : Target s b o n xs lookups w (refIn (packageIn id d) (exportNo d i .class)) l
+  pub target : Target s b o n xs lookups objects w (refIn (packageIn id d) (exportNo d i .class)) l
 
 pub record TextsRoom (s b : List ℕ) (n objects : ℕ) (w d : List ℕ) (p : Parts) (v : Row) (l : Led) (out : List ℕ) : Type 0 where
   pub read : Objects
@@ -64,7 +64,7 @@ pub record TextsRoom (s b : List ℕ) (n objects : ℕ) (w d : List ℕ) (p : Pa
   pub lookups : ℕ
   pub id : ℕ
   pub number : ℕ
-  pub due : RowDue s b n w d p v l read classes lookups id number
+  pub due : RowDue s b n objects w d p v l read classes lookups id number
   pub room : length (rowTexts (rowNo (limitsOf lookups objects) classes read id d number)) ≤ length out
 
 -- the texts were written

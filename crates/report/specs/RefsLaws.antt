@@ -14,7 +14,7 @@ use Rattle.zen.specs.Zen.{Read}
 use Rattle.meaning.specs.Reference.{Package, Ref, null}
 use Rattle.meaning.specs.Report.{classRef}
 use Rattle.meaning.specs.Scan.{isCandidate, candidates}
-use Rattle.resolve.specs.Rows.{Resolved}
+use Rattle.pool.specs.Pool.{Pooled}
 use Rattle.report.specs.Sections.{How, eachRef, refsOf, ResolvedFrom}
 
 -- ---- a package's
@@ -51,22 +51,26 @@ module _ {A B : Type 0} (f : A → List B) (l : List A) (i : ℕ) (d : A) (h : i
 -- ---- resolved rows
 
 -- all of a corpus's
-pub rows-all : {c s : List ℕ} {n : ℕ} {w : List ℕ} {refs : List Ref} {h : How} → Resolved c s (h .objects) n (h .classes) (h .lookups) refs w
-    → ResolvedFrom c s n w 0 refs h
+pub rows-all : {c s : List ℕ} {n : ℕ} {w : List ℕ} {objects : ℕ} {refs : List Ref} {h : How} → Pooled c s (h .objects) n (h .classes) (h .lookups) objects refs w
+    → ResolvedFrom c s n w objects 0 refs h
 rows-all t = record {
-  tables = t .tables;
-  there = rw zero-add (t .targets .room);
-  targets = λ k l. rw (zero-add k) (t .targets .targets k l);
+  tables = t .resolved .tables;
+  there = rw zero-add (t .resolved .targets .room);
+  targets = λ k l. rw (zero-add k) (t .resolved .targets .targets k l);
+  texts = λ k l. rw (zero-add k) (t .texts .texts k l);
 }
 
 -- a part of them
-pub rows-part : {c s : List ℕ} {n : ℕ} {w : List ℕ} {r : ℕ} {h : How} (x y z : List Ref) → ResolvedFrom c s n w r (x ++ (y ++ z)) h
-    → ResolvedFrom c s n w (r + length x) y h
-rows-part {c} {s} {n} {w} {r} {h} x y z t = record {
+pub rows-part : {c s : List ℕ} {n : ℕ} {w : List ℕ} {objects r : ℕ} {h : How} (x y z : List Ref) → ResolvedFrom c s n w objects r (x ++ (y ++ z)) h
+    → ResolvedFrom c s n w objects (r + length x) y h
+rows-part {c} {s} {n} {w} {objects} {r} {h} x y z t = record {
   tables = t .tables;
   there = omega (arith, t .there, length-append x (y ++ z), length-append y z);
   targets = λ k l.
       let e : getD (x ++ (y ++ z)) (length x + k) null ≡ getD y k null = getD-append-add x (y ++ z) k null ∙ List·getD-append y z null k l in
       let a : r + (length x + k) ≡ r + length x + k = omega arith in
       rw (e, a) at (t .targets (length x + k) (omega (arith, length-append x (y ++ z), length-append y z)));
+  texts = λ k l.
+      let a : r + (length x + k) ≡ r + length x + k = omega arith in
+      rw a at (t .texts (length x + k) (omega (arith, length-append x (y ++ z), length-append y z)));
 }

@@ -1,5 +1,5 @@
 -- Laws of what is written: what is written of all is what is written of each, one behind another. Assumes nothing.
-use mathlib.Core.Path.{_≡_, refl, sym, _∙_, ap}
+use mathlib.Core.Path.{_≡_, refl, sym, _∙_, ap, subst}
 use mathlib.Core.Bool.{true, false}
 use mathlib.Core.List.{List, [], _∷_, _++_, append-assoc}
 use Prim.Native.Nat.{ℕ, suc, _+_, _-_, _*_, _≤_, _<_}
@@ -21,6 +21,9 @@ use Rattle.meaning.specs.Report.{rowOf, rowBytes, section, reportOf}
 use Rattle.meaning.specs.Resolve.{look}
 use Rattle.meaning.specs.Scan.{Class, candidateKind, isCandidate, candidates, table}
 use Rattle.resolve.specs.Rows.{limitsOf, rowAt, ledAt}
+use Rattle.resolve.specs.declared.rows.Led.{Led}
+use Rattle.pool.specs.Pool.{TextIn}
+use Rattle.pool.specs.PoolLaws.{led-behind}
 use Rattle.report.specs.RefsLaws.{flat-split, rows-part}
 use Rattle.report.specs.Sections.{How, eachRow, allRows, headOf, sectionOf, sectionsOf, frontOf, ResolvedFrom, Room, Filled}
 use Rattle.report.specs.Written.{Target}
@@ -36,11 +39,18 @@ module _ (p : Read) (e : Export) where
   is-candidate h = rw (ne-eqb (candidateKind p e) 0 h)
 
 -- where a resolved row leads
-pub row-target : {c s : List ℕ} {n : ℕ} {w : List ℕ} {r : ℕ} {x : Ref} {h : How} → ResolvedFrom c s n w r (x ∷ []) h
-    → Target c s (h .objects) n (h .classes) (h .lookups) w x (ledAt (drop (48 * n) w) (rowAt (drop (48 * n) w) r))
-row-target {c} {s} {n} {w} {r} {x} {h} t =
+pub row-target : {c s : List ℕ} {n : ℕ} {w : List ℕ} {objects r : ℕ} {x : Ref} {h : How} → ResolvedFrom c s n w objects r (x ∷ []) h
+    → Target c s (h .objects) n (h .classes) (h .lookups) objects w x (ledAt (drop (48 * n) w) (rowAt (drop (48 * n) w) r))
+row-target {c} {s} {n} {w} {objects} {r} {x} {h} t =
     let a = rw (add-zero r) at (t .targets 0 (omega arith)) in
-    record { tables = t .tables; class = a .class; object = rw (a .outer, a .start, a .size, a .number) }
+    let b = rw (add-zero r) at (t .texts 0 (omega arith)) in
+    let e = led-behind (48 * n) r w (omega (arith, t .there, t .tables .room, length-drop (48 * n) w)) in
+    record {
+      tables = t .tables;
+      class = a .class;
+      object = rw (a .outer, a .start, a .size, a .number);
+      text = subst (λ (l : Led). TextIn s n objects 0 (length w) w l) (sym e) b;
+    }
 
 -- ---- one item behind another
 
@@ -59,10 +69,10 @@ module _ {A : Type 0} (f : A → List Ref) (g : A → List ℕ) (l : List A) (i 
       let z = flat g (drop (suc i) l) in
       omega (arith, ap length (flat-split g l i d inside), length-append x (y ++ z), length-append y z, length-append x y)
 
-  module _ {c s : List ℕ} {n : ℕ} {w : List ℕ} {r : ℕ} {out o : List ℕ} {h : How} {z : Section} (a : Room c s n w r (flat f l) (flat g l) out h)
+  module _ {c s : List ℕ} {n : ℕ} {w : List ℕ} {objects r : ℕ} {out o : List ℕ} {h : How} {z : Section} (a : Room c s n w objects r (flat f l) (flat g l) out h)
       (b : Filled (flat f (take i l)) (flat g (take i l)) out o z) where
     -- item i has its rows, and room behind the items before it
-    pub item-room : Room c s n w (r + z .rows) (f (getD l i d)) (g (getD l i d)) (take (length o - z .size) (drop (z .size) o)) h
+    pub item-room : Room c s n w objects (r + z .rows) (f (getD l i d)) (g (getD l i d)) (take (length o - z .size) (drop (z .size) o)) h
     item-room = record {
       resolved = rw (b .rows) (rows-part (flat f (take i l)) (f (getD l i d)) (flat f (drop (suc i) l)) (rw (flat-split f l i d inside) at (a .resolved)));
       room = next-room out (flat g (take i l)) (g (getD l i d)) o (z .size) (b .wrote) (part-fits (length out) (a .room));

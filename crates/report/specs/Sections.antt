@@ -18,7 +18,8 @@ use Rattle.meaning.specs.Scan.{Class, isCandidate, candidates}
 use Rattle.packages.specs.Package.{packageIn}
 use Rattle.packages.specs.Row.{exportNo}
 use Rattle.packages.specs.Walk.{packageAt, packagesAt}
-use Rattle.resolve.specs.Rows.{Tables, TargetIn, rowAt, limitsOf}
+use Rattle.resolve.specs.Rows.{Tables, TargetIn, rowAt, ledAt, limitsOf}
+use Rattle.pool.specs.Pool.{TextIn}
 use Rattle.report.specs.declared.section.Section.{Section}
 
 -- what a report is resolved by: the script objects, the classes, how many lookups
@@ -73,16 +74,17 @@ refsIn ps = flat refsOf ps
 
 -- ---- what a writer is lent, and what it did
 
--- a work buffer whose rows from row r on are resolved: refs are what their class indices mean
-pub record ResolvedFrom (c s : List ℕ) (n : ℕ) (w : List ℕ) (r : ℕ) (refs : List Ref) (h : How) : Type 0 where
+-- a work buffer whose rows from row r on are resolved, with texts kept: refs are what their class indices mean
+pub record ResolvedFrom (c s : List ℕ) (n : ℕ) (w : List ℕ) (objects r : ℕ) (refs : List Ref) (h : How) : Type 0 where
   pub tables : Tables c s (h .objects) n (h .classes) w
   pub there : 32 * (r + length refs) ≤ length (drop (48 * n) w)
   pub targets : (k : ℕ) → k < length refs
       → TargetIn s (h .objects) (h .classes) (h .lookups) (drop (48 * n) w) (rowAt (drop (48 * n) w) (r + k)) (getD refs k null)
+  pub texts : (k : ℕ) → k < length refs → TextIn s n objects 0 (length w) w (ledAt w (rowAt w (r + k)))
 
 -- and room for the bytes
-pub record Room (c s : List ℕ) (n : ℕ) (w : List ℕ) (r : ℕ) (refs : List Ref) (bytes out : List ℕ) (h : How) : Type 0 where
-  pub resolved : ResolvedFrom c s n w r refs h
+pub record Room (c s : List ℕ) (n : ℕ) (w : List ℕ) (objects r : ℕ) (refs : List Ref) (bytes out : List ℕ) (h : How) : Type 0 where
+  pub resolved : ResolvedFrom c s n w objects r refs h
   pub room : length bytes ≤ length out
 
 -- the bytes were written, with so many rows
@@ -110,32 +112,32 @@ SectionFilled c objects at h old new z = Filled (refsOf (packageAt c at)) (secti
 -- the room for each, where row r is the first, and what is done with it, however the report is resolved
 module _ (c s : List ℕ) (n : ℕ) (w : List ℕ) (objects : ℕ) where
   abbrev pub ExportRoom : ℕ → ℕ → List ℕ → ℕ → List ℕ → How → Type 0
-  ExportRoom r id d i out h = Room c s n w r (exportRefs (packageIn id d) (exportNo d i)) (exportRow objects h (packageIn id d) (exportNo d i)) out h
+  ExportRoom r id d i out h = Room c s n w objects r (exportRefs (packageIn id d) (exportNo d i)) (exportRow objects h (packageIn id d) (exportNo d i)) out h
 
   abbrev pub ExportPut : ℕ → List ℕ → ℕ → List ℕ → List ℕ → Section → Type 0
   ExportPut r d i old new z = (id : ℕ) (h : How) → ExportRoom r id d i old h → ExportFilled objects id d i h old new z
 
   abbrev pub EachRoom : ℕ → ℕ → List ℕ → List ℕ → How → Type 0
-  EachRoom r id d out h = Room c s n w r (eachRef (packageIn id d)) (eachRow objects h (packageIn id d)) out h
+  EachRoom r id d out h = Room c s n w objects r (eachRef (packageIn id d)) (eachRow objects h (packageIn id d)) out h
 
   abbrev pub EachPut : ℕ → List ℕ → List ℕ → List ℕ → Section → Type 0
   EachPut r d old new z = (id : ℕ) (h : How) → EachRoom r id d old h → EachFilled objects id d h old new z
 
   abbrev pub RowsRoom : ℕ → ℕ → List ℕ → List ℕ → How → Type 0
-  RowsRoom r id d out h = Room c s n w r (refsOf (packageIn id d)) (allRows objects h (packageIn id d)) out h
+  RowsRoom r id d out h = Room c s n w objects r (refsOf (packageIn id d)) (allRows objects h (packageIn id d)) out h
 
   abbrev pub RowsPut : ℕ → List ℕ → List ℕ → List ℕ → Section → Type 0
   RowsPut r d old new z = (id : ℕ) (h : How) → RowsRoom r id d old h → RowsFilled objects id d h old new z
 
   abbrev pub SectionRoom : ℕ → ℕ → List ℕ → How → Type 0
-  SectionRoom r at out h = Room c s n w r (refsOf (packageAt c at)) (sectionOf objects h (packageAt c at)) out h
+  SectionRoom r at out h = Room c s n w objects r (refsOf (packageAt c at)) (sectionOf objects h (packageAt c at)) out h
 
   abbrev pub SectionPut : ℕ → ℕ → List ℕ → List ℕ → Section → Type 0
   SectionPut r at old new z = (h : How) → SectionRoom r at old h → SectionFilled c objects at h old new z
 
   -- for so many packages from a place on
   abbrev pub SectionsRoom : ℕ → ℕ → List ℕ → How → Type 0
-  SectionsRoom at count out h = Room c s n w 0 (refsIn (packagesAt c at count)) (sectionsOf objects h (packagesAt c at count)) out h
+  SectionsRoom at count out h = Room c s n w objects 0 (refsIn (packagesAt c at count)) (sectionsOf objects h (packagesAt c at count)) out h
 
   abbrev pub SectionsPut : ℕ → ℕ → List ℕ → List ℕ → ℕ → Type 0
   SectionsPut at count old new z = (h : How) → SectionsRoom at count old h → Wrote old (sectionsOf objects h (packagesAt c at count)) new z

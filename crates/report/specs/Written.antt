@@ -18,7 +18,8 @@ use Rattle.packages.specs.Walk.{packagesAt}
 use Rattle.packages.specs.declared.package.Parts.{Parts}
 use Rattle.packages.specs.declared.rows.Row.{Row}
 use Rattle.resolve.specs.Classes.{classNo, ClassesIn}
-use Rattle.resolve.specs.Rows.{classNumber, objectNumber, columnsOf, limitsOf, Tables, Resolved}
+use Rattle.resolve.specs.Rows.{classNumber, objectNumber, columnsOf, limitsOf, Tables}
+use Rattle.pool.specs.Pool.{TextIn, Pooled}
 use Rattle.walk.specs.Found.{classesIn, foundIn}
 use Rattle.resolve.specs.declared.rows.Led.{Led}
 use Rattle.report.specs.declared.texts.Both.{Both}
@@ -34,11 +35,12 @@ pub record Put (t : Option (List ℕ)) (old new : List ℕ) (r : Told) : Type 0 
   pub wrote : Wrote old (textBytes (orUnknown t)) new (r .size)
   pub known : r .known ≡ isSome t
 
--- l is where the reference r leads, in a work buffer with these tables
-pub record Target (s b : List ℕ) (o : Objects) (n : ℕ) (xs : List Class) (lookups : ℕ) (w : List ℕ) (r : Ref) (l : Led) : Type 0 where
+-- l is where the reference r leads, in a work buffer with these tables, and what it keeps of a text is right
+pub record Target (s b : List ℕ) (o : Objects) (n : ℕ) (xs : List Class) (lookups objects : ℕ) (w : List ℕ) (r : Ref) (l : Led) : Type 0 where
   pub tables : Tables s b o n xs w
   pub class : l .class ≡ classNumber xs r
   pub object : l .object ≡ columnsOf b o (objectNumber lookups xs o r)
+  pub text : TextIn b n objects 0 (length w) w l
 
 -- the class and the native class of a reference
 abbrev pub classOf : Limits → List Class → Objects → Ref → Option (List ℕ)
@@ -71,7 +73,7 @@ pub record NativeRoom (b : List ℕ) (n objects : ℕ) (w : List ℕ) (l : Led) 
   pub classes : List Class
   pub lookups : ℕ
   pub ref : Ref
-  pub target : Target corpus b read n classes lookups w ref l
+  pub target : Target corpus b read n classes lookups objects w ref l
   pub room : length (textBytes (orUnknown (nativeText (limitsOf lookups objects) classes read ref))) ≤ length out
 
 pub record BothRoom (s b : List ℕ) (n objects : ℕ) (w : List ℕ) (l : Led) (out : List ℕ) : Type 0 where
@@ -79,7 +81,7 @@ pub record BothRoom (s b : List ℕ) (n objects : ℕ) (w : List ℕ) (l : Led) 
   pub classes : List Class
   pub lookups : ℕ
   pub ref : Ref
-  pub target : Target s b read n classes lookups w ref l
+  pub target : Target s b read n classes lookups objects w ref l
   pub room : length (bothTexts (limitsOf lookups objects) classes read ref) ≤ length out
 
 -- the row of export i of the package with this id, whose block d is
@@ -94,15 +96,15 @@ pub record RowRoom (s b : List ℕ) (n objects : ℕ) (w d : List ℕ) (p : Part
   pub number : ℕ
   pub inside : number < p .count
   pub row-is : v ≡ rowIn d p (candidateKind (readIn d) (exportNo d number)) number
-  pub target : Target s b read n classes lookups w (refIn (packageIn id d) (exportNo d number .class)) l
+  pub target : Target s b read n classes lookups objects w (refIn (packageIn id d) (exportNo d number .class)) l
   pub room : length (rowFor (limitsOf lookups objects) classes read id d number) ≤ length out
 
--- the report of a corpus whose n packages from a place on were read, and resolved
+-- the report of a corpus whose n packages from a place on were read, and resolved, with texts kept
 abbrev pub reportAt : Limits → Objects → List ℕ → ℕ → ℕ → List ℕ
 reportAt m o s at count = reportOf m o (packagesAt s at count)
 
 pub record Ready (s b : List ℕ) (o : Objects) (n at count lookups objects : ℕ) (w : List ℕ) : Type 0 where
-  pub holds : Resolved s b o n (classesIn (foundIn objects o s at count)) lookups (foundIn objects o s at count .refs) w
+  pub holds : Pooled s b o n (classesIn (foundIn objects o s at count)) lookups objects (foundIn objects o s at count .refs) w
 
 pub record ReportRoom (s b : List ℕ) (n at count objects : ℕ) (w out : List ℕ) : Type 0 where
   pub read : Objects

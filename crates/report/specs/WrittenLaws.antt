@@ -31,11 +31,14 @@ use Rattle.objects.specs.Work.{objectNo, Stands}
 use Rattle.objects.specs.declared.object.Object.{Object}
 use Rattle.objects.specs.declared.path.Path.{Path as Told}
 use Rattle.objects.specs.declared.path.Path.the-variants.{Known, Unknown}
+use Rattle.table.specs.Words.{mid}
+use Rattle.table.specs.WordLaws.{mid-length}
+use Rattle.pool.specs.Pool.{TextOf, TextAt}
 use Rattle.resolve.specs.Classes.{classNo}
 use Rattle.resolve.specs.Lent.{lent-part, lent-length}
 use Rattle.resolve.specs.Rows.{objectNumber, columnsOf, pathBy, limitsOf}
 use Rattle.resolve.specs.RowsLaws.{class-inside, class-lost, class-found, object-inside, native-by}
-use Rattle.report.specs.Written.{Put, Target, classOf, nativeText}
+use Rattle.report.specs.Written.{isSome, Put, Target, classOf, nativeText}
 use Rattle.resolve.specs.declared.rows.Led.{Led}
 use Rattle.report.specs.declared.texts.Told.{Told as Text}
 
@@ -152,7 +155,7 @@ lost-path limit b o i e = go (ℕ-discrete limit 0)
     go (yes z) = path-end limit o i (omega arith)
     go (no z) = path-lost limit o i (omega arith) (outer-no b o i) e
 
-module _ {c b : List ℕ} {o : Objects} {n : ℕ} {xs : List Class} {lookups : ℕ} {w : List ℕ} {r : Ref} {l : Led} (t : Target c b o n xs lookups w r l) (objects : ℕ) where
+module _ {c b : List ℕ} {o : Objects} {n : ℕ} {xs : List Class} {lookups objects : ℕ} {w : List ℕ} {r : Ref} {l : Led} (t : Target c b o n xs lookups objects w r l) where
   native-path : nativeText (limitsOf lookups objects) xs o r ≡ pathText (pathBy objects o (objectNumber lookups xs o r))
   native-path = ap pathText (native-by (t .tables) (limitsOf lookups objects) r)
 
@@ -203,9 +206,38 @@ module _ {c b : List ℕ} {o : Objects} {n : ℕ} {xs : List Class} {lookups : �
           → Put (nativeText (limitsOf lookups objects) xs o r) s q (record { size = 4 + k; known = true })
       native-found e v = rw (native-some z .1) (found-put s path-of path-room written e v)
 
+-- ---- the native class's text, kept in the work buffer
+
+module _ {c b : List ℕ} {o : Objects} {n : ℕ} {xs : List Class} {lookups objects : ℕ} {w : List ℕ} {r : Ref} {l : Led} (t : Target c b o n xs lookups objects w r l)
+    (z : l .size ≡ 0 → ⊥) where
+  text-at : TextAt b n objects 0 (length w) w (l .object) (l .text) (l .size)
+  text-at = t .text .kept z
+
+  text-of : TextOf (pathNo objects o (native-some t (text-at .there) .0)) (mid (l .text) (l .size) w)
+  text-of = text-at .is o (native-some t (text-at .there) .0) (native-some t (text-at .there) .2)
+
+  native-is : nativeText (limitsOf lookups objects) xs o r ≡ some (text-of .path .text)
+  native-is = native-some t (text-at .there) .1 ∙ ap pathText (text-of .known)
+
+  pub kept-is : mid (l .text) (l .size) w ≡ textBytes (orUnknown (nativeText (limitsOf lookups objects) xs o r))
+  kept-is = text-of .is ∙ ap (λ (x : Option (List ℕ)). textBytes (orUnknown x)) (sym native-is)
+
+  pub kept-inside : l .text + l .size ≤ length w
+  kept-inside = text-at .before
+
+  pub kept-size : l .size ≡ length (textBytes (orUnknown (nativeText (limitsOf lookups objects) xs o r)))
+  kept-size = sym (mid-length (l .text) (l .size) w kept-inside) ∙ ap length kept-is
+
+  pub kept-put : {s q : List ℕ} {k : ℕ} → Wrote s (mid (l .text) (l .size) w) q k
+      → Put (nativeText (limitsOf lookups objects) xs o r) s q (record { size = l .size; known = true })
+  kept-put v = record {
+    wrote = wrote-count (wrote-as v kept-is) (v .size ∙ mid-length (l .text) (l .size) w kept-inside);
+    known = ap isSome (sym native-is);
+  }
+
 -- ---- the class
 
-module _ {c b : List ℕ} {o : Objects} {n : ℕ} {xs : List Class} {lookups : ℕ} {w : List ℕ} {r : Ref} {l : Led} (t : Target c b o n xs lookups w r l) (objects : ℕ) where
+module _ {c b : List ℕ} {o : Objects} {n : ℕ} {xs : List Class} {lookups objects : ℕ} {w : List ℕ} {r : Ref} {l : Led} (t : Target c b o n xs lookups objects w r l) where
   -- where there is no class of the table it is the native class
   pub class-same : l .class ≡ 0 → classOf (limitsOf lookups objects) xs o r ≡ nativeText (limitsOf lookups objects) xs o r
   class-same z = class-lost (limitsOf lookups objects) xs o r (sym (t .class) ∙ z)

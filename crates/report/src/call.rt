@@ -21,6 +21,7 @@ use batch::notes::note_names;
 use packages::frame::Frame;
 use packages::frame::Framed;
 use packages::frame::read_frame;
+use pool::rows::pool_texts;
 use resolve::links::link_classes;
 use resolve::rows::resolve_all;
 use scan::check::Blocks;
@@ -94,6 +95,7 @@ fn finish(
     if report.len() < size {
         return refuse(26, 0);
     }
+    pool_texts(s, w, n, t.classes, t.rows, objects);
     put_report(
         report,
         c,

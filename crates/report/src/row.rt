@@ -119,7 +119,7 @@ fn put_texts(
 ) -> Texts
     requires { ⌜ PackageIn (now b) p × Noted (now b) (p .names) (now names) × Noted (now b) (p .imported) (now imported) × (kind ≡ kindBy p (v .class)) ⌝ }
     requires { ⌜ TextsRoom (now c) (now s) n objects (now w) (now b) p v l (now out) ⌝ }
-    ensures { λ t. ⌜ ((o : Objects) (xs : List Class) (lookups id i : ℕ) → RowDue (now (c .entry)) (now (s .entry)) n (now (w .entry)) (now (b .entry)) p v l o xs lookups id i
+    ensures { λ t. ⌜ ((o : Objects) (xs : List Class) (lookups id i : ℕ) → RowDue (now (c .entry)) (now (s .entry)) n objects (now (w .entry)) (now (b .entry)) p v l o xs lookups id i
         → length (rowTexts (rowNo (limitsOf lookups objects) xs o id (now (b .entry)) i)) ≤ length (now (out .entry))
         → TextsPut (rowNo (limitsOf lookups objects) xs o id (now (b .entry)) i) (now (out .entry)) (now (out .exit)) t) ⌝ }
 {
@@ -153,7 +153,7 @@ pub fn put_row(
     requires { ⌜ PackageIn (now b) p × Noted (now b) (p .names) (now names) × Noted (now b) (p .imported) (now imported) ⌝ }
     requires { ⌜ RowRoom (now c) (now s) n objects (now w) (now b) p v l (now out) ⌝ }
     ensures { λ r. ⌜ ((o : Objects) (xs : List Class) (lookups id i : ℕ) → i < p .count → v ≡ rowIn (now (b .entry)) p (candidateKind (readIn (now (b .entry))) (exportNo (now (b .entry)) i)) i
-        → Target (now (c .entry)) (now (s .entry)) o n xs lookups (now (w .entry)) (refIn (packageIn id (now (b .entry))) (exportNo (now (b .entry)) i .class)) l
+        → Target (now (c .entry)) (now (s .entry)) o n xs lookups objects (now (w .entry)) (refIn (packageIn id (now (b .entry))) (exportNo (now (b .entry)) i .class)) l
         → length (rowFor (limitsOf lookups objects) xs o id (now (b .entry)) i) ≤ length (now (out .entry))
         → Wrote (now (out .entry)) (rowFor (limitsOf lookups objects) xs o id (now (b .entry)) i) (now (out .exit)) r) ⌝ }
 {

@@ -1,11 +1,13 @@
 // Class and native class of a row, written as texts.
 ghost use mathlib.Core.List.{List, _++_};
 ghost use mathlib.Core.Option.{none};
+ghost use mathlib.Core.Path.{_≡_};
 ghost use Prim.Native.Nat.{ℕ, _+_, _*_, _≤_, _<_};
 ghost use lib.ListN.{length, drop};
 ghost use Rattle.text.specs.Name.{textBytes};
 ghost use Rattle.base.specs.Number.{beBytes};
 ghost use Rattle.base.specs.Output.{Wrote};
+ghost use Rattle.table.specs.Words.{mid};
 ghost use Rattle.scriptblock.specs.Script.{Objects};
 ghost use Rattle.meaning.specs.Reference.{Ref};
 ghost use Rattle.meaning.specs.Report.{orUnknown};
@@ -18,6 +20,7 @@ use objects::path::Path;
 use objects::path::put_path;
 use resolve::paths::put_class_path;
 use resolve::rows::Led;
+use text::plain::put_plain;
 
 // A length or a count in 4 bytes: of a number beyond them its low bytes.
 pub fn put_length(out: &mut [u8], n: usize) -> usize
@@ -46,10 +49,10 @@ fn put_unknown(out: &mut [u8]) -> Told
     }
 }
 
-// The native class's text; w is the work buffer, with n script objects of the block s in front.
-fn put_native(out: &mut [u8], s: &[u8], w: &[u8], n: usize, l: Led, objects: usize) -> Told
+// The native class's text, composed; w is the work buffer, with n script objects of the block s in front.
+fn compose_native(out: &mut [u8], s: &[u8], w: &[u8], n: usize, l: Led, objects: usize) -> Told
     requires { ⌜ NativeRoom (now s) n objects (now w) l (now out) ⌝ }
-    ensures { λ t. ⌜ ((c : List ℕ) (o : Objects) (xs : List Class) (lookups : ℕ) (r : Ref) → Target c (now (s .entry)) o n xs lookups (now (w .entry)) r l
+    ensures { λ t. ⌜ ((c : List ℕ) (o : Objects) (xs : List Class) (lookups : ℕ) (r : Ref) → Target c (now (s .entry)) o n xs lookups objects (now (w .entry)) r l
         → length (textBytes (orUnknown (nativeText (limitsOf lookups objects) xs o r))) ≤ length (now (out .entry))
         → Put (nativeText (limitsOf lookups objects) xs o r) (now (out .entry)) (now (out .exit)) t) ⌝ }
 {
@@ -69,6 +72,23 @@ fn put_native(out: &mut [u8], s: &[u8], w: &[u8], n: usize, l: Led, objects: usi
             }
         }
     }
+}
+
+// The native class's text, as the row keeps it, or composed.
+fn put_native(out: &mut [u8], s: &[u8], w: &[u8], n: usize, l: Led, objects: usize) -> Told
+    requires { ⌜ NativeRoom (now s) n objects (now w) l (now out) ⌝ }
+    ensures { λ t. ⌜ ((c : List ℕ) (o : Objects) (xs : List Class) (lookups : ℕ) (r : Ref) → Target c (now (s .entry)) o n xs lookups objects (now (w .entry)) r l
+        → length (textBytes (orUnknown (nativeText (limitsOf lookups objects) xs o r))) ≤ length (now (out .entry))
+        → Put (nativeText (limitsOf lookups objects) xs o r) (now (out .entry)) (now (out .exit)) t) ⌝ }
+{
+    let size = l.size;
+    if size == 0 {
+        return compose_native(out, s, w, n, l, objects);
+    }
+    let text = l.text;
+    let end = text + size;
+    put_plain(out, &w[text..end]);
+    Told { size, known: true }
 }
 
 // The text of class i of the table behind the n script objects.
@@ -95,6 +115,22 @@ fn put_again(out: &mut [u8], n: usize) -> usize
     n + n
 }
 
+// The native class's text, which the first n bytes are, once more behind them: as the row keeps it, or as it stands there.
+fn put_second(out: &mut [u8], w: &[u8], l: Led, n: usize) -> usize
+    requires { ⌜ (n + n ≤ length (now out)) × ((l .size ≡ 0 → ⊥) → (l .text + l .size ≤ length (now w)) × (l .size ≡ n)) ⌝ }
+    ensures { λ r. ⌜ ((old a : List ℕ) → Wrote old a (now (out .entry)) n → ((l .size ≡ 0 → ⊥) → mid (l .text) (l .size) (now (w .entry)) ≡ a)
+        → Wrote old (a ++ a) (now (out .exit)) r) ⌝ }
+{
+    let size = l.size;
+    if size == 0 {
+        return put_again(out, n);
+    }
+    let text = l.text;
+    let end = text + size;
+    put_plain(&mut out[n..], &w[text..end]);
+    n + size
+}
+
 // Class and native class: how many bytes their texts take, and whether they are known.
 pub struct Both {
     pub size: usize,
@@ -113,14 +149,14 @@ pub fn put_both(
     objects: usize,
 ) -> Both
     requires { ⌜ BothRoom (now c) (now s) n objects (now w) l (now out) ⌝ }
-    ensures { λ t. ⌜ ((o : Objects) (xs : List Class) (lookups : ℕ) (r : Ref) → Target (now (c .entry)) (now (s .entry)) o n xs lookups (now (w .entry)) r l
+    ensures { λ t. ⌜ ((o : Objects) (xs : List Class) (lookups : ℕ) (r : Ref) → Target (now (c .entry)) (now (s .entry)) o n xs lookups objects (now (w .entry)) r l
         → length (bothTexts (limitsOf lookups objects) xs o r) ≤ length (now (out .entry))
         → BothPut (limitsOf lookups objects) xs o r (now (out .entry)) (now (out .exit)) t) ⌝ }
 {
     if l.class == 0 {
         let t = put_native(out, s, w, n, l, objects);
         return Both {
-            size: put_again(out, t.size),
+            size: put_second(out, w, l, t.size),
             class: t.known,
             native: t.known,
         };

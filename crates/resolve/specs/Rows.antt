@@ -1,6 +1,7 @@
 -- What the end of the work buffer holds of the rows: row r has 32 bytes, from the end on. First the two words that its class index means (0, 8);
 -- once it is resolved one more than the number of its class, or 0 (0), and the columns of the script object that its chain leads to (4, 8, 12, 16),
--- all 0 where there is none. Then the whole work buffer, and what linking changes in it. Assumes nothing.
+-- all 0 where there is none; where that object's text stands, and its size (20, 24: crates/pool). Then the whole work buffer, and what linking changes
+-- in it. Assumes nothing.
 use mathlib.Core.Path.{_≡_}
 use mathlib.Core.Logic.{_⊎_}
 use mathlib.Core.List.{List}
@@ -95,6 +96,8 @@ abbrev pub ledAt : List ℕ → ℕ → Led
 ledAt w at = record {
   class = leAt 4 w at;
   object = record { outer = leAt 4 w (at + 4); start = leAt 4 w (at + 8); size = leAt 4 w (at + 12); number = leAt 4 w (at + 16) };
+  text = leAt 4 w (at + 20);
+  size = leAt 4 w (at + 24);
 }
 
 -- the rows whose class indices mean refs are kept; they are resolved

@@ -34,10 +34,13 @@ pub fn put_words(w: &mut [u8], r: usize, m: Words)
     set64(w, at + 8, m.hi);
 }
 
-// Where a resolved row leads: one more than the number of its class, or 0; the columns of its script object, all 0 where there is none.
+// Where a resolved row leads: one more than the number of its class, or 0; the columns of its script object, all 0 where there is none; once the
+// texts are pooled where that object's text stands in the work buffer, and its size, 0 where it isn't kept.
 pub struct Led {
     pub class: usize,
     pub object: Object,
+    pub text: usize,
+    pub size: usize,
 }
 
 // Where row r leads.
@@ -54,6 +57,8 @@ pub fn led_at(w: &[u8], r: usize) -> Led
             size: get32(w, at + 12),
             number: le32(w, at + 16),
         },
+        text: get32(w, at + 20),
+        size: get32(w, at + 24),
     }
 }
 

@@ -2,7 +2,7 @@
 use native.Mathlib.Omega.{arith}
 use borrow.Author.Needs.{needs}
 use Rattle.walk.specs.OpenLaws.{begun-sites, begun-few}
-use Rattle.report.proofs.Finished.{gathered-classes, gathered-kept, Summed, finish-beyond, finish-outside, finish-room, finish-report}
+use Rattle.report.proofs.Finished.{gathered-classes, gathered-kept, Summed, finish-beyond, finish-outside, finish-roomy, finish-room, finish-report}
 use Rattle.report.proofs.call.finish.Statement.{statement}
 use Rattle.report.proofs.call.finish.Tie as tie
 
@@ -32,23 +32,30 @@ returns c = finish-beyond (summed (c .before .before .before .before .before)) (
 returns-2 : tie.Need-returns-2
 returns-2 c = finish-outside (summed (c .before .before .before .before .before .before)) (c .before .if2 .taken) (c .refuse2 .ensures)
 
+pool-texts-requires : tie.Need-pool-texts-requires
+pool-texts-requires c κs =
+    let r = c .before .before .before .before .before .before in
+    (finish-roomy (summed r) (r .before .before .before .before .link-classes .kept .0), r .before .before .before .before .before .before .before .before .before .before .pre .0 .3)
+
 add-put-report : tie.Need-add-put-report
-add-put-report c = omega (arith, begun-few (summed (c .before .before .before .before .before .before .before) .begun) .1)
+add-put-report c = omega (arith, begun-few (summed (c .before .before .before .before .before .before .before .before .before .before .before) .begun) .1)
 
 put-report-requires : tie.Need-put-report-requires
 put-report-requires c κs =
-    let e = c .before .before .before .before .before in
+    let p = c .before .before .before .before .before .before .before in
+    let e = p .before .before in
     let r = e .before .before .before .before .before in
     let z = summed r in
     let (names, imported) = r .before .before .before .before .before .before .before .before .before .before .pre .1 in (
       (begun-sites (z .begun), z .packages, omega (arith, begun-few (z .begun) .0), names, imported),
-      finish-room z _ (e .before .if1 .left) (e .if2 .left),
+      finish-room z (p .pool-texts .ensures) _ (e .before .if1 .left) (e .if2 .left),
     )
 
 returns-3 : tie.Need-returns-3
 returns-3 c =
-    let e = c .before .before .before .before .before .before .before .before in
-    finish-report (summed (e .before .before .before .before .before)) (e .before .if1 .left) (e .if2 .left) (c .before .before .put-report .ensures)
+    let p = c .before .before .before .before .before .before .before .before .before .before in
+    let e = p .before .before in
+    finish-report (summed (e .before .before .before .before .before)) (p .pool-texts .ensures) (e .before .if1 .left) (e .if2 .left) (c .before .before .put-report .ensures)
 
 pub finish-spec : {M : Type 1} → statement M
 finish-spec =
@@ -63,6 +70,7 @@ finish-spec =
     (search needs)
     (search needs)
     returns-2
+    pool-texts-requires
     add-put-report
     put-report-requires
     (search needs)

@@ -24,7 +24,7 @@ texts-fit objects xs o lookups id d i out h =
 
 -- what is due, and that it fits
 abbrev Due : tie.Start → Objects → List Class → ℕ → ℕ → ℕ → Type 0
-Due s o xs lookups id i = let a = s .args in RowDue (a .c .now) (a .s .now) (a .n) (a .w .now) (a .b .now) (a .p) (a .v) (a .l) o xs lookups id i
+Due s o xs lookups id i = let a = s .args in RowDue (a .c .now) (a .s .now) (a .n) (a .objects) (a .w .now) (a .b .now) (a .p) (a .v) (a .l) o xs lookups id i
 
 due : (s : tie.Start) → let r = s .pre .1 in Due s (r .read) (r .classes) (r .lookups) (r .id) (r .number)
 due s = let r = s .pre .1 in record { inside = r .inside; row-is = r .row-is; target = r .target }
@@ -62,13 +62,13 @@ returns c = λ o xs lookups id i inside is target room.
     let s = c .before .before .before .before .before .before .before .before .before .before .before .before .before .before .before in
     let d : Due s o xs lookups id i = record { inside = inside; row-is = is; target = target } in
     let f = texts-fit (s .args .objects) xs o lookups id (s .args .b .now) i (s .args .out .now) room in
-    row-wrote (s .pre .0 .0) d (s .args .objects) (s .args .out .now) (c .before .before .before .before .before .before .before .before .before .kind-of .ensures) (f .0) (c .before .before .before .before .before .before .before .put-texts .ensures o xs lookups id i d (f .1)) (c .before .before .before .put-front .ensures)
+    row-wrote (s .pre .0 .0) d (s .args .out .now) (c .before .before .before .before .before .before .before .before .before .kind-of .ensures) (f .0) (c .before .before .before .before .before .before .before .put-texts .ensures o xs lookups id i d (f .1)) (c .before .before .before .put-front .ensures)
 
 add-result : tie.Need-add-result
 add-result c =
     let s = c .before .before .before .before .before .before .before .before .before .before .before .before .before .before .before in
     let r = s .pre .1 in
-    let w = row-wrote (s .pre .0 .0) (due s) (s .args .objects) (s .args .out .now) (c .before .before .before .before .before .before .before .before .before .kind-of .ensures) (fit s .0) (c .before .before .before .before .before .before .before .put-texts .ensures (r .read) (r .classes) (r .lookups) (r .id) (r .number) (due s) (fit s .1)) (c .before .before .before .put-front .ensures) in
+    let w = row-wrote (s .pre .0 .0) (due s) (s .args .out .now) (c .before .before .before .before .before .before .before .before .before .kind-of .ensures) (fit s .0) (c .before .before .before .before .before .before .before .put-texts .ensures (r .read) (r .classes) (r .lookups) (r .id) (r .number) (due s) (fit s .1)) (c .before .before .before .put-front .ensures) in
     omega (arith, w .fits)
 
 same-length : tie.Need-same-length

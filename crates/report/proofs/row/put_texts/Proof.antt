@@ -26,8 +26,8 @@ use Rattle.report.proofs.row.put_texts.Statement.{statement}
 use Rattle.report.proofs.row.put_texts.Tie as tie
 
 -- what is due, and its texts in the order in which they are written
-module _ {s b : List ℕ} {n : ℕ} {w d : List ℕ} {p : Parts} {v : Row} {l : Led} {o : Objects} {xs : List Class} {lookups id i : ℕ} (a : PackageIn d p) (y : Bytes d)
-    (due : RowDue s b n w d p v l o xs lookups id i) (objects : ℕ) (out : List ℕ) (room : length (rowTexts (rowNo (limitsOf lookups objects) xs o id d i)) ≤ length out) where
+module _ {s b : List ℕ} {n objects : ℕ} {w d : List ℕ} {p : Parts} {v : Row} {l : Led} {o : Objects} {xs : List Class} {lookups id i : ℕ} (a : PackageIn d p) (y : Bytes d)
+    (due : RowDue s b n objects w d p v l o xs lookups id i) (out : List ℕ) (room : length (rowTexts (rowNo (limitsOf lookups objects) xs o id d i)) ≤ length out) where
   abbrev ref : Ref
   ref = refIn (packageIn id d) (exportNo d i .class)
 
@@ -38,7 +38,7 @@ module _ {s b : List ℕ} {n : ℕ} {w d : List ℕ} {p : Parts} {v : Row} {l : 
   text₂ = bothTexts (limitsOf lookups objects) xs o ref
 
   all : length (text₁ ++ text₂ ++ referenceText d (v .class)) ≤ length out
-  all = rw (texts-are a due objects y) at room
+  all = rw (texts-are a due y) at room
 
   two : length (text₁ ++ text₂) ≤ length out
   two = front-fits (text₁ ++ text₂) (referenceText d (v .class)) (length out) all
@@ -51,7 +51,7 @@ module _ {s b : List ℕ} {n : ℕ} {w d : List ℕ} {p : Parts} {v : Row} {l : 
     both-fit = next-room out text₁ text₂ o₁ k₁ w₁ two
 
     module _ {o₂ : List ℕ} {t₂ : Both}
-        (put₂ : (o : Objects) (xs : List Class) (lookups : ℕ) (r : Ref) → Target s b o n xs lookups w r l
+        (put₂ : (o : Objects) (xs : List Class) (lookups : ℕ) (r : Ref) → Target s b o n xs lookups objects w r l
         → length (bothTexts (limitsOf lookups objects) xs o r) ≤ length (behind k₁ o₁) → BothPut (limitsOf lookups objects) xs o r (behind k₁ o₁) o₂ t₂) where
       both-put : BothPut (limitsOf lookups objects) xs o ref (behind k₁ o₁) o₂ t₂
       both-put = put₂ o xs lookups ref (due .target) both-fit
@@ -69,7 +69,7 @@ module _ {s b : List ℕ} {n : ℕ} {w d : List ℕ} {p : Parts} {v : Row} {l : 
         done : TextsPut (rowNo (limitsOf lookups objects) xs o id d i) out (again (k₁ + t₂ .size) (again k₁ o₁ o₂) o₃)
             (record { size = k₁ + t₂ .size + k₃; class = t₂ .class; native = t₂ .native })
         unfolding rowOf
-        done = record { wrote = rw (texts-are a due objects y) (wrote-rest both-wrote w₃); class = both-put .class; native = both-put .native }
+        done = record { wrote = rw (texts-are a due y) (wrote-rest both-wrote w₃); class = both-put .class; native = both-put .native }
 
 put-names-requires : tie.Need-put-names-requires
 put-names-requires c κs =
@@ -77,7 +77,7 @@ put-names-requires c κs =
     let a = s .pre .0 .0 in
     let r = s .pre .1 in
     let y : Bytes (s .args .b .now) = λ j. c .before .shared-slice-known4 .given j .fits in
-    (due-holds a (r .due) (s .args .objects) y, names-fit a y (r .due) (s .args .objects) (s .args .out .now) (r .room))
+    (due-holds a (r .due) y, names-fit a y (r .due) (s .args .out .now) (r .room))
 
 put-both-requires : tie.Need-put-both-requires
 put-both-requires c κs =
@@ -91,7 +91,7 @@ put-both-requires c κs =
       lookups = r .lookups;
       ref = _;
       target = r .due .target;
-      room = both-fit (s .pre .0 .0) y (r .due) (s .args .objects) (s .args .out .now) (r .room) (n .put-names .ensures);
+      room = both-fit (s .pre .0 .0) y (r .due) (s .args .out .now) (r .room) (n .put-names .ensures);
     }
 
 -- names and classes are written
@@ -103,7 +103,7 @@ second c =
     let s = n .before .before .before .before .before .before .before in
     let r = s .pre .1 in
     let y : Bytes (s .args .b .now) = λ j. n .before .before .shared-slice-known4 .given j .fits in
-    both-in (s .pre .0 .0) y (r .due) (s .args .objects) (s .args .out .now) (r .room) (n .put-names .ensures) (p .put-both .ensures)
+    both-in (s .pre .0 .0) y (r .due) (s .args .out .now) (r .room) (n .put-names .ensures) (p .put-both .ensures)
 
 add-second : tie.Need-add-second
 add-second c = omega (arith, second c .0)
@@ -122,7 +122,7 @@ put-ref-requires c κs =
     let k = s .pre .0 in
     let r = s .pre .1 in
     let y : Bytes (s .args .b .now) = λ j. n .before .before .shared-slice-known4 .given j .fits in
-    (k .0, k .1, k .2, k .3, ref-fits (k .0) y (r .due) (s .args .objects) (s .args .out .now) (r .room) (n .put-names .ensures) (p .put-both .ensures))
+    (k .0, k .1, k .2, k .3, ref-fits (k .0) y (r .due) (s .args .out .now) (r .room) (n .put-names .ensures) (p .put-both .ensures))
 
 add-size : tie.Need-add-size
 add-size c =
@@ -131,7 +131,7 @@ add-size c =
     let s = n .before .before .before .before .before .before .before in
     let r = s .pre .1 in
     let y : Bytes (s .args .b .now) = λ j. n .before .before .shared-slice-known4 .given j .fits in
-    let t = done (s .pre .0 .0) y (r .due) (s .args .objects) (s .args .out .now) (r .room) (n .put-names .ensures) (p .put-both .ensures) (c .before .before .put-ref .ensures) in
+    let t = done (s .pre .0 .0) y (r .due) (s .args .out .now) (r .room) (n .put-names .ensures) (p .put-both .ensures) (c .before .before .put-ref .ensures) in
     omega (arith, t .wrote .fits)
 
 same-length : tie.Need-same-length
@@ -143,7 +143,7 @@ returns c = λ o xs lookups id i due room.
     let n = p .before .before .before .before in
     let s = n .before .before .before .before .before .before .before in
     let y : Bytes (s .args .b .now) = λ j. n .before .before .shared-slice-known4 .given j .fits in
-    done (s .pre .0 .0) y due (s .args .objects) (s .args .out .now) room (n .put-names .ensures) (p .put-both .ensures) (c .before .before .put-ref .ensures)
+    done (s .pre .0 .0) y due (s .args .out .now) room (n .put-names .ensures) (p .put-both .ensures) (c .before .before .put-ref .ensures)
 
 pub put-texts-spec : {M : Type 1} → statement M
 put-texts-spec =

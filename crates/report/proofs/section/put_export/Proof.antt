@@ -27,7 +27,7 @@ module _ (objects id : ℕ) (d : List ℕ) (i k : ℕ) (e : k ≡ candidateKind 
   none z = rw (no-candidate (readIn d) (exportNo d i) (cc)) (filled-none out)
 
   module _ (is : k ≡ 0 → ⊥) where
-    one : Room c s n w r (classRef (packageIn id d) (exportNo d i) ∷ []) (rowFor (limitsOf (h .lookups) objects) (h .classes) (h .objects) id d i) out h
+    one : Room c s n w objects r (classRef (packageIn id d) (exportNo d i) ∷ []) (rowFor (limitsOf (h .lookups) objects) (h .classes) (h .objects) id d i) out h
     one = rw (is-candidate (readIn d) (exportNo d i) (λ z. is (e ∙ z))) at a
 
     -- its row is there
@@ -35,7 +35,7 @@ module _ (objects id : ℕ) (d : List ℕ) (i k : ℕ) (e : k ≡ candidateKind 
     there = (one .resolved .tables .room, rw (lent-part (48 * n) w) (omega (arith, one .resolved .there)))
 
     target : (l : Led) → l ≡ ledAt (take (length w - 48 * n) (drop (48 * n) w)) (rowAt (take (length w - 48 * n) (drop (48 * n) w)) r)
-        → Target c s (h .objects) n (h .classes) (h .lookups) w (classRef (packageIn id d) (exportNo d i)) l
+        → Target c s (h .objects) n (h .classes) (h .lookups) objects w (classRef (packageIn id d) (exportNo d i)) l
     target l q = let z : l ≡ ledAt (drop (48 * n) w) (rowAt (drop (48 * n) w) r) = rw (lent-part (48 * n) w) at q in rw z (row-target (one .resolved))
 
     row-room : (p : Parts) → i < p .count → (v : Row) → v ≡ rowIn d p k i → (l : Led)

@@ -23,7 +23,7 @@ use Rattle.report.proofs.section.put_section.Tie as tie
 
 -- the rows behind the head, of any package
 module _ (objects : ℕ) (p : Package) {c s : List ℕ} {n : ℕ} {w : List ℕ} {first : ℕ} {out : List ℕ} {h : How}
-    (a : Room c s n w first (refsOf p) (sectionOf objects h p) out h) where
+    (a : Room c s n w objects first (refsOf p) (sectionOf objects h p) out h) where
   whole : length (headOf p ++ allRows objects h p) ≤ length out
   whole = rw (section-is objects h p) at (a .room)
 
@@ -31,7 +31,7 @@ module _ (objects : ℕ) (p : Package) {c s : List ℕ} {n : ℕ} {w : List ℕ}
   head-fits = front-fits (headOf p) (allRows objects h p) (length out) whole
 
   module _ {o : List ℕ} {k : ℕ} (v : Wrote out (headOf p) o k) where
-    rows-room : Room c s n w first (refsOf p) (allRows objects h p) (take (length o - k) (drop k o)) h
+    rows-room : Room c s n w objects first (refsOf p) (allRows objects h p) (take (length o - k) (drop k o)) h
     rows-room = record { resolved = a .resolved; room = next-room out (headOf p) (allRows objects h p) o k v whole }
 
     filled : {q : List ℕ} {z : Section} → Filled (refsOf p) (allRows objects h p) (take (length o - k) (drop k o)) q z
@@ -55,7 +55,7 @@ count-few {d} {p} k l = go (p .count) refl
 -- what is said of the package at a place is said of it
 module _ (c : List ℕ) (objects at id : ℕ) (d : List ℕ) (e : d ≡ blockAt c at) (f : id ≡ beAt 8 c at) (h : How) where
   room-here : {s : List ℕ} {n : ℕ} {w : List ℕ} {first : ℕ} {out : List ℕ} → SectionRoom c s n w objects first at out h
-      → Room c s n w first (refsOf (packageIn id d)) (sectionOf objects h (packageIn id d)) out h
+      → Room c s n w objects first (refsOf (packageIn id d)) (sectionOf objects h (packageIn id d)) out h
   room-here a = rw (e, f) a
 
   filled-here : {out o : List ℕ} {z : Section} → Filled (refsOf (packageIn id d)) (sectionOf objects h (packageIn id d)) out o z
@@ -79,7 +79,7 @@ room : (c : tie.After-id-at)
     let b = p .before .before in
     let u = b .before .before .before .before .before .args in
     (h : How) → SectionRoom (u .c .now) (u .s .now) (u .n) (u .w .now) (u .objects) (u .first) (u .at) (u .out .now) h
-    → Room (u .c .now) (u .s .now) (u .n) (u .w .now) (u .first) (refsOf (packageIn (c .id-at .result) (b .block-at .result .now)))
+    → Room (u .c .now) (u .s .now) (u .n) (u .w .now) (u .objects) (u .first) (refsOf (packageIn (c .id-at .result) (b .block-at .result .now)))
     (sectionOf (u .objects) h (packageIn (c .id-at .result) (b .block-at .result .now))) (u .out .now) h
 room c h a =
     let p = c .before .before .before .before .before .before .before in

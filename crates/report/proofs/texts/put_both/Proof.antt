@@ -18,14 +18,14 @@ use Rattle.meaning.specs.Scan.{Class}
 use Rattle.resolve.specs.Classes.{classNo}
 use Rattle.resolve.specs.Rows.{limitsOf}
 use Rattle.report.specs.Written.{isSome, Put, Target, classOf, nativeText, bothTexts, BothPut, ClassRoom}
-use Rattle.report.specs.WrittenLaws.{behind, again, class-same, class-in, class-some}
+use Rattle.report.specs.WrittenLaws.{behind, again, kept-inside, kept-size, kept-is, class-same, class-in, class-some}
 use Rattle.resolve.specs.declared.rows.Led.{Led}
 use Rattle.report.specs.declared.texts.Told.{Told}
 use Rattle.report.proofs.texts.put_both.Statement.{statement}
 use Rattle.report.proofs.texts.put_both.Tie as tie
 
 -- there is room for both texts
-module _ {c b : List ℕ} {o : Objects} {n : ℕ} {xs : List Class} {lookups : ℕ} {w : List ℕ} {r : Ref} {l : Led} (t : Target c b o n xs lookups w r l) (objects : ℕ)
+module _ {c b : List ℕ} {o : Objects} {n : ℕ} {xs : List Class} {lookups objects : ℕ} {w : List ℕ} {r : Ref} {l : Led} (t : Target c b o n xs lookups objects w r l)
     (out : List ℕ) (room : length (bothTexts (limitsOf lookups objects) xs o r) ≤ length out) where
   abbrev text₁ : List ℕ
   text₁ = textBytes (orUnknown (classOf (limitsOf lookups objects) xs o r))
@@ -39,7 +39,7 @@ module _ {c b : List ℕ} {o : Objects} {n : ℕ} {xs : List Class} {lookups : �
   -- they are the same
   module _ (z : l .class ≡ 0) {o₁ : List ℕ} {t₁ : Told} (put : Put (nativeText (limitsOf lookups objects) xs o r) out o₁ t₁) where
     text-same : text₁ ≡ text₂
-    text-same = ap (λ (x : Option (List ℕ)). textBytes (orUnknown x)) (class-same t objects z)
+    text-same = ap (λ (x : Option (List ℕ)). textBytes (orUnknown x)) (class-same t z)
 
     twice-fits : t₁ .size + t₁ .size ≤ length o₁
     twice-fits = omega (arith, wrote-length (put .wrote), put .wrote .size, ap length text-same, length-append text₁ text₂, room)
@@ -48,7 +48,7 @@ module _ {c b : List ℕ} {o : Objects} {n : ℕ} {xs : List Class} {lookups : �
         → BothPut (limitsOf lookups objects) xs o r out o₂ (record { size = k; class = t₁ .known; native = t₁ .known })
     twice-put v = record {
       wrote = wrote-as v (ap (λ (x : List ℕ). x ++ text₂) (sym text-same));
-      class = put .known ∙ ap isSome (sym (class-same t objects z));
+      class = put .known ∙ ap isSome (sym (class-same t z));
       native = put .known;
     }
 
@@ -58,13 +58,13 @@ module _ {c b : List ℕ} {o : Objects} {n : ℕ} {xs : List Class} {lookups : �
     text = textBytes (classNo xs (l .class - 1) .path)
 
     text-is : text₁ ++ text₂ ≡ text ++ text₂
-    text-is = ap (λ (x : Option (List ℕ)). textBytes (orUnknown x) ++ text₂) (class-some t objects z)
+    text-is = ap (λ (x : Option (List ℕ)). textBytes (orUnknown x) ++ text₂) (class-some t z)
 
     both-fit : length (text ++ text₂) ≤ length out
     both-fit = omega (arith, ap length text-is, room)
 
     class-room : ClassRoom c n (l .class - 1) w out
-    class-room = record { front = t .tables .room; classes = xs; holds = t .tables .classes; inside = class-in t objects z; room = front-fits text text₂ (length out) both-fit }
+    class-room = record { front = t .tables .room; classes = xs; holds = t .tables .classes; inside = class-in t z; room = front-fits text text₂ (length out) both-fit }
 
     module _ {o₁ : List ℕ} {k : ℕ} (w₁ : Wrote out text o₁ k) where
       class-end : k ≤ length o₁
@@ -77,7 +77,7 @@ module _ {c b : List ℕ} {o : Objects} {n : ℕ} {xs : List Class} {lookups : �
         both-put : BothPut (limitsOf lookups objects) xs o r out (again k o₁ o₂) (record { size = k + t₂ .size; class = true; native = t₂ .known })
         both-put = record {
           wrote = wrote-as (wrote-rest w₁ (put .wrote)) (sym text-is);
-          class = ap isSome (sym (class-some t objects z));
+          class = ap isSome (sym (class-some t z));
           native = put .known;
         }
 
@@ -92,28 +92,31 @@ put-native-requires c κs =
       lookups = r .lookups;
       ref = r .ref;
       target = r .target;
-      room = native-fits (r .target) (s .args .objects) (s .args .out .now) (r .room);
+      room = native-fits (r .target) (s .args .out .now) (r .room);
     }
 
-put-again-requires : tie.Need-put-again-requires
-put-again-requires c κs =
+put-second-requires : tie.Need-put-second-requires
+put-second-requires c κs =
     let p = c .before .before .before in
     let s = p .before .before .before .before .before .before .before .before in
     let r = s .pre in
-    let f = native-fits (r .target) (s .args .objects) (s .args .out .now) (r .room) in
-    twice-fits (r .target) (s .args .objects) (s .args .out .now) (r .room) (p .before .before .if1 .taken) (p .put-native .ensures (s .args .c .now) (r .read) (r .classes) (r .lookups) (r .ref) (r .target) f)
+    let f = native-fits (r .target) (s .args .out .now) (r .room) in
+    let put = p .put-native .ensures (s .args .c .now) (r .read) (r .classes) (r .lookups) (r .ref) (r .target) f in (
+      twice-fits (r .target) (s .args .out .now) (r .room) (p .before .before .if1 .taken) put,
+      λ ne. (kept-inside (r .target) ne, kept-size (r .target) ne ∙ sym (put .wrote .size)),
+    )
 
 returns : tie.Need-returns
 returns c = λ o xs lookups r t room.
     let p = c .before .before .before .before .before .before in
     let s = p .before .before .before .before .before .before .before .before in
-    let put = p .put-native .ensures (s .args .c .now) o xs lookups r t (native-fits t (s .args .objects) (s .args .out .now) room) in
-    twice-put t (s .args .objects) (s .args .out .now) room (p .before .before .if1 .taken) put (c .before .before .put-again .ensures _ _ (put .wrote))
+    let put = p .put-native .ensures (s .args .c .now) o xs lookups r t (native-fits t (s .args .out .now) room) in
+    twice-put t (s .args .out .now) room (p .before .before .if1 .taken) put (c .before .before .put-second .ensures _ _ (put .wrote) (λ ne. kept-is t ne))
 
 put-class-requires : tie.Need-put-class-requires
 put-class-requires c κs =
     let s = c .before .before .before .before .before .before .before .before in
-    class-room (s .pre .target) (s .args .objects) (s .args .out .now) (s .pre .room) (c .before .before .if1 .left)
+    class-room (s .pre .target) (s .args .out .now) (s .pre .room) (c .before .before .if1 .left)
 
 -- the class's text is written
 module _ (p : tie.After-put-class) where
@@ -127,7 +130,7 @@ module _ (p : tie.After-put-class) where
   class-in-out =
       let s = start in
       let r = s .pre in
-      class-end (r .target) (s .args .objects) (s .args .out .now) (r .room) left (p .put-class .ensures (r .classes) (r .target .tables .classes) (class-in (r .target) (s .args .objects) left))
+      class-end (r .target) (s .args .out .now) (r .room) left (p .put-class .ensures (r .classes) (r .target .tables .classes) (class-in (r .target) left))
 
 sub-put-native : tie.Need-sub-put-native
 sub-put-native c = class-in-out (c .before .before)
@@ -147,21 +150,21 @@ put-native-requires-2 c κs =
       lookups = r .lookups;
       ref = r .ref;
       target = r .target;
-      room = native-next (r .target) (s .args .objects) (s .args .out .now) (r .room) (left p) (p .put-class .ensures (r .classes) (r .target .tables .classes) (class-in (r .target) (s .args .objects) (left p)));
+      room = native-next (r .target) (s .args .out .now) (r .room) (left p) (p .put-class .ensures (r .classes) (r .target .tables .classes) (class-in (r .target) (left p)));
     }
 
 -- and the native class's
 both : (c : tie.After-struct-known3) → let p = c .before .before .before .before .before .before .before in let s = start p in
-    (o : Objects) (xs : List Class) (lookups : ℕ) (r : Ref) → Target (s .args .c .now) (s .args .s .now) o (s .args .n) xs lookups (s .args .w .now) r (s .args .l)
+    (o : Objects) (xs : List Class) (lookups : ℕ) (r : Ref) → Target (s .args .c .now) (s .args .s .now) o (s .args .n) xs lookups (s .args .objects) (s .args .w .now) r (s .args .l)
     → length (bothTexts (limitsOf lookups (s .args .objects)) xs o r) ≤ length (s .args .out .now)
     → BothPut (limitsOf lookups (s .args .objects)) xs o r (s .args .out .now) (again (p .put-class .result) (p .put-class .last .0) (c .before .before .before .put-native2 .last .0))
     (record { size = p .put-class .result + c .before .before .before .put-native2 .result .size; class = true; native = c .before .before .before .put-native2 .result .known })
 both c o xs lookups r t room =
     let p = c .before .before .before .before .before .before .before in
     let s = start p in
-    let v = p .put-class .ensures xs (t .tables .classes) (class-in t (s .args .objects) (left p)) in
-    both-put t (s .args .objects) (s .args .out .now) room (left p) v
-    (c .before .before .before .put-native2 .ensures (s .args .c .now) o xs lookups r t (native-next t (s .args .objects) (s .args .out .now) room (left p) v))
+    let v = p .put-class .ensures xs (t .tables .classes) (class-in t (left p)) in
+    both-put t (s .args .out .now) room (left p) v
+    (c .before .before .before .put-native2 .ensures (s .args .c .now) o xs lookups r t (native-next t (s .args .out .now) room (left p) v))
 
 add-t19 : tie.Need-add-t19
 add-t19 c =
@@ -177,7 +180,7 @@ put-both-spec =
     tie.close
     (tie.spec
     put-native-requires
-    put-again-requires
+    put-second-requires
     (search needs)
     returns
     (search needs)

@@ -1,82 +1,63 @@
--- `texts::put_native` meets its contract: the path behind the first four bytes, then its length in these, or an unknown text. Assumes nothing.
-use Prim.Native.Nat.{_≤_}
+-- `texts::put_native` meets its contract: what the row keeps is the text that is due. Assumes nothing.
+use mathlib.Core.Path.{_≡_}
+use Prim.Native.Nat.{_+_, _-_}
 use native.Mathlib.Omega.{arith}
 use borrow.Author.Needs.{needs}
-use lib.ListN.{length}
-use Rattle.resolve.specs.Rows.{limitsOf}
-use Rattle.report.specs.Written.{nativeText}
-use Rattle.report.specs.WrittenLaws.{again-length, text-least, unknown-room, native-none, native-roomy, native-lost-room, native-lost, native-found-room, native-found}
+use Rattle.table.specs.WordLaws.{mid-length}
+use Rattle.report.specs.WrittenLaws.{kept-inside, kept-size, kept-put}
 use Rattle.report.proofs.texts.put_native.Statement.{statement}
 use Rattle.report.proofs.texts.put_native.Tie as tie
 
--- there is room for a length
-four : (c : tie.Start) → 4 ≤ length (c .args .out .now)
-four c = omega (arith, text-least (nativeText (limitsOf (c .pre .lookups) (c .args .objects)) (c .pre .classes) (c .pre .read) (c .pre .ref)), c .pre .room)
+compose-native-requires : tie.Need-compose-native-requires
+compose-native-requires c κs = search needs
 
-put-unknown-requires : tie.Need-put-unknown-requires
-put-unknown-requires c κs =
-    let s = c .before .before .before .before .before .before .before in
-    unknown-room (native-none (s .pre .target) (s .args .objects) (c .before .if1 .taken)) (s .pre .room)
+same-length : tie.Need-same-length
+same-length c = search needs
 
 returns : tie.Need-returns
-returns c = λ q o xs lookups r t room.
-    rw (native-none t (c .before .before .before .before .before .before .before .before .before .before .args .objects) (c .before .before .before .before .if1 .taken)) (c .before .before .put-unknown .ensures)
+returns c = search needs
 
-sub-put-path : tie.Need-sub-put-path
-sub-put-path c = four (c .before .before .before .before .before .before)
+add-end : tie.Need-add-end
+add-end c = omega (arith, kept-inside (c .before .before .before .before .pre .target) (c .if1 .left))
 
-part-put-path-start : tie.Need-part-put-path-start
-part-put-path-start c = four (c .before .before .before .before .before .before)
+sub-put-plain : tie.Need-sub-put-plain
+sub-put-plain c = search needs
 
-put-path-requires : tie.Need-put-path-requires
-put-path-requires c κs =
-    let s = c .before .before .before .before .before .before .before .before in
-    native-roomy (s .pre .target) (s .args .objects) (c .before .before .if1 .left) (s .args .out .now) (s .pre .room)
+part-put-plain-start : tie.Need-part-put-plain-start
+part-put-plain-start c = search needs
 
-put-unknown-requires-2 : tie.Need-put-unknown-requires-2
-put-unknown-requires-2 c κs =
-    let s = c .before .before .before .before .before .before .before .before .before .before .before .before .before .before in
-    native-lost-room (s .pre .target) (s .args .objects) (c .before .before .before .before .before .before .before .before .if1 .left) (s .args .out .now) (s .pre .room) (c .before .before .before .before .before .put-path .ensures) (c .before .enum-told .given .1)
+part-put-plain-end : tie.Need-part-put-plain-end
+part-put-plain-end c = kept-inside (c .before .before .before .before .before .pre .target) (c .before .if1 .left)
 
-put-length-requires : tie.Need-put-length-requires
-put-length-requires c κs =
-    let s = c .before .before .before .before .before .before .before .before .before .before .before .before .before .before .before in
-    omega (arith, again-length 4 (s .args .out .now) (c .before .before .before .before .before .before .put-path .last .0) (four s) (c .before .before .before .before .before .before .put-path .kept .0), four s)
+put-plain-requires : tie.Need-put-plain-requires
+put-plain-requires c κs =
+    let s = c .before .before .before .before .before .before in
+    let l = s .args .l in
+    let ne = c .before .before .if1 .left in
+    let e : l .text + l .size - l .text ≡ l .size = omega arith in
+    rw e
+    (omega (arith, mid-length (l .text) (l .size) (s .args .w .now) (kept-inside (s .pre .target) ne), kept-size (s .pre .target) ne, s .pre .room))
 
-add-t23 : tie.Need-add-t23
-add-t23 c =
-    let s = c .before .before .before .before .before .before .before .before .before .before .before .before .before .before .before .before .before .before in
-    omega (arith, native-found-room (s .pre .target) (s .args .objects) (c .before .before .before .before .before .before .before .before .before .before .before .before .if1 .left) (s .args .out .now) (s .pre .room) (c .before .before .before .before .before .before .before .before .before .put-path .ensures) (c .before .before .before .before .before .path .given .1))
+same-length-2 : tie.Need-same-length-2
+same-length-2 c = search needs
 
 returns-2 : tie.Need-returns-2
 returns-2 c = λ q o xs lookups r t room.
-    let s = c .before .before .before .before .before .before .before .before .before .before .before .before .before .before .before .before .before in
-    native-lost t (s .args .objects) (c .before .before .before .before .before .before .before .before .before .before .before .if1 .left) (s .args .out .now) room (c .before .before .before .before .before .before .before .before .put-path .ensures) (c .before .before .before .before .enum-told .given .1) (c .before .before .put-unknown2 .ensures)
-
-returns-3 : tie.Need-returns-3
-returns-3 c = λ q o xs lookups r t room.
-    let s = c .before .before .before .before .before .before .before .before .before .before .before .before .before .before .before .before .before .before in
-    native-found t (s .args .objects) (c .before .before .before .before .before .before .before .before .before .before .before .before .if1 .left) (s .args .out .now) room (c .before .before .before .before .before .before .before .before .before .put-path .ensures) (c .before .before .before .before .before .path .given .1) (c .before .before .put-length .ensures)
+    let l = c .before .before .before .before .before .before .before .before .before .args .l in
+    let e : l .text + l .size - l .text ≡ l .size = omega arith in
+    kept-put t (c .before .before .before .before .before .if1 .left) (rw e at (c .before .before .put-plain .ensures .1))
 
 pub put-native-spec : {M : Type 1} → statement M
 put-native-spec =
     tie.close
     (tie.spec
-    put-unknown-requires
-    (search needs)
+    compose-native-requires
+    same-length
     returns
-    (search needs)
-    sub-put-path
-    part-put-path-start
-    (search needs)
-    (search needs)
-    put-path-requires
-    (search needs)
-    put-unknown-requires-2
-    (search needs)
-    put-length-requires
-    add-t23
-    (search needs)
-    returns-2
-    (search needs)
-    returns-3)
+    add-end
+    sub-put-plain
+    part-put-plain-start
+    part-put-plain-end
+    put-plain-requires
+    same-length-2
+    returns-2)

@@ -39,6 +39,18 @@ add-le32 c = search needs
 le32-requires : tie.Need-le32-requires
 le32-requires c κs = search needs
 
+add-get32-4 : tie.Need-add-get32-4
+add-get32-4 c = search needs
+
+get32-requires-5 : tie.Need-get32-requires-5
+get32-requires-5 c κs = search needs
+
+add-get32-5 : tie.Need-add-get32-5
+add-get32-5 c = search needs
+
+get32-requires-6 : tie.Need-get32-requires-6
+get32-requires-6 c κs = search needs
+
 returns : tie.Need-returns
 returns c = cc
 
@@ -58,4 +70,8 @@ led-at-spec =
     get32-requires-4
     add-le32
     le32-requires
+    add-get32-4
+    get32-requires-5
+    add-get32-5
+    get32-requires-6
     returns)
