@@ -4,7 +4,7 @@ use mathlib.Core.Bool.{Bool, true, false, _&&_, _||_, and-eq-true-iff}
 use mathlib.Core.Logic.{_⊎_, inl, inr}
 use Prim.Native.Nat.{ℕ, _≤_, _<_}
 use native.Mathlib.Omega.{arith}
-use borrow.Author.Tests.{leb-true, ltb-true}
+use borrow.Author.Tests.{lt-ltb, leb-true, ltb-true}
 use lib.Dec.{leb, ltb}
 use Rattle.lower.specs.Ascii.{lowerAscii}
 use Rattle.lower.specs.AsciiLaws.{ascii-above}
@@ -33,6 +33,10 @@ range a b u e = let w = and-eq-true-iff (leb a u) (ltb u b) .0 e in (leb-true a 
 
 gap : (a b : ℕ) → 90 < a → b ≤ 0xD800 → every (outside a b) pairs ≡ true → (u : ℕ) → (a ≤ u) × (u < b) → (lower u ≡ lowerAscii u) × (u < 0xD800)
 gap a b k m e u w = (lower-gap a b e u (w .0) (w .1) ∙ sym (ascii-above u (omega (arith, w .0))), omega (arith, w .1))
+
+pub ascii-caseless : (u : ℕ) → u < 0x80 → caseless u ≡ true
+unfolding caseless
+ascii-caseless u h = rw (lt-ltb u 0x80 h)
 
 pub caseless-lower : (u : ℕ) → caseless u ≡ true → (lower u ≡ lowerAscii u) × (u < 0xD800)
 unfolding caseless

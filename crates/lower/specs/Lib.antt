@@ -18,3 +18,6 @@ pub mod Runs
 -- ---- What lowering A to Z lowers right
 pub mod Caseless
 pub mod CaselessLaws
+-- ---- Lowering by scripts, with no branch
+pub mod Scripts
+pub mod ScriptLaws

@@ -64,6 +64,10 @@ pub or-cases : (x y : Bool) → (x || y) ≡ true → (x ≡ true) ⊎ (y ≡ tr
 or-cases true y e = inl refl
 or-cases false y e = inr e
 
+pub or-false : (x : Bool) → (x || false) ≡ x
+or-false true = refl
+or-false false = refl
+
 -- where no first of the table lies in a range, its characters stay
 pub lower-gap : (a b : ℕ) → every (outside a b) pairs ≡ true → (c : ℕ) → a ≤ c → c < b → lower c ≡ c
 unfolding outside
@@ -105,6 +109,14 @@ asks-away a b e c l h = among-away a b askers e c l h
 pub quick-is : (c : ℕ) → quick c ≡ cond (asks c) 0x110000 (lower c)
 unfolding quick
 quick-is c = refl
+
+-- an answer of the rules is one where it is less than what asks for the table
+pub not-asked : (t : Bool) {v r : ℕ} → r ≡ cond t 0x110000 v → r < 0x110000 → r ≡ v
+not-asked true e l = absurd (omega arith)
+not-asked false e l = e
+
+pub quick-answer : (c : ℕ) {r : ℕ} → r ≡ quick c → r < 0x110000 → r ≡ lower c
+quick-answer c e l = not-asked (asks c) (e ∙ quick-is c) l
 
 pub quick-away : (a b : ℕ) → away a b askers ≡ true → Run quick lower a b
 quick-away a b e c l h = rw (quick-is c, asks-away a b e c l h)

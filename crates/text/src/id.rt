@@ -2,36 +2,27 @@
 // from the block and the suffix as the hash asks for them, 64 bytes at a time.
 ghost use mathlib.Core.Path.{_≡_};
 ghost use mathlib.Core.Bool.{true};
-ghost use mathlib.Core.List.{map};
 ghost use mathlib.Core.Logic.{_⊎_};
 ghost use Prim.Native.Nat.{_+_, _-_, _*_, _^_, _≤_, _<_};
-ghost use lib.ListN.{length, getD, take, drop};
-ghost use Rattle.lower.specs.Ascii.{lowerAscii};
-ghost use Rattle.lower.specs.Table.{pairs};
-ghost use Rattle.lower.specs.Lower.{lowered, flat};
-ghost use Rattle.lower.specs.Quick.{asks};
+ghost use lib.ListN.{length, take, drop};
+ghost use Rattle.lower.specs.Lower.{lowered};
 ghost use Rattle.base.specs.Number.{leAt};
 ghost use Rattle.base.specs.Output.{Wrote};
 ghost use Rattle.text.specs.Utf16.{isWell, encode16, unitBytes};
 ghost use Rattle.text.specs.Name.{decoded, base, rendered};
 ghost use Rattle.city.specs.City.{cityHash64};
-ghost use Rattle.text.specs.Units.{unitsOf, nameUnits, allCaseless};
+ghost use Rattle.text.specs.Units.{unitsOf, nameUnits};
 ghost use Rattle.text.specs.Id.{idOf};
-use super::lowered::lowered_unit;
-use super::lowered::quick_unit;
 use super::name::put_suffix;
-use super::units::unit_at;
 use super::units::unit_count;
+use super::wide::put_wide;
 use base::number::le64;
 use city::city::first_state;
 use city::city::hash_len0to32;
 use city::city::hash_len33up;
 use city::city::last_mix;
 use city::city::one_turn;
-use lower::ascii::lower_ascii;
-use lower::caseless::is_caseless;
 use lower::latin::lower_byte;
-use lower::table::table;
 
 // The units of the n bytes of one-byte text from a place on, lowered, in UTF-16LE.
 fn put_narrow(out: &mut [u8], part: &[u8], from: usize, n: usize)
@@ -60,95 +51,6 @@ fn put_rest(out: &mut [u8], suffix: &[u8], from: usize, n: usize)
         out[at + 1] = 0;
         at += 2;
         i += 1;
-    }
-}
-
-// The n units of wide text from a place on with A to Z lowered, and whether that is all there was to lower. The loop runs to the end
-// whatever it meets, so that the compiler can take many units a turn.
-fn put_caseless(out: &mut [u8], part: &[u8], from: usize, n: usize) -> bool
-    requires { ⌜ (n ≤ length (unitsOf true (now part)) - from) × (from + n < 2 ^ 64) × (2 * n ≤ length (now out)) ⌝ }
-    ensures { λ r. ⌜ (r ≡ allCaseless (take n (drop from (unitsOf true (now (part .entry))))))
-        × Wrote (now (out .entry)) (unitBytes (take n (drop from (map lowerAscii (unitsOf true (now (part .entry))))))) (now (out .exit)) (2 * n) ⌝ }
-{
-    let mut all = true;
-    let mut at: usize = 0;
-    let mut i: usize = 0;
-    while i < n {
-        let u = unit_at(part, true, from + i);
-        let v = lower_ascii(u);
-        out[at] = (v % 256) as u8;
-        out[at + 1] = (v / 256) as u8;
-        all = all & is_caseless(u);
-        at += 2;
-        i += 1;
-    }
-    all
-}
-
-// The n units of lowered wide text from a place on by the rules, up to the first for which the table is to be asked, and how many they are.
-fn put_ruled(out: &mut [u8], part: &[u8], from: usize, n: usize) -> usize
-    requires { ⌜ (isWell (decoded true (now part)) ≡ true) × (n ≤ length (unitsOf true (now part)) - from) × (2 * n ≤ length (now out)) ⌝ }
-    ensures { λ r. ⌜ (r ≤ n) × Wrote (now (out .entry)) (unitBytes (take r (drop from (encode16 (lowered (base true (now (part .entry))))))))
-        (now (out .exit)) (2 * r)
-        × ((r ≡ n) ⊎ (asks (getD (unitsOf true (now (part .entry))) (from + r) 0) ≡ true)) ⌝ }
-{
-    let mut at: usize = 0;
-    let mut i: usize = 0;
-    while i < n {
-        let u = quick_unit(part, true, from + i);
-        if 0xFFFF < u {
-            return i;
-        }
-        out[at] = (u % 256) as u8;
-        out[at + 1] = (u / 256) as u8;
-        at += 2;
-        i += 1;
-    }
-    n
-}
-
-// The same by the table, all n of them.
-fn put_lowered(out: &mut [u8], part: &[u8], table: &[u32], from: usize, n: usize)
-    requires { ⌜ (isWell (decoded true (now part)) ≡ true) × (n ≤ length (unitsOf true (now part)) - from) × (2 * n ≤ length (now out))
-        × (now table ≡ flat pairs) ⌝ }
-    ensures { λ _. ⌜ Wrote (now (out .entry)) (unitBytes (take n (drop from (encode16 (lowered (base true (now (part .entry))))))))
-        (now (out .exit)) (2 * n) ⌝ }
-{
-    let mut at: usize = 0;
-    let mut i: usize = 0;
-    while i < n {
-        let u = lowered_unit(part, true, table, from + i);
-        out[at] = (u % 256) as u8;
-        out[at + 1] = (u / 256) as u8;
-        at += 2;
-        i += 1;
-    }
-}
-
-// The same, with the table bound here.
-fn put_tabled(out: &mut [u8], part: &[u8], from: usize, n: usize)
-    requires { ⌜ (isWell (decoded true (now part)) ≡ true) × (n ≤ length (unitsOf true (now part)) - from) × (2 * n ≤ length (now out)) ⌝ }
-    ensures { λ _. ⌜ Wrote (now (out .entry)) (unitBytes (take n (drop from (encode16 (lowered (base true (now (part .entry))))))))
-        (now (out .exit)) (2 * n) ⌝ }
-{
-    let pairs = table();
-    put_lowered(out, part, &pairs, from, n);
-}
-
-// The n units of lowered wide text from a place on: with A to Z lowered where that is enough, else by the rules, and from the first unit
-// on for which the table is to be asked, by the table.
-fn put_wide(out: &mut [u8], part: &[u8], from: usize, n: usize)
-    requires { ⌜ (isWell (decoded true (now part)) ≡ true) × (n ≤ length (unitsOf true (now part)) - from) × (from + n < 2 ^ 64)
-        × (2 * n ≤ length (now out)) ⌝ }
-    ensures { λ _. ⌜ Wrote (now (out .entry)) (unitBytes (take n (drop from (encode16 (lowered (base true (now (part .entry))))))))
-        (now (out .exit)) (2 * n) ⌝ }
-{
-    if put_caseless(out, part, from, n) {
-        return;
-    }
-    let k = put_ruled(out, part, from, n);
-    if k < n {
-        put_tabled(&mut out[2 * k..], part, from + k, n - k);
     }
 }
 

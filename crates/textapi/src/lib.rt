@@ -12,13 +12,21 @@ pub extern "C" fn text_city_hash64(s: &[u8]) -> u64
     city::city::city_hash64(s)
 }
 
-// The lower-case form of a character, as the id of a name takes it.
+// The lower-case form of a character, by the rules that the id of a name goes by; by the table where they say so, and beyond the last
+// character, where it has nothing.
 #[no_mangle]
 pub extern "C" fn text_lower(c: u32) -> u32
     ensures { λ r. ⌜ r ≡ lower c ⌝ }
 {
-    if c < 0x180 {
-        return lower::latin::lower_latin(c);
+    if c < 0x1_0000 {
+        let r = lower::rules::lower_quick(c);
+        if r < lower::rules::ASK {
+            return r;
+        }
+    } else {
+        if c < 0x11_0000 {
+            return lower::rules::lower_pair(c);
+        }
     }
     let pairs = lower::table::table();
     lower::search::lower_in(&pairs, c)

@@ -16,7 +16,7 @@ const ROUNDS: usize = 15;
 type Maker = fn(usize) -> Text;
 
 /// What is timed; each is compared with the first, and with the first that is stored as it is.
-const KINDS: [(&str, Maker); 8] = [
+const KINDS: [(&str, Maker); 11] = [
     ("ASCII", |n| Text::of(&repeated("NiagaraEffect_", n))),
     ("ASCII, wide", |n| {
         Text::wide(&repeated("NiagaraEffect_", n))
@@ -30,6 +30,13 @@ const KINDS: [(&str, Maker); 8] = [
     ("wide, one Œ", |n| {
         Text::wide(&repeated("NiagaraEffect_", n).replacen('i', "Œ", 1))
     }),
+    ("wide, Polish and Czech", |n| {
+        Text::wide(&repeated("ŁódźŚcieżkaČeštinaŘ", n))
+    }),
+    ("wide, Vietnamese", |n| {
+        Text::wide(&repeated("ẤmThửNghiệmỂƠƯ", n))
+    }),
+    ("wide, Cyrillic", |n| Text::wide(&repeated("ЗвукТест", n))),
     ("wide, Greek capitals", |n| {
         Text::wide(&repeated("ΑΒΓΔΕΣΩ", n))
     }),

@@ -6,12 +6,9 @@ use native.Mathlib.Omega.{arith}
 use lib.Dec.{ltb}
 use borrow.Author.Tests.{lt-ltb, le-ltb, lt-leb, le-leb}
 use Rattle.lower.specs.Caseless.{caseless}
+use Rattle.lower.specs.CaselessLaws.{ascii-caseless}
 use Rattle.lower.proofs.caseless.is_caseless.Statement.{statement}
 use Rattle.lower.proofs.caseless.is_caseless.Tie as tie
-
-ascii : (u : ℕ) → u < 0x80 → caseless u ≡ true
-unfolding caseless
-ascii u k = rw (lt-ltb u 0x80 (omega arith))
 
 latin : (u : ℕ) → 0x80 ≤ u → u < 0x590 → caseless u ≡ false
 unfolding caseless
@@ -38,7 +35,7 @@ unfolding caseless
 hangul u l = rw (le-ltb u 0x80 (omega arith), le-leb 0x590 u (omega arith), le-ltb u 0x10A0 (omega arith), le-leb 0x2CF3 u (omega arith), le-ltb u 0xA640 (omega arith), le-leb 0xA7F6 u (omega arith))
 
 returns : tie.Need-returns
-returns c = sym (ascii _ (omega arith))
+returns c = sym (ascii-caseless _ (omega arith))
 
 returns-2 : tie.Need-returns-2
 returns-2 c = sym (latin _ (omega arith) (omega arith))

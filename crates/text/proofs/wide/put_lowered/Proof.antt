@@ -15,8 +15,8 @@ use Rattle.text.specs.Name.{base}
 use Rattle.text.specs.Units.{unitsOf}
 use Rattle.text.specs.UnitsLaws.{unitsOf-bound}
 use Rattle.text.proofs.NameUnits.{part-length, wrote-unit}
-use Rattle.text.proofs.id.put_lowered.Statement.{statement}
-use Rattle.text.proofs.id.put_lowered.Tie as tie
+use Rattle.text.proofs.wide.put_lowered.Statement.{statement}
+use Rattle.text.proofs.wide.put_lowered.Tie as tie
 
 abbrev Inv-loop : tie.InvT-loop
 Inv-loop out₀ part table from n at₀ i₀ out at i =

@@ -1,7 +1,7 @@
 -- `id::put_tabled`: the table is at hand. Assumes nothing.
 use borrow.Author.Needs.{needs}
-use Rattle.text.proofs.id.put_tabled.Statement.{statement}
-use Rattle.text.proofs.id.put_tabled.Tie as tie
+use Rattle.text.proofs.wide.put_tabled.Statement.{statement}
+use Rattle.text.proofs.wide.put_tabled.Tie as tie
 
 table-requires : tie.Need-table-requires
 table-requires c κs = search needs

@@ -18,9 +18,10 @@ use Rattle.text.specs.Name.{base}
 use Rattle.text.specs.Units.{unitsOf}
 use Rattle.text.specs.UnitsLaws.{unitsOf-bound, unitsOf-words}
 use Rattle.text.proofs.NameUnits.{part-length, place, wrote-unit}
-use Rattle.text.proofs.WideUnits.{lowered-word, asked, not-asked}
-use Rattle.text.proofs.id.put_ruled.Statement.{statement}
-use Rattle.text.proofs.id.put_ruled.Tie as tie
+use Rattle.lower.specs.QuickLaws.{not-asked}
+use Rattle.text.proofs.WideUnits.{lowered-word, asked}
+use Rattle.text.proofs.wide.put_ruled.Statement.{statement}
+use Rattle.text.proofs.wide.put_ruled.Tie as tie
 
 abbrev Inv-loop : tie.InvT-loop
 Inv-loop out₀ part from n at₀ i₀ out at i =

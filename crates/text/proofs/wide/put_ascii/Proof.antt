@@ -1,5 +1,4 @@
--- `id::put_caseless`: after i turns the buffer's front has the bytes of the first i units, and `all` says whether these units are caseless.
--- Assumes nothing.
+-- `wide::put_ascii`: after i turns the buffer's front has the bytes of the first i units, and `bits` their bits. Assumes nothing.
 use mathlib.Core.Path.{_≡_, refl, sym, _∙_, ap}
 use mathlib.Core.Bool.{true}
 use mathlib.Core.List.{List, map}
@@ -12,19 +11,20 @@ use Rattle.base.specs.OutputLaws.{wrote-none, wrote-count}
 use Rattle.text.specs.Utf16.{unitBytes}
 use Rattle.lower.specs.Ascii.{lowerAscii}
 use Rattle.lower.specs.AsciiLaws.{ascii-unit}
-use Rattle.text.specs.Units.{unitsOf, allCaseless}
+use Rattle.lower.specs.ScriptLaws.{caseless-script}
+use Rattle.text.specs.Units.{unitsOf, bitsFrom}
 use Rattle.text.proofs.NameUnits.{wrote-unit}
-use Rattle.text.proofs.WideUnits.{ascii-at, ascii-length, caseless-next}
-use Rattle.text.proofs.id.put_caseless.Statement.{statement}
-use Rattle.text.proofs.id.put_caseless.Tie as tie
+use Rattle.text.proofs.WideUnits.{mapped-at, mapped-length, bits-next}
+use Rattle.text.proofs.wide.put_ascii.Statement.{statement}
+use Rattle.text.proofs.wide.put_ascii.Tie as tie
 
 abbrev Inv-loop : tie.InvT-loop
-Inv-loop out₀ part from n all₀ at₀ i₀ out all at i =
+Inv-loop out₀ part from n bits₀ at₀ i₀ out bits at i =
     (i ≤ n) × (at ≡ 2 * i) × Wrote out₀ (unitBytes (take i (drop from (map lowerAscii (unitsOf true part))))) out at × (length out ≡ length out₀)
-    × (all ≡ allCaseless (take i (drop from (unitsOf true part))))
+    × (bits ≡ bitsFrom 0 (take i (drop from (unitsOf true part))))
 
 abbrev μ-loop : tie.MeasureT-loop
-μ-loop out₀ part from n all₀ at₀ i₀ out all at i = n - i
+μ-loop out₀ part from n bits₀ at₀ i₀ out bits at i = n - i
 
 loop-holds : tie.Need-loop-holds Inv-loop μ-loop
 loop-holds c = (search needs, search needs, wrote-none _, search needs, refl)
@@ -54,8 +54,8 @@ add-out c = omega arith
 slice-write-out-2 : tie.Need-slice-write-out-2 Inv-loop μ-loop
 slice-write-out-2 c = simp length-set (omega arith)
 
-is-caseless-requires : tie.Need-is-caseless-requires Inv-loop μ-loop
-is-caseless-requires c κs = search needs
+cast-bits : tie.Need-cast-bits Inv-loop μ-loop
+cast-bits c = omega arith
 
 add-at : tie.Need-add-at Inv-loop μ-loop
 add-at c = omega arith
@@ -68,17 +68,18 @@ loop-less c = omega arith
 
 loop-again : tie.Need-loop-again Inv-loop μ-loop
 loop-again c =
-    let a = c .before .before .before .before .before .before .before .args in
+    let a = c .before .before .before .before .before .before .args in
     let us : List ℕ = unitsOf true (a .part .now) in
-    let l = c .before .before .before .before .loop in
-    let u = c .before .before .unit-at in
+    let l = c .before .before .before .loop in
+    let u = c .before .unit-at in
     let h : a .from + l .i < length us = omega arith in (
       omega arith,
       omega arith,
-      wrote-unit (map lowerAscii us) (a .from) (l .i) (c .before .lower-ascii .ensures ∙ ap lowerAscii (u .ensures .0) ∙ sym (ascii-at us (a .from + l .i)))
-          (l .inv .2) (omega (arith, ascii-length us)) (omega arith),
+      wrote-unit (map lowerAscii us) (a .from) (l .i)
+          (c .lower-ascii .ensures ∙ ap lowerAscii (u .ensures .0) ∙ sym (mapped-at caseless-script us (a .from + l .i)))
+          (l .inv .2) (omega (arith, mapped-length lowerAscii us)) (omega arith),
       simp length-set (omega arith),
-      rw (c .is-caseless .ensures, u .ensures .0) (caseless-next us (a .from) (l .i) (l .all) h (l .inv .4)),
+      rw (u .ensures .0) (bits-next us (a .from) (l .i) h (l .bits) (l .inv .4)),
     )
 
 same-length : tie.Need-same-length Inv-loop μ-loop
@@ -90,8 +91,8 @@ returns c =
     let e : c .before .before .before .before .args .n ≡ l .i = omega arith in
     rw e (l .inv .4, wrote-count (l .inv .2) (omega arith))
 
-pub put-caseless-spec : {M : Type 1} → statement M
-put-caseless-spec =
+pub put-ascii-spec : {M : Type 1} → statement M
+put-ascii-spec =
     tie.close
     (tie.spec
     Inv-loop
@@ -105,7 +106,7 @@ put-caseless-spec =
     cast-out-2
     add-out
     slice-write-out-2
-    is-caseless-requires
+    cast-bits
     add-at
     add-i
     loop-less
