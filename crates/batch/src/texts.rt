@@ -6,7 +6,7 @@ ghost use Prim.Native.Nat.{_+_, _*_, _≤_};
 ghost use lib.ListN.{length};
 ghost use Rattle.text.specs.Affix.{startsWith, endsWith, allAscii};
 ghost use Rattle.text.specs.AffixLaws.{unitSize};
-ghost use Rattle.text.specs.Id.{idOf};
+ghost use Rattle.ids.specs.Id.{idOf};
 ghost use Rattle.text.specs.Name.{textBytes};
 ghost use Rattle.base.specs.Output.{Wrote};
 ghost use Rattle.text.specs.Utf8.{utf8};
@@ -53,7 +53,7 @@ pub fn place_id(b: &[u8], p: Place, number: u32) -> u64
     requires { ⌜ Holds (now b) p (textAt (now b) p) ⌝ }
     ensures { λ r. ⌜ r ≡ idOf (nameAt (now (b .entry)) p number) ⌝ }
 {
-    text::id::name_id(part_of(b, p), p.wide, number)
+    ids::id::name_id(part_of(b, p), p.wide, number)
 }
 
 // Whether the text starts with an ASCII text.

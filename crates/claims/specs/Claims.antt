@@ -19,7 +19,7 @@ use Rattle.base.specs.Answer.{isRefusal}
 use Rattle.city.specs.City.{cityHash64}
 use Rattle.base.specs.Find.{flat, get}
 use Rattle.base.specs.House.{lengthFirst}
-use Rattle.text.specs.Id.{idOf}
+use Rattle.ids.specs.Id.{idOf}
 use Rattle.base.specs.Index.{kind, importName, importHash}
 use Rattle.base.specs.Literal.{quoted}
 use Rattle.lower.specs.Lower.{lowered}

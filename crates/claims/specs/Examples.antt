@@ -8,7 +8,7 @@ use Prim.Native.String.{String, _++_ as _then_}
 use lib.ListN.{length, replicate}
 use Rattle.city.specs.City.{k2}
 use Rattle.base.specs.House.{lengthFirst}
-use Rattle.text.specs.Id.{idOf}
+use Rattle.ids.specs.Id.{idOf}
 use Rattle.base.specs.Literal.{quoted}
 use Rattle.text.specs.Name.{suffix}
 use Rattle.written.specs.BatchBytes.{le4, le8}

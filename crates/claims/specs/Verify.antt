@@ -14,7 +14,7 @@ use lib.Seq.{take-append-le, drop-append-le}
 use Rattle.base.specs.Answer.{isRefusal}
 use Rattle.city.specs.City.{cityHash64}
 use Rattle.base.specs.Find.{sum}
-use Rattle.text.specs.Id.{idOf}
+use Rattle.ids.specs.Id.{idOf}
 use Rattle.base.specs.Number.{be}
 use Rattle.base.specs.NumberLaws.{Bytes}
 use Rattle.base.specs.Perm.{Each}

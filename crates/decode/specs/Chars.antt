@@ -35,6 +35,10 @@ isTwo a b = within 0xC2 0xDF a && tail b
 unfoldable pub isThree : ℕ → ℕ → ℕ → Bool
 isThree a b c = within 0xE0 0xEF a && second a b && tail c
 
+-- three bytes whose first asks nothing more of the second than that it is a tail: "%xE1-EC 2( UTF8-tail )"
+unfoldable pub isCommon : ℕ → ℕ → ℕ → Bool
+isCommon a b c = within 0xE1 0xEC a && tail b && tail c
+
 -- "UTF8-4 = %xF0 %x90-BF 2( UTF8-tail ) / %xF1-F3 3( UTF8-tail ) / %xF4 %x80-8F 2( UTF8-tail )"
 unfoldable pub isFour : ℕ → ℕ → ℕ → ℕ → Bool
 isFour a b c d = within 0xF0 0xF4 a && second a b && tail c && tail d

@@ -6,12 +6,15 @@ pub mod ReadLaws
 pub mod Chars
 pub mod TableLaws
 pub mod CharLaws
+pub mod KnownLaws
 pub mod Grammar
 pub mod GrammarLaws
 -- ---- A text measured, written, read back
 pub mod Measure
 pub mod TurnLaws
 pub mod MeasureLaws
+pub mod Count
+pub mod CountLaws
 pub mod PlainLaws
 pub mod WriteLaws
 pub mod BackLaws

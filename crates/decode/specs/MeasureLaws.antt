@@ -1,57 +1,20 @@
--- Laws of measuring: one character more, and what a measure says. Assumes nothing.
+-- Laws of measuring: what a measure says. Assumes nothing.
 use mathlib.Core.Path.{_≡_, refl, sym, ap, _∙_}
-use mathlib.Core.Bool.{Bool, true, false, _&&_, and-eq-true-iff}
+use mathlib.Core.Bool.{Bool, true, false, and-eq-true-iff}
 use mathlib.Core.List.{List, [], _∷_, _++_}
-use Prim.Native.Nat.{ℕ, _+_, _*_, _≤_}
+use Prim.Native.Nat.{ℕ, _*_, _≤_}
 use native.Mathlib.Omega.{arith}
 use borrow.Author.Tests.{ltb-true}
 use lib.Dec.{ltb}
 use lib.ListN.{length, length-append}
 use Rattle.base.specs.Never.{never}
-use Rattle.text.specs.Utf16.{Decoded, well, ill, isWell, scalars, more, encodeOne, encode16, utf16le}
-use Rattle.text.specs.IdLaws.{unitBytes-length}
+use Rattle.text.specs.Utf16.{Decoded, well, ill, isWell, scalars, encodeOne, encode16, utf16le}
+use Rattle.ids.specs.IdLaws.{unitBytes-length}
 use Rattle.text.specs.Utf8.{utf8One, utf8, fromUtf8}
-use Rattle.decode.specs.declared.measure.Measured.{Measured}
 use Rattle.decode.specs.declared.measure.Measured.the-variants.{Text, NoText}
 use Rattle.decode.specs.ReadLaws.{utf8-encode}
 use Rattle.decode.specs.Measure.{textOf, fitsLatin1, measured}
-use Rattle.decode.specs.TurnLaws.{one-unit, fewer-units, Turn, from, last-turn}
-
--- the measure where n units went before, which fit Latin-1 or not, and d is to come
-abbrev pub measuredOn : ℕ → Bool → Decoded → Measured
-measuredOn n latin (well t) = Text (n + length (encode16 t)) (latin && fitsLatin1 t)
-measuredOn n latin ill = NoText
-
-pub measured-first : (d : Decoded) → measured d ≡ measuredOn 0 true d
-unfolding measured
-measured-first (well t) = let e : length (encode16 t) ≡ 0 + length (encode16 t) = omega arith in ap (λ (n : ℕ). Text n (fitsLatin1 t)) e
-measured-first ill = refl
-
-and-assoc : (a b c : Bool) → (a && (b && c)) ≡ ((a && b) && c)
-and-assoc true b c = refl
-and-assoc false b c = refl
-
-measured-more : (n : ℕ) (latin : Bool) (c : ℕ) (d : Decoded)
-    → measuredOn n latin (more c d) ≡ measuredOn (n + length (encodeOne c)) (latin && ltb c 0x100) d
-unfolding encode16
-measured-more n latin c (well t) =
-    let e : n + length (encodeOne c ++ encode16 t) ≡ n + length (encodeOne c) + length (encode16 t) = omega (arith, length-append (encodeOne c) (encode16 t)) in
-    rw (e, and-assoc latin (ltb c 0x100) (fitsLatin1 t))
-measured-more n latin c ill = refl
-
-pub measured-turn : {s : List ℕ} {at c k : ℕ} → Turn s at c k → (n : ℕ) (latin : Bool)
-    → measuredOn n latin (from s at) ≡ measuredOn (n + length (encodeOne c)) (latin && ltb c 0x100) (from s (at + k))
-measured-turn {s} {at} {c} {k} t n latin = ap (measuredOn n latin) (t .is) ∙ measured-more n latin c (from s (at + k))
-
-and-true : (a : Bool) → (a && true) ≡ a
-and-true true = refl
-and-true false = refl
-
-pub measured-last : (s : List ℕ) (at : ℕ) → length s ≤ at → (n : ℕ) (latin : Bool) → measuredOn n latin (from s at) ≡ Text n latin
-unfolding encode16
-measured-last s at h n latin =
-    let e : n + 0 ≡ n = omega arith in
-    rw (last-turn s at h) (rw (e, and-true latin))
+use Rattle.decode.specs.TurnLaws.{one-unit, fewer-units}
 
 -- what a measure says: the bytes are well-formed, the text has n units, and it fits Latin-1 or not
 pub record Said (s : List ℕ) (n : ℕ) (latin : Bool) : Type 0 where
@@ -76,6 +39,14 @@ unfolding measured
 measured-none s e = go (fromUtf8 s) e
   where
     go : (d : Decoded) → measured d ≡ NoText → d ≡ ill
+    go (well t) e = never (cc)
+    go ill e = refl
+
+pub not-measured : (s : List ℕ) → isWell (fromUtf8 s) ≡ false → NoText ≡ measured (fromUtf8 s)
+unfolding measured
+not-measured s e = go (fromUtf8 s) e
+  where
+    go : (d : Decoded) → isWell d ≡ false → NoText ≡ measured d
     go (well t) e = never (cc)
     go ill e = refl
 

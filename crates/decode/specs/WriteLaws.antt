@@ -9,7 +9,7 @@ use lib.Dec.{ltb}
 use lib.ListN.{length, set, take, drop, length-append}
 use Rattle.base.specs.Output.{Wrote}
 use Rattle.base.specs.OutputLaws.{wrote-none, wrote-as, wrote-byte, wrote-rest, wrote-room}
-use Rattle.text.specs.IdLaws.{unitBytes-append}
+use Rattle.ids.specs.IdLaws.{unitBytes-append}
 use Rattle.text.specs.Utf16.{isWell, encodeOne, encode16, unitBytes, utf16le}
 use Rattle.decode.specs.Measure.{fitsLatin1}
 use Rattle.decode.specs.TurnLaws.{Turn, from, textFrom, one-unit, text-next, last-turn}

@@ -1,9 +1,12 @@
 // UTF-8 read one character at a time (RFC 3629, section 4).
 ghost use mathlib.Core.Path.{_≡_};
-ghost use mathlib.Core.Bool.{_&&_};
-ghost use Prim.Native.Nat.{_-_, _≤_};
+ghost use mathlib.Core.Bool.{true, _&&_};
+ghost use Prim.Native.Nat.{_+_, _-_, _≤_, _<_};
 ghost use lib.ListN.{length, getD, drop};
-ghost use Rattle.decode.specs.Chars.{Range, within, second, isTwo, isThree, isFour, joined, charOf};
+ghost use Rattle.text.specs.Utf16.{isWell};
+ghost use Rattle.text.specs.Utf8.{fromUtf8};
+ghost use Rattle.decode.specs.Measure.{textOf, fitsLatin1};
+ghost use Rattle.decode.specs.Chars.{Range, within, second, isTwo, isThree, isFour, isCommon, joined, charOf};
 use base::number::wide;
 
 // A scalar value and how many bytes it takes, or bytes that start with none.
@@ -121,12 +124,18 @@ pub fn first_char(s: &[u8]) -> Char
         return Char::Of(a, 1);
     }
     let b = byte(s, 1);
-    if is_two(a, b) {
-        return Char::Of(two(a, b), 2);
+    if a <= 0xDF {
+        if is_two(a, b) {
+            return Char::Of(two(a, b), 2);
+        }
+        return Char::Ill;
     }
     let c = byte(s, 2);
-    if is_three(a, b, c) {
-        return Char::Of(three(a, b, c), 3);
+    if a <= 0xEF {
+        if is_three(a, b, c) {
+            return Char::Of(three(a, b, c), 3);
+        }
+        return Char::Ill;
     }
     let d = byte(s, 3);
     if is_four(a, b, c, d) {
@@ -141,4 +150,82 @@ pub fn char_at(s: &[u8], at: usize) -> Char
     ensures { λ r. ⌜ r ≡ charOf (drop at (now (s .entry))) ⌝ }
 {
     first_char(&s[at..])
+}
+
+// Whether three bytes at a place are there and a character whose first byte asks nothing more of the second than that it is a tail. One test,
+// without a branch.
+fn is_common(s: &[u8], at: usize) -> bool
+    requires { ⌜ at ≤ length (now s) ⌝ }
+    ensures { λ r. ⌜ r ≡ isCommon (getD (now (s .entry)) at 0) (getD (now (s .entry)) (at + 1) 0) (getD (now (s .entry)) (at + 2) 0) ⌝ }
+{
+    if s.len() - at < 3 {
+        return false;
+    }
+    let a = wide(s[at]);
+    let b = wide(s[at + 1]);
+    let c = wide(s[at + 2]);
+    within(0xE1, 0xEC, a) & within(0x80, 0xBF, b) & within(0x80, 0xBF, c)
+}
+
+// The character at a place: ASCII and most characters of three bytes come before the others.
+pub fn quick_char(s: &[u8], at: usize) -> Char
+    requires { ⌜ at < length (now s) ⌝ }
+    ensures { λ r. ⌜ r ≡ charOf (drop at (now (s .entry))) ⌝ }
+{
+    let a = wide(s[at]);
+    if a <= 0x7F {
+        return Char::Of(a, 1);
+    }
+    if is_common(s, at) {
+        return Char::Of(three(a, wide(s[at + 1]), wide(s[at + 2])), 3);
+    }
+    char_at(s, at)
+}
+
+// The first character of bytes that are known to be UTF-8: its first byte says how many it takes.
+fn known_first(s: &[u8]) -> Char
+    requires { ⌜ (0 < length (now s)) × (isWell (fromUtf8 (now s)) ≡ true) ⌝ }
+    ensures { λ r. ⌜ r ≡ charOf (now (s .entry)) ⌝ }
+{
+    let a = wide(s[0]);
+    if a <= 0x7F {
+        return Char::Of(a, 1);
+    }
+    let b = wide(s[1]);
+    if a <= 0xDF {
+        return Char::Of(two(a, b), 2);
+    }
+    let c = wide(s[2]);
+    if a <= 0xEF {
+        return Char::Of(three(a, b, c), 3);
+    }
+    Char::Of(four(a, b, c, wide(s[3])), 4)
+}
+
+// The same of a text that fits Latin-1, whose characters take two bytes at most.
+fn latin_first(s: &[u8]) -> Char
+    requires { ⌜ (0 < length (now s)) × (isWell (fromUtf8 (now s)) ≡ true) × (fitsLatin1 (textOf (now s)) ≡ true) ⌝ }
+    ensures { λ r. ⌜ r ≡ charOf (now (s .entry)) ⌝ }
+{
+    let a = wide(s[0]);
+    if a <= 0x7F {
+        return Char::Of(a, 1);
+    }
+    Char::Of(two(a, wide(s[1])), 2)
+}
+
+// The character at a place from which on the bytes are known to be UTF-8.
+pub fn known_char(s: &[u8], at: usize) -> Char
+    requires { ⌜ (at < length (now s)) × (isWell (fromUtf8 (drop at (now s))) ≡ true) ⌝ }
+    ensures { λ r. ⌜ r ≡ charOf (drop at (now (s .entry))) ⌝ }
+{
+    known_first(&s[at..])
+}
+
+// The same where the text from there on fits Latin-1.
+pub fn latin_char(s: &[u8], at: usize) -> Char
+    requires { ⌜ (at < length (now s)) × (isWell (fromUtf8 (drop at (now s))) ≡ true) × (fitsLatin1 (textOf (drop at (now s))) ≡ true) ⌝ }
+    ensures { λ r. ⌜ r ≡ charOf (drop at (now (s .entry))) ⌝ }
+{
+    latin_first(&s[at..])
 }

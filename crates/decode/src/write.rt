@@ -9,7 +9,8 @@ ghost use Rattle.text.specs.Utf16.{isWell, encodeOne, unitBytes, utf16le};
 ghost use Rattle.text.specs.Utf8.{fromUtf8};
 ghost use Rattle.decode.specs.Measure.{textOf, fitsLatin1};
 use super::chars::Char;
-use super::chars::char_at;
+use super::chars::known_char;
+use super::chars::latin_char;
 use text::plain::is_plain;
 use text::plain::put_plain;
 
@@ -21,7 +22,7 @@ fn put_each(out: &mut [u8], s: &[u8]) -> usize
     let mut n = 0;
     let mut at = 0;
     while at < s.len() {
-        match char_at(s, at) {
+        match latin_char(s, at) {
             Char::Of(c, k) => {
                 out[n] = c as u8;
                 n += 1;
@@ -72,7 +73,7 @@ pub fn put_utf16le(out: &mut [u8], s: &[u8]) -> usize
     let mut n = 0;
     let mut at = 0;
     while at < s.len() {
-        match char_at(s, at) {
+        match known_char(s, at) {
             Char::Of(c, k) => {
                 n += put_units(&mut out[n..], c);
                 at += k;

@@ -8,7 +8,7 @@ use Prim.Native.Nat.{ℕ, zero, suc, _+_, _*_, _/_, _%_, _^_, _≤_, _<_}
 use lib.Dec.{eqb}
 use lib.ListN.{length, getD, set, drop}
 use Rattle.text.specs.Name.{suffix}
-use Rattle.text.specs.Units.{nameUnits}
+use Rattle.ids.specs.LoweredUnits.{nameUnits}
 use Rattle.batch.specs.Holds.{textAt, Holds}
 use Rattle.batch.specs.declared.places.Place.{Place}
 use Rattle.meaning.specs.Path.{Path}

@@ -9,13 +9,14 @@ use native.Mathlib.Numerals.{sub-one}
 use native.Mathlib.Omega.{arith}
 use lib.ListN.{length, getD, take, drop, length-append, length-take, length-drop, length-map, take-append-drop, drop-of-length-le}
 use lib.Seq.{take-length, drop-length, take-all, take-at, drop-at, take-add, drop-drop, length-take-le}
-use Rattle.text.specs.IdLaws.{unitBytes-length, unitBytes-append}
-use Rattle.text.specs.LowerLaws.{lowered-units}
+use Rattle.ids.specs.IdLaws.{unitBytes-length, unitBytes-append}
+use Rattle.ids.specs.LowerLaws.{lowered-units}
 use Rattle.text.specs.Name.{decoded, base, suffix}
 use Rattle.base.specs.NumberLaws.{Bytes, bytes-part}
 use Rattle.base.specs.Output.{over, Wrote}
 use Rattle.base.specs.OutputLaws.{wrote-none, wrote-as, wrote-rest, wrote-room}
-use Rattle.text.specs.Units.{unitsOf, nameUnits}
+use Rattle.text.specs.Units.{unitsOf}
+use Rattle.ids.specs.LoweredUnits.{nameUnits}
 use Rattle.text.specs.UnitsLaws.{base-units, unitsOf-narrow, unitsOf-length}
 use Rattle.text.specs.Utf16.{isWell, unitBytes}
 use Rattle.batch.specs.Holds.{textAt, Holds}

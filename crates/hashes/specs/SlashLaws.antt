@@ -15,12 +15,12 @@ use Rattle.lower.specs.Table.{pairs}
 use Rattle.lower.specs.Lower.{secondOf, lower, lowered}
 use Rattle.lower.specs.LowerLaws.{lower-is}
 use Rattle.lower.specs.AsciiLaws.{ascii-below}
-use Rattle.lower.specs.LatinLaws.{lower-ascii}
+use Rattle.rules.specs.LatinLaws.{lower-ascii}
 use Rattle.lower.specs.SearchLaws.{every, second-every}
-use Rattle.text.specs.IdLaws.{unitBytes-length}
+use Rattle.ids.specs.IdLaws.{unitBytes-length}
 use Rattle.text.specs.Name.{suffix}
 use Rattle.base.specs.Output.{over, Wrote}
-use Rattle.text.specs.Units.{nameUnits}
+use Rattle.ids.specs.LoweredUnits.{nameUnits}
 use Rattle.text.specs.Utf16.{encode16, unitBytes}
 use Rattle.meaning.specs.PathUnits.{pathUnits, units-name, slashed-units, suffix-slashed}
 use Rattle.meaning.specs.Verify.{slash, slashed}

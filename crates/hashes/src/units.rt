@@ -6,14 +6,14 @@ ghost use lib.ListN.{length, take, drop};
 ghost use Rattle.text.specs.Name.{suffix};
 ghost use Rattle.base.specs.NumberLaws.{Bytes};
 ghost use Rattle.base.specs.Output.{Wrote};
-ghost use Rattle.text.specs.Units.{nameUnits};
+ghost use Rattle.ids.specs.LoweredUnits.{nameUnits};
 ghost use Rattle.text.specs.Utf16.{unitBytes};
 ghost use Rattle.batch.specs.Holds.{textAt, Holds};
 ghost use Rattle.hashes.specs.Chain.{placeNo, piece, pieces, chainUnits, pieceCount, Named};
 ghost use Rattle.hashes.specs.Slash.{slashLow, slashBytes};
 use batch::places::Place;
 use batch::texts::part_of;
-use text::id::put_units;
+use ids::id::put_units;
 use text::name::put_suffix;
 use text::name::suffix_len;
 

@@ -16,8 +16,9 @@ use super::check::size_at;
 use super::check::utf8_at;
 use super::little::put_le32;
 use super::little::put_le64;
+use decode::count::count;
+use decode::count::is_latin1;
 use decode::measure::Measured;
-use decode::measure::measure;
 use decode::write::put_latin1;
 use decode::write::put_utf16le;
 
@@ -39,15 +40,10 @@ fn put_string(out: &mut [u8], s: &[u8]) -> usize
     requires { ⌜ (isWell (fromUtf8 (now s)) ≡ true) × (length (stringBytes (textOf (now s))) ≤ length (now out)) ⌝ }
     ensures { λ r. ⌜ Wrote (now (out .entry)) (stringBytes (textOf (now (s .entry)))) (now (out .exit)) r ⌝ }
 {
-    match measure(s) {
-        Measured::Text(_, latin) => {
-            if latin {
-                return put_latin1(out, s);
-            }
-            put_utf16le(out, s)
-        }
-        Measured::NoText => 0,
+    if is_latin1(s) {
+        return put_latin1(out, s);
     }
+    put_utf16le(out, s)
 }
 
 // The first byte of a name's header: bit 7 where it is UTF-16LE, then how many units it has.
@@ -66,7 +62,7 @@ fn put_head(out: &mut [u8], s: &[u8]) -> usize
     requires { ⌜ (isWell (fromUtf8 (now s)) ≡ true) × (length (encode16 (textOf (now s))) ≤ longestName) × (2 ≤ length (now out)) ⌝ }
     ensures { λ r. ⌜ Wrote (now (out .entry)) (headBytes (textOf (now (s .entry)))) (now (out .exit)) r ⌝ }
 {
-    match measure(s) {
+    match count(s) {
         Measured::Text(units, latin) => {
             out[0] = head_high(units, latin);
             out[1] = (units % 256) as u8;

@@ -10,14 +10,3 @@ pub mod SearchLaws
 pub mod TableLaws
 -- ---- Laws of lowering
 pub mod LowerLaws
-pub mod LatinLaws
--- ---- Lowering by rules, with no table at hand
-pub mod Quick
-pub mod QuickLaws
-pub mod Runs
--- ---- What lowering A to Z lowers right
-pub mod Caseless
-pub mod CaselessLaws
--- ---- Lowering by scripts, with no branch
-pub mod Scripts
-pub mod ScriptLaws

@@ -116,3 +116,8 @@ lower-double c h = go (lower-alike c)
     go (inr (inl w)) = absurd (omega (arith, w .0))
     go (inr (inr (inl w))) = absurd (omega (arith, w .1))
     go (inr (inr (inr w))) = (w .1, sym (w .3))
+
+-- document 02: "U+0130 .. stays"
+pub dotted-stays : lower 0x130 ≡ 0x130
+unfolding lower
+dotted-stays = refl

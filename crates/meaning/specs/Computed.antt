@@ -7,7 +7,7 @@ use Rattle.city.specs.City.{shiftMix, hashLen16Mul, hashLen16, mulOf, len1to3, 
 use Rattle.city.specs.City.{swapMul, mixU, mixV, mixY, mixLast, mix8, len33to64}
 use Rattle.city.specs.City.{weak32, weakAt, nextX, nextY, nextZ, nextV, nextW, turn, turns, start, finish, longer, cityHash64}
 use Rattle.text.specs.Digits.{digits, decimal, hex}
-use Rattle.text.specs.Id.{idOf}
+use Rattle.ids.specs.Id.{idOf}
 use Rattle.lower.specs.Lower.{lower}
 use Rattle.text.specs.Name.{decoded, textBytes}
 use Rattle.base.specs.Number.{leAt, beBytes, leBytes}

@@ -4,7 +4,7 @@ use mathlib.Core.List.{List, [], _∷_, map}
 use Prim.Native.Nat.{ℕ}
 use Rattle.base.specs.House.{lengthFirst}
 use Rattle.base.specs.Literal.{quoted as text}
-use Rattle.text.specs.Id.{idOf}
+use Rattle.ids.specs.Id.{idOf}
 use Rattle.written.specs.Written.{scriptIndex, importIndex, nullIndex, packageBytes}
 use Rattle.meaning.specs.Frame.{Part}
 use Rattle.meaning.specs.Call.{refusedIn, accepted, numberOf, limits}

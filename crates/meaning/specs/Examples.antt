@@ -7,7 +7,7 @@ use lib.ListN.{length, replicate}
 use Rattle.base.specs.House.{lengthFirst}
 use Rattle.base.specs.Literal.{quoted as text}
 use Rattle.city.specs.City.{k2}
-use Rattle.text.specs.Id.{idOf}
+use Rattle.ids.specs.Id.{idOf}
 use Rattle.text.specs.Name.{suffix}
 use Rattle.written.specs.BatchBytes.{le4, le8}
 use Rattle.written.specs.Written.{scriptIndex, nullIndex, object, scriptBytes, packageWith, packageBytes}

@@ -11,16 +11,16 @@ use borrow.Author.Tests.{lt-ltb, le-ltb, ne-eqb}
 use lib.Dec.{eqb}
 use Rattle.city.specs.City.{cityHash64}
 use Rattle.text.specs.Digits.{digits, decimal}
-use Rattle.text.specs.Id.{idOf}
-use Rattle.text.specs.IdLaws.{name-units}
-use Rattle.text.specs.LowerLaws.{lowered-append}
+use Rattle.ids.specs.Id.{idOf}
+use Rattle.ids.specs.IdLaws.{name-units}
+use Rattle.ids.specs.LowerLaws.{lowered-append}
 use Rattle.text.specs.Name.{suffix}
-use Rattle.text.specs.Units.{nameUnits}
+use Rattle.ids.specs.LoweredUnits.{nameUnits}
 use Rattle.text.specs.Utf16.{Scalar, Scalars, encodeOne, encode16, unitBytes}
 use Rattle.text.specs.Utf16Laws.{encode-append}
 use Rattle.lower.specs.Lower.{lower, lowered}
 use Rattle.lower.specs.AsciiLaws.{ascii-below}
-use Rattle.lower.specs.LatinLaws.{lower-ascii}
+use Rattle.rules.specs.LatinLaws.{lower-ascii}
 use Rattle.meaning.specs.Path.{Path, separator}
 use Rattle.meaning.specs.Verify.{slash, slashed, pathHash}
 

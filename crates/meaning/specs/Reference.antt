@@ -5,7 +5,7 @@ use Prim.Native.Nat.{ℕ, zero, suc}
 use lib.ListN.{length}
 use Rattle.text.specs.Digits.{decimal, hex}
 use Rattle.base.specs.Find.{get}
-use Rattle.text.specs.Id.{idOf}
+use Rattle.ids.specs.Id.{idOf}
 use Rattle.base.specs.Index.{kind, importName, importHash}
 use Rattle.base.specs.Literal.{quoted}
 use Rattle.zen.specs.Zen.{Read, exportName, importedName}

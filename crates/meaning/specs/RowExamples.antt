@@ -5,7 +5,7 @@ use mathlib.Core.List.{List, [], _∷_}
 use Prim.Native.Nat.{ℕ}
 use Prim.Native.String.{String}
 use Rattle.base.specs.House.{lengthFirst}
-use Rattle.text.specs.Id.{idOf}
+use Rattle.ids.specs.Id.{idOf}
 use Rattle.base.specs.Literal.{quoted as text}
 use Rattle.written.specs.Written.{scriptIndex, importIndex, nullIndex, object, scriptBytes, packageBytes}
 use Rattle.zen.specs.declared.tables.Export.{Export}

@@ -7,7 +7,7 @@ use lib.Dec.{leb, eqb}
 use lib.ListN.{length}
 use Rattle.base.specs.Find.{option, sum}
 use Rattle.base.specs.House.{lengthFirst, longestOutput}
-use Rattle.text.specs.Id.{idOf}
+use Rattle.ids.specs.Id.{idOf}
 use Rattle.base.specs.Index.{value}
 use Rattle.base.specs.Number.{beBytes}
 use Rattle.scriptblock.specs.Script.{Objects}

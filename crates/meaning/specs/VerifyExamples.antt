@@ -4,7 +4,7 @@ use mathlib.Core.Path.{_≡_, refl}
 use mathlib.Core.List.{List, [], _∷_, _++_}
 use Prim.Native.Nat.{ℕ}
 use lib.ListN.{replicate}
-use Rattle.text.specs.Id.{idOf}
+use Rattle.ids.specs.Id.{idOf}
 use Rattle.base.specs.Literal.{quoted as text}
 use Rattle.base.specs.Output.{over}
 use Rattle.written.specs.Written.{scriptIndex, nullIndex, object, scriptBytes, packageBytes}

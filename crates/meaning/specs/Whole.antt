@@ -8,7 +8,7 @@ use lib.ListN.{length}
 use Rattle.base.specs.Find.{get, flat}
 use Rattle.base.specs.FindLaws.{flat-member}
 use Rattle.base.specs.House.{lengthFirst}
-use Rattle.text.specs.Id.{idOf}
+use Rattle.ids.specs.Id.{idOf}
 use Rattle.base.specs.Index.{kind, importName, importHash}
 use Rattle.base.specs.Number.{beBytes}
 use Rattle.base.specs.Perm.{All, Each}

@@ -11,7 +11,7 @@ use borrow.Author.Tests.{ltb-true, ltb-false, eqb-true, eqb-false, lt-ltb, le-lt
 use lib.Dec.{ltb, eqb}
 use lib.ListN.{length, getD}
 use Rattle.base.specs.Find.{get}
-use Rattle.text.specs.Id.{idOf}
+use Rattle.ids.specs.Id.{idOf}
 use Rattle.base.specs.Index.{kind, importName, importHash}
 use Rattle.base.specs.Never.{never}
 use Rattle.zen.specs.Zen.{noExport, exportName, importedName}

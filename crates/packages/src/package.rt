@@ -6,7 +6,7 @@ ghost use Prim.Native.Nat.{_+_, _*_, _<_};
 ghost use lib.Dec.{ltb};
 ghost use lib.ListN.{getD};
 ghost use Rattle.base.specs.Index.{importName, importHash};
-ghost use Rattle.text.specs.Id.{idOf};
+ghost use Rattle.ids.specs.Id.{idOf};
 ghost use Rattle.batch.specs.Holds.{Holds};
 ghost use Rattle.batch.specs.Notes.{Noted};
 ghost use Rattle.batch.specs.Places.{placeAt};

@@ -20,7 +20,7 @@ use Rattle.walk.specs.Found.{classesIn}
 use Rattle.walk.specs.FoundLaws.{found-size, found-once}
 use Rattle.resolve.specs.Rows.{Kept, SomeClasses, SomeKept, Resolved, Resolution, limitsOf}
 use Rattle.pool.specs.Pool.{Roomy, Pooled}
-use Rattle.report.specs.Written.{reportAt, Ready, ReportRoom}
+use Rattle.sections.specs.Written.{reportAt, Ready, ReportRoom}
 use Rattle.walk.specs.declared.walk.Census.{Census}
 
 -- classes were linked, and all is still kept

@@ -14,7 +14,6 @@ ghost use Rattle.report.specs.CallSteps.{workNeeded, Gathered, Refused, 
 ghost use Rattle.walk.specs.Found.{Linked};
 ghost use Rattle.resolve.specs.Rows.{limitsOf};
 ghost use Rattle.scan.specs.Repeats.{NotedScript};
-use super::section::put_report;
 use base::answer::refuse;
 use batch::notes::NOTES;
 use batch::notes::note_names;
@@ -32,6 +31,7 @@ use scriptblock::script::Opened;
 use scriptblock::script::Script;
 use scriptblock::script::check_script;
 use scriptblock::script::open_script;
+use sections::section::put_report;
 use walk::script::enter_script;
 use walk::walk::Census;
 use walk::walk::Scanned;

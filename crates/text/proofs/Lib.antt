@@ -1,3 +1,1 @@
 pub mod NameLoop
-pub mod NameUnits
-pub mod WideUnits

@@ -1,4 +1,4 @@
--- Text and the id of a name, computed at their edges: each value here is another one where a definition is off by a bit, a byte or a
+-- Text, computed at its edges: each value here is another one where a definition is off by a bit, a byte or a
 -- case. Assumes nothing.
 use mathlib.Core.Path.{_≡_, refl}
 use mathlib.Core.Bool.{true, false}
@@ -6,18 +6,14 @@ use mathlib.Core.List.{List, [], _∷_, map}
 use mathlib.Core.Logic.{inl, inr}
 use Prim.Native.Nat.{ℕ, _≤_, _<_}
 use native.Mathlib.Omega.{arith}
-use Rattle.base.specs.Number.{leAt, beBytes}
+use Rattle.base.specs.Number.{beBytes}
 use Rattle.base.specs.Literal.{quoted as text}
-use Rattle.city.specs.Word.{addw, mulw, rotr}
-use Rattle.city.specs.City.{k2, shiftMix, hashLen16Mul, mulOf, len1to3, len4to7, len0to16, cityHash64}
-use Rattle.lower.specs.Lower.{lower, lowered}
 use Rattle.text.specs.Utf16.{Scalar, Scalars, isHigh, isLow, encodeOne, encode16, well, ill, isWell, scalars, utf16, units, utf16le}
 use Rattle.text.specs.Utf8.{utf8One, utf8, fromUtf8On, fromUtf8}
-use Rattle.text.specs.Units.{unitsOf, scalarOf, nameUnits}
+use Rattle.text.specs.Units.{unitsOf, scalarOf}
 use Rattle.text.specs.Digits.{digits, decimal, hex}
 use Rattle.text.specs.Name.{decoded, suffix, rendered, textBytes}
 use Rattle.text.specs.Affix.{startsWith, endsWith, allAscii}
-use Rattle.text.specs.Id.{idOf}
 use Rattle.text.specs.declared.utf16.Scalar.the-variants.{One, Two, Ill}
 
 -- ---- text
@@ -148,13 +144,12 @@ pub record Names : Type 0 where
   pub rendered-base : rendered false (text "A") 0 ∷ rendered false (text "A") 3 ∷ [] ≡ text "A" ∷ text "A_2" ∷ []
   -- "Text: 4-byte length, UTF-8"
   pub as-text : textBytes (text "Aé") ≡ 0 ∷ 0 ∷ 0 ∷ 3 ∷ 0x41 ∷ 0xC3 ∷ 0xA9 ∷ []
-  -- as units: bytes, or pairs of bytes; lowered, and the suffix
+  -- as units: bytes, or pairs of bytes
   pub one-byte-units : unitsOf false (1 ∷ 2 ∷ []) ≡ 1 ∷ 2 ∷ []
   pub two-byte-units : unitsOf true (1 ∷ 2 ∷ []) ≡ 0x0201 ∷ []
-  pub lowered-units : nameUnits (0x41 ∷ 0x142 ∷ []) (text "_0") ≡ 0x61 ∷ 0x0142 ∷ text "_0"
 
 pub names : Names
-unfolding digits decimal hex decoded utf16 units utf8One textBytes beBytes unitsOf encodeOne encode16 lower nameUnits
+unfolding digits decimal hex decoded utf16 units utf8One textBytes beBytes unitsOf encodeOne encode16
 names = record {
   code-points = refl;
   in-decimal = refl;
@@ -167,7 +162,6 @@ names = record {
   as-text = refl;
   one-byte-units = refl;
   two-byte-units = refl;
-  lowered-units = refl;
 }
 
 pub record Affixes : Type 0 where
@@ -176,21 +170,7 @@ pub record Affixes : Type 0 where
   pub ends : map (λ t. endsWith t (text "AB")) (text "AB" ∷ text "CAB" ∷ text "B" ∷ text "ABA" ∷ text "CB" ∷ text "AA" ∷ [] ∷ [])
       ≡ true ∷ true ∷ false ∷ false ∷ false ∷ false ∷ false ∷ []
   pub ascii : map allAscii ([] ∷ (0 ∷ 127 ∷ []) ∷ (128 ∷ 0 ∷ []) ∷ (0 ∷ 128 ∷ []) ∷ []) ≡ true ∷ true ∷ false ∷ false ∷ []
-  -- "follows the Unicode lowercase mappings, one character to one"
-  pub lowering : lowered (text "@AZ[`az{É×ŒİΑΣ𐐀") ≡ text "@az[`az{é×œİασ𐐨"
 
 pub affixes : Affixes
-unfolding endsWith lower
-affixes = record { starts = refl; ends = refl; ascii = refl; lowering = refl }
-
--- ---- the id of a name
-
-pub record Hashes : Type 0 where
-  -- "Id of the empty name: k2"
-  pub empty : idOf [] ≡ k2
-  -- CityHash64 of `61 00` and of `7A 00 E9 00`
-  pub lowers : idOf (text "A") ∷ idOf (text "ZÉ") ∷ [] ≡ cityHash64 (0x61 ∷ 0x00 ∷ []) ∷ cityHash64 (0x7A ∷ 0x00 ∷ 0xE9 ∷ 0x00 ∷ []) ∷ []
-
-pub hashes : Hashes
-unfolding idOf lower encodeOne encode16 cityHash64 len0to16 len1to3 len4to7 leAt mulOf addw mulw rotr shiftMix hashLen16Mul
-hashes = record { empty = refl; lowers = refl }
+unfolding endsWith
+affixes = record { starts = refl; ends = refl; ascii = refl }

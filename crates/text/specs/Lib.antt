@@ -1,6 +1,6 @@
 -- Layer 1: text. Definitions, each with its laws beside it.
 
--- ---- UTF-16, UTF-8, digits, names, affixes, lowering
+-- ---- UTF-16, UTF-8, digits, names, affixes
 pub mod Utf16
 pub mod Utf16Cases
 pub mod Utf16Laws
@@ -18,9 +18,5 @@ pub mod NameLength
 pub mod Affix
 pub mod AffixLaws
 pub mod PlainLaws
-pub mod LowerLaws
--- ---- The id of a name
-pub mod Id
-pub mod IdLaws
 -- ---- All of it computed at its edges
 pub mod Examples

@@ -8,7 +8,7 @@ use Rattle.text.specs.Utf16.{isWell}
 use Rattle.text.specs.Utf8.{utf8}
 use Rattle.text.specs.Name.{decoded, rendered}
 use Rattle.base.specs.Output.{over}
-use Rattle.text.specs.Id.{idOf}
+use Rattle.ids.specs.Id.{idOf}
 
 -- a text, of fewer than 2 ^ 32 bytes
 unfoldable pub fine : Bool → List ℕ → Bool

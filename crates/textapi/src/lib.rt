@@ -19,13 +19,13 @@ pub extern "C" fn text_lower(c: u32) -> u32
     ensures { λ r. ⌜ r ≡ lower c ⌝ }
 {
     if c < 0x1_0000 {
-        let r = lower::rules::lower_quick(c);
-        if r < lower::rules::ASK {
+        let r = rules::rules::lower_quick(c);
+        if r < rules::rules::ASK {
             return r;
         }
     } else {
         if c < 0x11_0000 {
-            return lower::rules::lower_pair(c);
+            return rules::rules::lower_pair(c);
         }
     }
     let pairs = lower::table::table();
@@ -48,7 +48,7 @@ pub extern "C" fn text_name_id(part: &[u8], wide: bool, number: u32) -> u64
     ensures { λ r. ⌜ r ≡ idAnswer wide (now (part .entry)) number ⌝ }
 {
     if is_fine(part, wide) {
-        return text::id::name_id(part, wide, number);
+        return ids::id::name_id(part, wide, number);
     }
     0
 }

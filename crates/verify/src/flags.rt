@@ -3,7 +3,7 @@ ghost use mathlib.Core.List.{map};
 ghost use mathlib.Core.Path.{_≡_};
 ghost use Prim.Native.Nat.{_≤_};
 ghost use lib.ListN.{length};
-ghost use Rattle.text.specs.Id.{idOf};
+ghost use Rattle.ids.specs.Id.{idOf};
 ghost use Rattle.base.specs.Output.{Wrote};
 ghost use Rattle.base.specs.Reading.{gives, runBlock};
 ghost use Rattle.zen.specs.Zen.{packageBlock, packageName};

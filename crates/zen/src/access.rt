@@ -3,7 +3,7 @@ ghost use mathlib.Core.Path.{_≡_};
 ghost use Prim.Native.Nat.{_<_};
 ghost use lib.ListN.{length, getD, take};
 ghost use Rattle.base.specs.Reading.{runBlock};
-ghost use Rattle.text.specs.Id.{idOf};
+ghost use Rattle.ids.specs.Id.{idOf};
 ghost use Rattle.batch.specs.Places.{placeAt};
 ghost use Rattle.batch.specs.Notes.{noteCount, Noted};
 ghost use Rattle.zen.specs.Zen.{noExport, packageBlock};

@@ -5,7 +5,7 @@ use Prim.Native.Nat.{ℕ, _≤_, _<_}
 use native.Mathlib.Omega.{arith}
 use borrow.Author.Tests.{lt-ltb, le-ltb}
 use lib.ListN.{length, take, getD}
-use Rattle.text.specs.Id.{idOf}
+use Rattle.ids.specs.Id.{idOf}
 use Rattle.base.specs.Reading.{Out, refused, gives}
 use Rattle.zen.specs.Accepted.{parts}
 use Rattle.zen.specs.Answers.{answer, namesOf, exportsOf, hashesOf, importedOf, importedNameOf, exportCount, hashCount}

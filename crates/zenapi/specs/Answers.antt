@@ -4,7 +4,7 @@ use mathlib.Core.List.{List, [], _∷_, map}
 use Prim.Native.Nat.{ℕ, _+_, _-_, _^_}
 use lib.Dec.{ltb}
 use lib.ListN.{length, take, getD}
-use Rattle.text.specs.Id.{idOf}
+use Rattle.ids.specs.Id.{idOf}
 use Rattle.base.specs.Reading.{Out, refused, gives, run, runBlock}
 use Rattle.batch.specs.Places.{placeAt}
 use Rattle.batch.specs.declared.names.Names.{Names}

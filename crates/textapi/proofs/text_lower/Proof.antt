@@ -1,7 +1,7 @@
 -- `text_lower`: the rules where they answer, else the table. Assumes nothing.
 use native.Mathlib.Omega.{arith}
 use borrow.Author.Needs.{needs}
-use Rattle.lower.specs.QuickLaws.{quick-answer}
+use Rattle.rules.specs.QuickLaws.{quick-answer}
 use Rattle.textapi.proofs.text_lower.Statement.{statement}
 use Rattle.textapi.proofs.text_lower.Tie as tie
 

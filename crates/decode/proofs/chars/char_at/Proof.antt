@@ -1,11 +1,8 @@
 -- `decode::chars::char_at` meets its contract. Assumes nothing.
 use mathlib.Core.Path.{ap, _∙_}
-use Prim.Native.Nat.{_-_, _≤_}
-use native.Mathlib.Omega.{arith}
-use lib.ListN.{length, drop, length-drop}
-use lib.Seq.{take-all}
 use borrow.Author.Needs.{needs}
 use Rattle.decode.specs.Chars.{charOf}
+use Rattle.decode.specs.TableLaws.{part-is}
 use Rattle.decode.proofs.chars.char_at.Statement.{statement}
 use Rattle.decode.proofs.chars.char_at.Tie as tie
 
@@ -24,9 +21,7 @@ first-char-requires c κs = search needs
 returns : tie.Need-returns
 returns c =
     let a = c .before .before .before .args in
-    let s = a .s .now in
-    let h : length (drop (a .at) s) ≤ length s - a .at = simp length-drop (omega arith) in
-    c .first-char .ensures ∙ ap charOf (take-all (length s - a .at) (drop (a .at) s) h)
+    c .first-char .ensures ∙ ap charOf (part-is (a .s .now) (a .at))
 
 pub char-at-spec : {M : Type 1} → statement M
 char-at-spec =

@@ -21,13 +21,13 @@ abbrev μ-loop : tie.MeasureT-loop
 turned : (c : tie.After-k Inv-loop μ-loop)
     → Turn (c .before .before .before .before .before .before .args .s .now) (c .before .before .before .before .loop .at) (c .k .given .0 .0) (c .k .given .0 .1 .0)
 turned c =
-    turn _ _ (c .before .before .before .loop-test .taken) (sym (c .before .before .char-at .ensures) ∙ c .k .given .1)
+    turn _ _ (c .before .before .before .loop-test .taken) (sym (c .before .before .quick-char .ensures) ∙ c .k .given .1)
 
 loop-holds : tie.Need-loop-holds Inv-loop μ-loop
 loop-holds c = (omega arith, refl)
 
-char-at-requires : tie.Need-char-at-requires Inv-loop μ-loop
-char-at-requires c κs = omega arith
+quick-char-requires : tie.Need-quick-char-requires Inv-loop μ-loop
+quick-char-requires c κs = omega arith
 
 enum-known-k : tie.Need-enum-known-k Inv-loop μ-loop
 enum-known-k c = search needs
@@ -47,7 +47,7 @@ enum-told c = search needs
 returns : tie.Need-returns Inv-loop μ-loop
 returns c =
     sym
-    (c .before .before .before .before .loop .inv .1 ∙ ap isWell (turn-ill _ _ (c .before .before .before .loop-test .taken) (sym (c .before .before .char-at .ensures) ∙ c .enum-told .given .1)))
+    (c .before .before .before .before .loop .inv .1 ∙ ap isWell (turn-ill _ _ (c .before .before .before .loop-test .taken) (sym (c .before .before .quick-char .ensures) ∙ c .enum-told .given .1)))
 
 returns-2 : tie.Need-returns-2 Inv-loop μ-loop
 returns-2 c = sym (c .before .loop .inv .1 ∙ ap isWell (last-turn _ _ (c .loop-test .left)))
@@ -59,7 +59,7 @@ is-utf8-spec =
     Inv-loop
     μ-loop
     loop-holds
-    char-at-requires
+    quick-char-requires
     enum-known-k
     add-at
     loop-less

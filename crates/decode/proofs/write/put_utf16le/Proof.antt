@@ -26,13 +26,13 @@ abbrev μ-loop : tie.MeasureT-loop
 turned : (c : tie.After-c Inv-loop μ-loop)
     → Turn (c .before .before .before .before .before .before .before .args .s .now) (c .before .before .before .before .loop .at) (c .c .given .0 .0) (c .c .given .0 .1 .0)
 turned c =
-    turn _ _ (c .before .before .before .loop-test .taken) (sym (c .before .before .char-at .ensures) ∙ c .c .given .1)
+    turn _ _ (c .before .before .before .loop-test .taken) (sym (c .before .before .known-char .ensures) ∙ c .c .given .1)
 
 loop-holds : tie.Need-loop-holds Inv-loop μ-loop
 loop-holds c = (omega arith, omega arith, c .before .before .pre .0, partly-none _ _)
 
-char-at-requires : tie.Need-char-at-requires Inv-loop μ-loop
-char-at-requires c κs = omega arith
+known-char-requires : tie.Need-known-char-requires Inv-loop μ-loop
+known-char-requires c κs = (omega arith, c .before .loop .inv .2)
 
 enum-known-c : tie.Need-enum-known-c Inv-loop μ-loop
 enum-known-c c = search needs
@@ -79,7 +79,7 @@ same-length c = omega arith
 returns : tie.Need-returns Inv-loop μ-loop
 returns c =
     let l = c .before .before .before .before in
-    absurd (turn-well _ _ (c .before .before .before .loop-test .taken) (l .loop .inv .2) (sym (c .before .before .char-at .ensures) ∙ c .enum-told .given .1))
+    absurd (turn-well _ _ (c .before .before .before .loop-test .taken) (l .loop .inv .2) (sym (c .before .before .known-char .ensures) ∙ c .enum-told .given .1))
 
 same-length-2 : tie.Need-same-length-2 Inv-loop μ-loop
 same-length-2 c = omega arith
@@ -94,7 +94,7 @@ put-utf16le-spec =
     Inv-loop
     μ-loop
     loop-holds
-    char-at-requires
+    known-char-requires
     enum-known-c
     sub-put-units
     part-put-units-start

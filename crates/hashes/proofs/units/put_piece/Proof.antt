@@ -7,7 +7,7 @@ use lib.ListN.{length, set, take, drop, length-set, length-take, length-drop}
 use Rattle.base.specs.Output.{Wrote}
 use Rattle.base.specs.OutputLaws.{wrote-none, wrote-as, wrote-rest, wrote-sets, wrote-length}
 use Rattle.text.specs.Name.{suffix}
-use Rattle.text.specs.Units.{nameUnits}
+use Rattle.ids.specs.LoweredUnits.{nameUnits}
 use Rattle.text.specs.Utf16.{unitBytes}
 use Rattle.batch.specs.Holds.{textAt}
 use Rattle.hashes.specs.PieceLaws.{piece-size, piece-behind, piece-front}

@@ -17,7 +17,10 @@ use Rattle.header.proofs.names.put_head.Tie as tie
 -- what was measured
 told : (c : tie.After-known-told) → Said (c .before .before .before .before .before .before .args .s .now) (c .before .units .given .0 .0)
     (c .before .units .given .0 .1 .0)
-told c = measured-text _ (sym (c .before .before .before .measure .ensures) ∙ c .before .units .given .1)
+told c = measured-text _ (sym (c .before .before .before .count .ensures) ∙ c .before .units .given .1)
+
+count-requires : tie.Need-count-requires
+count-requires c κs = search needs
 
 head-high-requires : tie.Need-head-high-requires
 head-high-requires c κs = omega (arith, told c .units, c .before .before .before .before .before .before .pre .1)
@@ -38,11 +41,11 @@ returns c =
 returns-2 : tie.Need-returns-2
 returns-2 c =
     let i = c .before .before .before .before .before in
-    let e = measured-none (i .args .s .now) (sym (c .before .before .measure .ensures) ∙ c .enum-told .given .1) in
+    let e = measured-none (i .args .s .now) (sym (c .before .before .count .ensures) ∙ c .enum-told .given .1) in
     let t : isWell ill ≡ true = rw e at (i .pre .0) in
     never (cc)
 
 pub put-head-spec : {M : Type 1} → statement M
 put-head-spec =
     tie.close
-    (tie.spec (search needs) (search needs) head-high-requires (search needs) (search needs) slice-write-out-2 (search needs) same-length returns returns-2)
+    (tie.spec count-requires (search needs) head-high-requires (search needs) (search needs) slice-write-out-2 (search needs) same-length returns returns-2)

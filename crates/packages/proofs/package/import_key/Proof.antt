@@ -4,7 +4,7 @@ use mathlib.Core.List.{List, []}
 use Prim.Native.Nat.{ℕ}
 use borrow.Author.Needs.{needs}
 use lib.ListN.{getD}
-use Rattle.text.specs.Id.{idOf}
+use Rattle.ids.specs.Id.{idOf}
 use Rattle.base.specs.Index.{importName, importHash}
 use Rattle.batch.specs.Holds.{Holds, nameAt, holds-own}
 use Rattle.batch.specs.declared.places.Place.{Place}

@@ -5,7 +5,7 @@ use Prim.Native.Nat.{ℕ, _<_}
 use native.Mathlib.Decide.{ℕ-discrete}
 use borrow.Author.Needs.{needs}
 use lib.ListN.{getD}
-use Rattle.text.specs.Id.{idOf}
+use Rattle.ids.specs.Id.{idOf}
 use Rattle.base.specs.Index.{kind, importName, importHash}
 use Rattle.zen.specs.Zen.{noExport, importedName}
 use Rattle.zen.specs.declared.tables.Export.{Export}

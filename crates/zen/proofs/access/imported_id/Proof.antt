@@ -3,7 +3,7 @@ use mathlib.Core.List.{[]}
 use mathlib.Core.Path.{ap, _∙_}
 use borrow.Author.Needs.{needs}
 use lib.ListN.{getD}
-use Rattle.text.specs.Id.{idOf}
+use Rattle.ids.specs.Id.{idOf}
 use Rattle.base.specs.Reading.{runBlock}
 use Rattle.batch.specs.Holds.{Holds, holds-own}
 use Rattle.zen.specs.Answers.{importedOf}

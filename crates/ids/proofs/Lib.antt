@@ -1,0 +1,2 @@
+pub mod NameUnits
+pub mod WideUnits

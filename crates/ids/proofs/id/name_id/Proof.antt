@@ -1,0 +1,42 @@
+-- `id::name_id`: the units of the name, and so its id. Assumes nothing.
+use native.Mathlib.Omega.{arith}
+use borrow.Author.Needs.{needs}
+use Rattle.text.specs.Name.{base}
+use Rattle.text.specs.NameLaws.{suffix-short}
+use Rattle.ids.specs.Id.{idOf}
+use Rattle.ids.specs.IdLaws.{name-units}
+use Rattle.base.specs.OutputLaws.{wrote-taken, taken-length}
+use Rattle.ids.proofs.id.name_id.Statement.{statement}
+use Rattle.ids.proofs.id.name_id.Tie as tie
+
+slice-aggregate-put-suffix : tie.Need-slice-aggregate-put-suffix
+slice-aggregate-put-suffix c = search needs
+
+put-suffix-requires : tie.Need-put-suffix-requires
+put-suffix-requires c κs = omega (arith, suffix-short (c .before .before .args .number))
+
+array-share-prefix-suffix : tie.Need-array-share-prefix-suffix
+array-share-prefix-suffix c = search needs
+
+slice-aggregate-units-hash : tie.Need-slice-aggregate-units-hash
+slice-aggregate-units-hash c = taken-length (c .before .before .put-suffix .ensures)
+
+units-hash-requires : tie.Need-units-hash-requires
+units-hash-requires c κs = (search needs, search needs, omega (arith, taken-length (c .before .before .put-suffix .ensures)))
+
+returns : tie.Need-returns
+unfolding idOf
+returns c =
+    let a = c .before .before .before .before .before .before .args in
+    rw (name-units (base (a .wide) (a .part .now)) (a .number), ← wrote-taken (c .before .before .before .put-suffix .ensures)) (c .units-hash .ensures)
+
+pub name-id-spec : {M : Type 1} → statement M
+name-id-spec =
+    tie.close
+    (tie.spec
+    slice-aggregate-put-suffix
+    put-suffix-requires
+    array-share-prefix-suffix
+    slice-aggregate-units-hash
+    units-hash-requires
+    returns)

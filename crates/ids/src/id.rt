@@ -1,0 +1,195 @@
+// The id of a name: CityHash64 of its lowered UTF-16LE form. The text stands nowhere in one piece: its units are read
+// from the block and the suffix as the hash asks for them, 64 bytes at a time.
+ghost use mathlib.Core.Path.{_≡_};
+ghost use mathlib.Core.Bool.{true};
+ghost use mathlib.Core.Logic.{_⊎_};
+ghost use Prim.Native.Nat.{_+_, _-_, _*_, _^_, _≤_, _<_};
+ghost use lib.ListN.{length, take, drop};
+ghost use Rattle.lower.specs.Lower.{lowered};
+ghost use Rattle.base.specs.Number.{leAt};
+ghost use Rattle.base.specs.Output.{Wrote};
+ghost use Rattle.text.specs.Utf16.{isWell, encode16, unitBytes};
+ghost use Rattle.text.specs.Name.{decoded, base, rendered};
+ghost use Rattle.city.specs.City.{cityHash64};
+ghost use Rattle.text.specs.Units.{unitsOf};
+ghost use Rattle.ids.specs.LoweredUnits.{nameUnits};
+ghost use Rattle.ids.specs.Id.{idOf};
+use super::wide::put_wide;
+use base::number::le64;
+use city::city::first_state;
+use city::city::hash_len0to32;
+use city::city::hash_len33up;
+use city::city::last_mix;
+use city::city::one_turn;
+use rules::latin::lower_byte;
+use text::name::put_suffix;
+use text::units::unit_count;
+
+// The units of the n bytes of one-byte text from a place on, lowered, in UTF-16LE.
+fn put_narrow(out: &mut [u8], part: &[u8], from: usize, n: usize)
+    requires { ⌜ (n ≤ length (now part) - from) × (2 * n ≤ length (now out)) ⌝ }
+    ensures { λ _. ⌜ Wrote (now (out .entry)) (unitBytes (take n (drop from (lowered (now (part .entry)))))) (now (out .exit)) (2 * n) ⌝ }
+{
+    let mut at: usize = 0;
+    let mut i: usize = 0;
+    while i < n {
+        out[at] = lower_byte(part[from + i]);
+        out[at + 1] = 0;
+        at += 2;
+        i += 1;
+    }
+}
+
+// The units of the n bytes of a suffix from a place on.
+fn put_rest(out: &mut [u8], suffix: &[u8], from: usize, n: usize)
+    requires { ⌜ (from + n ≤ length (now suffix)) × (2 * n ≤ length (now out)) ⌝ }
+    ensures { λ _. ⌜ Wrote (now (out .entry)) (unitBytes (take n (drop from (now (suffix .entry))))) (now (out .exit)) (2 * n) ⌝ }
+{
+    let mut at: usize = 0;
+    let mut i: usize = 0;
+    while i < n {
+        out[at] = suffix[from + i];
+        out[at + 1] = 0;
+        at += 2;
+        i += 1;
+    }
+}
+
+// How many of n units from a place on are among the first `count`.
+fn part_units(count: usize, from: usize, n: usize) -> usize
+    ensures { λ r. ⌜ (r ≤ n) × (r ≤ count - from) × ((r ≡ n) ⊎ (r ≡ count - from)) ⌝ }
+{
+    if count <= from {
+        return 0;
+    }
+    if n < count - from {
+        return n;
+    }
+    count - from
+}
+
+// The n units of the lowered base of a name from a place on.
+fn put_part(out: &mut [u8], part: &[u8], wide: bool, from: usize, n: usize)
+    requires { ⌜ (isWell (decoded wide (now part)) ≡ true) × (n ≤ length (unitsOf wide (now part)) - from) × (from + n < 2 ^ 64)
+        × (2 * n ≤ length (now out)) ⌝ }
+    ensures { λ _. ⌜ Wrote (now (out .entry)) (unitBytes (take n (drop from (encode16 (lowered (base wide (now (part .entry))))))))
+        (now (out .exit)) (2 * n) ⌝ }
+{
+    if wide {
+        put_wide(out, part, from, n);
+        return;
+    }
+    put_narrow(out, part, from, n);
+}
+
+// The n units of a lowered name from a place on, in UTF-16LE, of its base and of its suffix.
+fn put_mixed(out: &mut [u8], part: &[u8], wide: bool, suffix: &[u8], from: usize, n: usize)
+    requires { ⌜ (isWell (decoded wide (now part)) ≡ true) × (from + n ≤ length (nameUnits (base wide (now part)) (now suffix)))
+        × (from + n < 2 ^ 64) × (2 * n ≤ length (now out)) ⌝ }
+    ensures { λ _. ⌜ Wrote (now (out .entry)) (unitBytes (take n (drop from (nameUnits (base wide (now (part .entry))) (now (suffix .entry))))))
+        (now (out .exit)) (2 * n) ⌝ }
+{
+    let count = unit_count(part, wide);
+    let k = part_units(count, from, n);
+    put_part(out, part, wide, from, k);
+    if k < n {
+        put_rest(&mut out[2 * k..], suffix, from + k - count, n - k);
+    }
+}
+
+// The n units of a lowered name from a place on, in UTF-16LE. Those of one-byte text are written at once.
+pub fn put_units(
+    out: &mut [u8],
+    part: &[u8],
+    wide: bool,
+    suffix: &[u8],
+    from: usize,
+    n: usize,
+) -> usize
+    requires { ⌜ (isWell (decoded wide (now part)) ≡ true) × (from + n ≤ length (nameUnits (base wide (now part)) (now suffix)))
+        × (2 * n ≤ length (now out)) ⌝ }
+    ensures { λ r. ⌜ Wrote (now (out .entry)) (unitBytes (take n (drop from (nameUnits (base wide (now (part .entry))) (now (suffix .entry))))))
+        (now (out .exit)) r ⌝ }
+{
+    if !wide {
+        if from + n <= part.len() {
+            put_narrow(out, part, from, n);
+            return 2 * n;
+        }
+    }
+    put_mixed(out, part, wide, suffix, from, n);
+    2 * n
+}
+
+// The 64 bytes of the 32 units of a lowered name from a place on. `put_units` is written out here: the compiler keeps `put_mixed` apart, as
+// one-byte text wants it, because it has two callers.
+fn chunk_at(part: &[u8], wide: bool, suffix: &[u8], from: usize) -> [u8; 64]
+    requires { ⌜ (isWell (decoded wide (now part)) ≡ true) × (from + 32 ≤ length (nameUnits (base wide (now part)) (now suffix))) ⌝ }
+    ensures { λ r. ⌜ r ≡ unitBytes (take 32 (drop from (nameUnits (base wide (now (part .entry))) (now (suffix .entry))))) ⌝ }
+{
+    let mut chunk = [0u8; 64];
+    if !wide {
+        if from + 32 <= part.len() {
+            put_narrow(&mut chunk, part, from, 32);
+            return chunk;
+        }
+    }
+    put_mixed(&mut chunk, part, wide, suffix, from, 32);
+    chunk
+}
+
+// The word of the first four units of a lowered name.
+fn first_word(part: &[u8], wide: bool, suffix: &[u8]) -> u64
+    requires { ⌜ (isWell (decoded wide (now part)) ≡ true) × (4 ≤ length (nameUnits (base wide (now part)) (now suffix))) ⌝ }
+    ensures { λ r. ⌜ r ≡ leAt 8 (unitBytes (nameUnits (base wide (now (part .entry))) (now (suffix .entry)))) 0 ⌝ }
+{
+    let mut word = [0u8; 8];
+    put_units(&mut word, part, wide, suffix, 0, 4);
+    le64(&word, 0)
+}
+
+// CityHash64 of a lowered name of more than 32 units.
+fn long_hash(part: &[u8], wide: bool, suffix: &[u8], n: usize) -> u64
+    requires { ⌜ (isWell (decoded wide (now part)) ≡ true) × (n ≡ length (nameUnits (base wide (now part)) (now suffix))) × (32 < n) × (n < 2 ^ 33) ⌝ }
+    ensures { λ r. ⌜ r ≡ cityHash64 (unitBytes (nameUnits (base wide (now (part .entry))) (now (suffix .entry)))) ⌝ }
+{
+    let last = chunk_at(part, wide, suffix, n - 32);
+    let first = first_word(part, wide, suffix);
+    let mut t = first_state(2 * (n as u64), &last, first);
+    let mut from: usize = 0;
+    let mut left = (2 * n - 1) >> 6;
+    while 0 < left {
+        let chunk = chunk_at(part, wide, suffix, from);
+        t = one_turn(&chunk, t);
+        from += 32;
+        left -= 1;
+    }
+    last_mix(t)
+}
+
+// CityHash64 of a lowered name.
+fn units_hash(part: &[u8], wide: bool, suffix: &[u8]) -> u64
+    requires { ⌜ (isWell (decoded wide (now part)) ≡ true) × (length (now part) < 2 ^ 32) × (length (now suffix) < 2 ^ 32) ⌝ }
+    ensures { λ r. ⌜ r ≡ cityHash64 (unitBytes (nameUnits (base wide (now (part .entry))) (now (suffix .entry)))) ⌝ }
+{
+    let n = unit_count(part, wide) + suffix.len();
+    if 32 < n {
+        return long_hash(part, wide, suffix, n);
+    }
+    let mut chunk = [0u8; 64];
+    let size = put_units(&mut chunk, part, wide, suffix, 0, n);
+    if size <= 32 {
+        return hash_len0to32(&chunk[..size]);
+    }
+    hash_len33up(&chunk[..size])
+}
+
+// The id of a name.
+pub fn name_id(part: &[u8], wide: bool, number: u32) -> u64
+    requires { ⌜ (isWell (decoded wide (now part)) ≡ true) × (length (now part) < 2 ^ 32) ⌝ }
+    ensures { λ r. ⌜ r ≡ idOf (rendered wide (now (part .entry)) number) ⌝ }
+{
+    let mut suffix = [0u8; 24];
+    let n = put_suffix(&mut suffix, number);
+    units_hash(part, wide, &suffix[..n])
+}

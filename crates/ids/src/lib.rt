@@ -1,0 +1,4 @@
+// Layer 1: the id of a name.
+pub mod lowered; // the units of a lowered text
+pub mod wide; // the same of wide text, many a turn
+pub mod id; // the id of a name
