@@ -1,6 +1,6 @@
 /*
- * The class report of a corpus of package headers, and the check of its own hashes: the calls, their answers, and what a
- * refusal means.
+ * The class report of a corpus of package headers, the check of its own hashes, and headers written from a description:
+ * the calls, their answers, and what a refusal means.
  *
  * Link with target/staticlib/libcapi.a, which `rt staticlib capi` writes (x86-64 Linux).
  *
@@ -85,6 +85,37 @@ static inline uint32_t classreport_count(const uint8_t *out, enum classreport_ve
 /* A length of class_verify's `out` that is enough for every corpus of this length: a package has 12 bytes or more. */
 static inline size_t classreport_verify_enough(size_t corpus_len) { return CLASSREPORT_FLAGS_AT + corpus_len / 12; }
 
+/*
+ * Writes the package header that `description` describes to the front of `header` and returns its length, or returns a
+ * refusal (below) and leaves `header` as it was. Bytes of `header` behind that are left as they were. The description,
+ * big-endian, with nothing left over:
+ *
+ *     4 bytes   the length of the rest
+ *     1 byte    the version, 1
+ *     4 + 4     the package's name: the number of its text in the first list, from 0, and the instance number
+ *     4 bytes   how many texts, then for each 4 bytes for its length, and UTF-8
+ *     4 bytes   how many exports, then for each its name (4 + 4), its outer, class, super and public hash (8 bytes each)
+ *     4 bytes   how many public hashes, then 8 bytes for each
+ *     4 bytes   how many imported names, then for each a text as above, and 4 bytes for its instance number
+ *
+ * The header is little-endian, as a corpus has it. What isn't described is 0 or empty: name hashes, flags, sizes, bulk data,
+ * import map, bundles, dependencies. Text that fits Latin-1 is written so, any other as UTF-16. The least header has 90 bytes.
+ *
+ * - Two questions are asked: 27, of the description alone, and then 28, of `header`'s length: has it the header's?
+ *   classreport_header_enough() gives one that is always enough. A refusal names block 0.
+ * - No pointer may be null, not even with a length of 0. The two buffers must lie apart. Any bytes may be handed in.
+ */
+uint64_t class_header(const uint8_t *description, size_t description_len, uint8_t *header, size_t header_len);
+
+/* The longest header that there can be. */
+#define CLASSREPORT_LONGEST_HEADER UINT64_C(2147483647)
+
+/* A length of class_header's `header` that is enough for every description of this length: the longest header, or three
+   times the description's length. */
+static inline size_t classreport_header_enough(size_t description_len) {
+    return description_len > CLASSREPORT_LONGEST_HEADER / 3 ? (size_t)CLASSREPORT_LONGEST_HEADER : 3 * description_len;
+}
+
 /* The longest report that there can be. */
 #define CLASSREPORT_LONGEST UINT64_C(4294967299)
 
@@ -99,12 +130,12 @@ static inline int classreport_refused(uint64_t answer) { return (int)(answer >> 
 /* The length of what was written, where the answer is none. */
 static inline uint64_t classreport_length(uint64_t answer) { return classreport_refused(answer) ? 0 : answer; }
 
-/* The question that failed, 1 to 26 (23 is retired) or 29, or 0 where none did: bits 32 to 39. */
+/* The question that failed, 1 to 29 (23 is retired), or 0 where none did: bits 32 to 39. */
 static inline unsigned classreport_question(uint64_t answer) {
     return classreport_refused(answer) ? (unsigned)(answer >> 32 & 0xff) : 0;
 }
 
-/* The block that it failed in: 0 the corpus, 1 the script block, j + 1 package j (from 1): bits 0 to 31. */
+/* The block that it failed in: 0 the corpus or description, 1 the script block, j + 1 package j (from 1): bits 0 to 31. */
 static inline uint32_t classreport_block(uint64_t answer) {
     return classreport_refused(answer) ? (uint32_t)(answer & 0xffffffff) : 0;
 }
@@ -116,7 +147,7 @@ static inline uint32_t classreport_package(uint64_t answer) {
 }
 
 /* The questions. They are asked in this order, except that 29 is the first, and 3 to 7 and 10 are asked wherever their
-   field is read. */
+   field is read; class_header asks 27 and 28 and no others. */
 enum classreport_refusal {
     CLASSREPORT_NONE = 0,
     /* Does the corpus's length equal 4 plus its first length, with at least the version byte? Does every further
@@ -172,6 +203,11 @@ enum classreport_refusal {
     CLASSREPORT_WORK = 25,
     /* Is the report, or what class_verify writes, at most 4,294,967,299 bytes long, and within its buffer? */
     CLASSREPORT_REPORT = 26,
+    /* Is the description as class_header wants it? Is each text number in the list of texts? Has no name more than 32,767
+       units (of 16 bits), and the header at most 2,147,483,647 bytes? */
+    CLASSREPORT_DESCRIPTION = 27,
+    /* Is the header within its buffer? */
+    CLASSREPORT_HEADER = 28,
     /* Is the lookup limit 1 to 64, and the object limit 1 to 65? */
     CLASSREPORT_LIMITS = 29
 };
@@ -204,6 +240,8 @@ static inline const char *classreport_failed(unsigned question) {
     case CLASSREPORT_KEY_TWICE: return "a class key comes twice";
     case CLASSREPORT_WORK: return "the work buffer is too short";
     case CLASSREPORT_REPORT: return "the report is too long";
+    case CLASSREPORT_DESCRIPTION: return "the description is malformed, or its header can't be written";
+    case CLASSREPORT_HEADER: return "the header buffer is too short";
     case CLASSREPORT_LIMITS: return "a limit is out of its range";
     default: return "nothing";
     }

@@ -1,5 +1,6 @@
-// The call as C sees it (document 01): each slice is a pointer and a length.
+// The calls as C sees them (document 01): each slice is a pointer and a length.
 ghost use Rattle.claims.specs.Claims.{Called};
+ghost use Rattle.claims.specs.Header as Header;
 ghost use Rattle.claims.specs.Verify as Verify;
 use base::answer::refuse;
 use limits::in_range;
@@ -30,4 +31,12 @@ pub extern "C" fn class_verify(corpus: &[u8], work: &mut [u8], out: &mut [u8]) -
     ensures { λ r. ⌜ Verify.Called (now (corpus .entry)) (now (out .entry)) r (now (out .exit)) ⌝ }
 {
     verify::call::class_verify(corpus, work, out)
+}
+
+// The package header that a description in house form describes (document 02, Q-4).
+#[no_mangle]
+pub extern "C" fn class_header(description: &[u8], header: &mut [u8]) -> u64
+    ensures { λ r. ⌜ Header.Called (now (description .entry)) (now (header .entry)) r (now (header .exit)) ⌝ }
+{
+    header::call::class_header(description, header)
 }

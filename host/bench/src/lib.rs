@@ -1,6 +1,7 @@
 //! What the benchmarks of whole calls share: options, corpora of several sizes and hostile shapes, and a table of times.
 pub mod options;
 pub mod race;
+pub mod told;
 
 use std::process::ExitCode;
 use std::time::Duration;

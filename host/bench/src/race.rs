@@ -30,7 +30,7 @@ pub struct Times {
 }
 
 /// The shorter of a time and the one that a function takes, whose result is given.
-fn best<T>(time: &mut Duration, run: impl FnOnce() -> T) -> T {
+pub fn best<T>(time: &mut Duration, run: impl FnOnce() -> T) -> T {
     let (given, taken) = timed(run);
     *time = taken.min(*time);
     given

@@ -15,7 +15,8 @@
 //! # Ok::<(), Box<dyn std::error::Error>>(())
 //! ```
 //!
-//! [`verify`] asks whether a build has the hashes of its own names.
+//! [`verify`] asks whether a build has the hashes of its own names. [`header`] writes a package header from a
+//! [`Description`], for packages that no engine has cooked.
 //!
 //! Everything that a report says was worked out by the proved call. [`chain`] follows the same classes a second time, to
 //! show the way; it decides nothing.
@@ -23,9 +24,10 @@
 
 mod call;
 pub mod chain;
-
+mod description;
 mod fields;
 mod frame;
+mod header;
 mod limits;
 mod parsed;
 mod question;
@@ -34,8 +36,10 @@ mod row;
 mod verify;
 
 pub use call::{LONGEST, report, report_into, report_within};
+pub use description::{Description, Export, ImportedName, NULL, Name};
 pub use fields::Malformed;
 pub use frame::{Corpus, CorpusBuilder, Package, TooLong};
+pub use header::{LONGEST_HEADER, header, header_into};
 pub use limits::Limits;
 pub use parsed::{Report, Rows, Section, Sections};
 pub use question::{QUESTIONS, Question};

@@ -1,9 +1,10 @@
-//! The questions that are asked, 29 before all others; the first that fails is the refusal. 23 is retired.
+//! The questions that are asked, 29 before all others; the first that fails is the refusal. 23 is retired; 27 and 28 are
+//! asked of headers that are to be written, and no others are then.
 
 /// A question, and what it means to fail it.
 #[derive(Debug, Clone, Copy, PartialEq, Eq)]
 pub struct Question {
-    /// 1 to 22, 24 to 26, 29.
+    /// 1 to 22, 24 to 29.
     pub number: u8,
     /// What is wrong where the answer is no, in a few words.
     pub failed: &'static str,
@@ -19,7 +20,7 @@ impl Question {
     /// ```
     /// let question = classreport::Question::numbered(2).unwrap();
     /// assert_eq!(question.failed, "the corpus has a version other than 1");
-    /// assert!([0, 23, 27].iter().all(|none| classreport::Question::numbered(*none).is_none()));
+    /// assert!([0, 23, 30].iter().all(|none| classreport::Question::numbered(*none).is_none()));
     /// ```
     pub fn numbered(number: u8) -> Option<&'static Question> {
         QUESTIONS.iter().find(|question| question.number == number)
@@ -41,7 +42,7 @@ const fn question(
 }
 
 /// All questions, in the order of their numbers.
-pub const QUESTIONS: [Question; 26] = [
+pub const QUESTIONS: [Question; 28] = [
     question(
         1,
         "the corpus's lengths do not fit its bytes",
@@ -194,6 +195,20 @@ pub const QUESTIONS: [Question; 26] = [
         "Is the report at most 4,294,967,299 bytes long, and within its buffer?",
         "The program that made the call lent too short a report buffer. Where it lent 4,294,967,299 bytes, the build is too \
          large for one report: split it.",
+    ),
+    question(
+        27,
+        "the description is malformed, or its header can't be written",
+        "Is the description in house form, with nothing left over, version 1 and texts in UTF-8? Is each text number in the \
+         list of texts? Has no name more than 32,767 units, and the header at most 2,147,483,647 bytes?",
+        "The program that made the call wrote the description otherwise. Where it is right, a name is too long or the package \
+         is too large.",
+    ),
+    question(
+        28,
+        "the header buffer is too short",
+        "Is the header within its buffer?",
+        "The program that made the call lent too short a header buffer. Three times the description's length is always enough.",
     ),
     question(
         29,

@@ -1,4 +1,4 @@
-//! Why there is no report.
+//! Why nothing was written.
 use std::error::Error;
 use std::fmt;
 
@@ -15,14 +15,14 @@ use crate::Question;
 /// ```
 #[derive(Debug, Clone, Copy, PartialEq, Eq, Hash)]
 pub struct Refusal {
-    /// 1 to 22, 24 to 26, 29: see [`Question`].
+    /// 1 to 22, 24 to 29: see [`Question`].
     pub question: u8,
-    /// 0 is the corpus, 1 the script block, j + 1 package j (from 1).
+    /// 0 is the corpus, or the description of a header; 1 the script block, j + 1 package j (from 1).
     pub block: u32,
 }
 
 impl Refusal {
-    /// The refusal in a number that the call returned, or `None` where it is a report's length.
+    /// The refusal in a number that the call returned, or `None` where it is the length of what was written.
     ///
     /// ```
     /// let refusal = classreport::Refusal::of_number(0x8000_0011_0000_0008).unwrap();
@@ -47,6 +47,7 @@ impl Refusal {
     pub fn place(self) -> String {
         let block = self.block;
         match (block, self.package()) {
+            (0, _) if matches!(self.question, 27 | 28) => "block 0, the description".to_owned(),
             (0, _) => "block 0, the corpus".to_owned(),
             (_, None) => "block 1, the script block".to_owned(),
             (_, Some(package)) => format!("block {block}, package {package}"),

@@ -3,7 +3,7 @@ use std::fs;
 use std::path::{Path, PathBuf};
 use std::process::{Command, Output};
 
-use classreport::QUESTIONS;
+use classreport::{Description, Export, ImportedName, QUESTIONS};
 use corpus::generate::{dense, generate, hashed};
 
 const CRATE: &str = env!("CARGO_MANIFEST_DIR");
@@ -85,4 +85,19 @@ fn a_host_in_c() {
         let found = model::class_verify(&corpus, u64::MAX);
         answered(&run(&program, Some(&corpus), &["verify"]), &found);
     }
+    let mut tone = Description {
+        texts: ["/Game/Tone", "Töne ♪"].map(str::to_owned).to_vec(),
+        exports: vec![Export::default()],
+        hashes: vec![1, 2],
+        imported: vec![ImportedName::default()],
+        ..Description::default()
+    };
+    let written = |tone: &Description| {
+        let bytes = tone.bytes().expect("no 4 GB");
+        run(&program, Some(&bytes), &["header"])
+    };
+    let header = classreport::header(&tone).expect("accepted");
+    answered(&written(&tone), &Ok(header));
+    tone.name.text = 2;
+    answered(&written(&tone), &Err((27, 0)));
 }

@@ -5,6 +5,7 @@ pub mod census;
 pub mod damage;
 pub mod decode;
 mod described;
+pub mod description;
 pub mod draft;
 mod frame;
 pub mod generate;
@@ -23,6 +24,7 @@ pub mod tally;
 mod text;
 
 pub use described::Described;
+pub use description::Description;
 pub use frame::corpus;
 pub use index::{NULL, import_index, kind, script_index};
 pub use package::{Export, Package};

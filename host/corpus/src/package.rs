@@ -2,7 +2,7 @@
 use crate::Text;
 use crate::draft::PackageDraft;
 
-#[derive(Debug, Clone, Copy)]
+#[derive(Debug, Clone, Copy, PartialEq, Eq)]
 pub struct Export {
     pub name: u32,
     pub number: u32,
@@ -10,6 +10,11 @@ pub struct Export {
     pub class: u64,
     pub super_index: u64,
     pub hash: u64,
+}
+
+/// A name's number in its batch: the low 30 bits of what a mapped name says.
+pub(crate) fn place(name: u32) -> u32 {
+    name & 0x3fff_ffff
 }
 
 #[derive(Debug, Clone, Default)]

@@ -1,5 +1,6 @@
 //! A described corpus given the hashes of its names: global indices from paths, ids from package names.
 use crate::name::{path_index, rendered};
+use crate::package::place;
 use crate::{Described, Package, ScriptEntry, kind};
 use std::collections::{HashMap, HashSet};
 
@@ -88,7 +89,7 @@ impl Described {
     }
 
     fn base(&self, entry: &ScriptEntry) -> String {
-        self.names[place(entry.name)].text()
+        self.names[place(entry.name) as usize].text()
     }
 
     fn rendered(&self, entry: &ScriptEntry) -> String {
@@ -99,12 +100,7 @@ impl Described {
     pub fn name_packages(&mut self, mut choose: impl FnMut(u64, &str, u32) -> u64) {
         for (id, package) in &mut self.packages {
             let Package { names, name, .. } = package;
-            *id = choose(*id, &names[place(name.0)].text(), name.1);
+            *id = choose(*id, &names[place(name.0) as usize].text(), name.1);
         }
     }
-}
-
-/// A name's number in its batch: the low 30 bits.
-fn place(name: u32) -> usize {
-    name as usize & 0x3fff_ffff
 }

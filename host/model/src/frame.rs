@@ -1,5 +1,7 @@
-//! The corpus's own layout, big-endian, and questions 1 and 2; its block is 0.
+//! The corpus's own layout, and questions 1 and 2; its block is 0.
 use answer::Refusal;
+
+use crate::house::{bytes, number};
 
 pub struct Frame<'a> {
     pub script: &'a [u8],
@@ -9,14 +11,19 @@ pub struct Frame<'a> {
 
 pub fn frame(corpus: &[u8]) -> Result<Frame<'_>, Refusal> {
     let mut rest = corpus;
-    let length = number(&mut rest, 4)?;
-    if length != rest.len() as u64 {
+    let length = number(&mut rest, 4);
+    if length != Some(rest.len() as u64) {
         return Err((1, 0));
     }
     // without a version byte this is 1 too
-    if number(&mut rest, 1)? != 1 {
+    if number(&mut rest, 1).ok_or((1, 0))? != 1 {
         return Err((2, 0));
     }
+    parts(rest).ok_or((1, 0))
+}
+
+/// What follows the version; None where bytes are missing or left.
+fn parts(mut rest: &[u8]) -> Option<Frame<'_>> {
     let script = bytes(&mut rest)?;
     let count = number(&mut rest, 4)?;
     let mut packages = Vec::new();
@@ -24,28 +31,6 @@ pub fn frame(corpus: &[u8]) -> Result<Frame<'_>, Refusal> {
         let id = number(&mut rest, 8)?;
         packages.push((id, bytes(&mut rest)?));
     }
-    if !rest.is_empty() {
-        return Err((1, 0));
-    }
-    Ok(Frame { script, packages })
-}
-
-/// Takes so many bytes off the front, where they lie inside.
-fn take<'a>(rest: &mut &'a [u8], count: usize) -> Result<&'a [u8], Refusal> {
-    let (taken, left) = rest.split_at_checked(count).ok_or((1, 0))?;
-    *rest = left;
-    Ok(taken)
-}
-
-fn number(rest: &mut &[u8], width: usize) -> Result<u64, Refusal> {
-    let taken = take(rest, width)?;
-    Ok(taken
-        .iter()
-        .fold(0, |sum, byte| sum * 256 + u64::from(*byte)))
-}
-
-/// A 4-byte length and so many bytes.
-fn bytes<'a>(rest: &mut &'a [u8]) -> Result<&'a [u8], Refusal> {
-    let length = number(rest, 4)?;
-    take(rest, length as usize)
+    let frame = Frame { script, packages };
+    rest.is_empty().then_some(frame)
 }

@@ -5,6 +5,8 @@ mod call;
 mod city;
 mod classes;
 mod frame;
+mod header;
+mod house;
 mod lower;
 mod names;
 mod package;
@@ -18,5 +20,6 @@ mod verify;
 
 pub use call::{BASE, Limits, class_report, class_report_within};
 pub use city::city_hash64;
+pub use header::class_header;
 pub use lower::lower;
 pub use verify::class_verify;

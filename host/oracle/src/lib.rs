@@ -2,6 +2,7 @@
 include!(concat!(env!("OUT_DIR"), "/reference.rs"));
 
 pub mod frame;
+pub mod header;
 pub mod question;
 pub mod report;
 mod row;

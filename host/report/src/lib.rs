@@ -4,8 +4,10 @@
     reason = "calls a proved function through its C interface"
 )]
 
+mod header;
 mod verify;
 
+pub use header::class_header;
 pub use verify::class_verify;
 
 mod c {

@@ -3,7 +3,7 @@
 use std::process::ExitCode;
 
 use answer::Answer;
-use clock::timed;
+use bench::told::{self, Told};
 use corpus::census::census;
 use corpus::generate::sized;
 
@@ -33,9 +33,6 @@ fn call(corpus: &[u8], work: u64, buffer: u64) -> Answer {
     Ok(report)
 }
 
-/// A report's length and sum, since two such reports would not fit in most memories; or the refusal.
-type Told = Result<(u64, u64), answer::Refusal>;
-
 /// Asks all about a corpus with such a report, with buffers that just hold it; whether they say the same, and rightly.
 fn ask(report: u64) -> bool {
     let described = sized(report);
@@ -46,18 +43,8 @@ fn ask(report: u64) -> bool {
         corpus.len()
     );
     let work = census(&corpus).work();
-    let told = JUDGES.map(|(judge, call)| {
-        let (answer, time) = timed(|| call(&corpus, work, report));
-        let number = answer::number(&answer);
-        let told = answer.map(|report| (report.len() as u64, cityhasher::hash(report)));
-        let shown = match told {
-            Ok((length, sum)) => format!("a report of {length} bytes, CityHash64 {sum:#018x}"),
-            Err((refusal, block)) => format!("refusal {refusal}, block {block}"),
-        };
-        let seconds = time.as_secs_f64();
-        println!("  {judge}: {number:#018x}, {shown}; {seconds:.1} s");
-        told
-    });
+    let told =
+        JUDGES.map(|(judge, call)| told::ask(judge, "report", || call(&corpus, work, report)));
     right(report, &told[0]) && told.iter().all(|other| *other == told[0])
 }
 

@@ -1,5 +1,8 @@
 //! Which names of a corpus have another hash than they should: the call counts them, here they are found to be shown.
+use std::collections::HashMap;
+
 use super::names::id;
+use super::objects::Objects;
 use super::{Disagreement, Headers};
 use crate::{Limits, Verified};
 
@@ -25,7 +28,36 @@ pub struct Flagged {
     pub matches: bool,
 }
 
-/// What a build gives an object with this path: all but the two bits of kind.
+/// The index that a build gives the script object with this path.
+///
+/// ```
+/// assert_eq!(classreport::chain::script_index("/Script/Engine.AudioComponent"), 0x732e_b8c6_7277_cc8c);
+/// ```
+pub fn script_index(path: &str) -> u64 {
+    1 << 62 | hash(path)
+}
+
+/// The paths behind the indices of a script block that the call accepts in a corpus. Where an index is not that of its path,
+/// or the path is not known, there is none.
+///
+/// ```
+/// let paths = classreport::chain::script_paths(&[0; 8])?;
+/// assert!(paths.is_empty());
+/// # Ok::<(), Box<dyn std::error::Error>>(())
+/// ```
+///
+/// # Errors
+/// Where it can't be read here.
+pub fn script_paths(script: &[u8]) -> Result<HashMap<u64, String>, Disagreement> {
+    let objects = Objects::read(script).ok_or(Disagreement::unreadable(1))?;
+    let told = |(index, _)| {
+        let path = objects.line(index, Limits::BOOTHS.objects).path()?;
+        (script_index(&path) == index).then_some((index, path))
+    };
+    Ok(objects.each().filter_map(told).collect())
+}
+
+/// The same without the two bits of kind.
 fn hash(path: &str) -> u64 {
     id(&path.replace(['.', ':'], "/")) << 2 >> 2
 }

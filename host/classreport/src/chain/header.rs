@@ -1,15 +1,8 @@
 //! A package's header, so far as chains need it.
+use super::described::read;
 use super::index::{Kind, kind};
-use super::names::{Name, batch, rendered};
-use super::reader::Reader;
-
-pub(super) struct Export {
-    name: Name,
-    outer: u64,
-    pub(super) class: u64,
-    pub(super) super_index: u64,
-    pub(super) hash: u64,
-}
+use super::names::rendered;
+use crate::Export;
 
 pub(super) struct Header {
     pub(super) id: u64,
@@ -21,56 +14,20 @@ pub(super) struct Header {
     pub(super) imported: Vec<String>,
 }
 
-/// Where the regions start that are read.
-struct Summary {
-    name: Name,
-    size: usize,
-    hashes: usize,
-    imports: usize,
-    exports: usize,
-    bundle_entries: usize,
-    imported: usize,
-}
-
-impl Summary {
-    fn read(r: &mut Reader) -> Option<Summary> {
-        let _flag = r.u32()?;
-        let size = r.size()?;
-        let name = Name::read(r)?;
-        let _flags_and_cooked_size = r.u64()?;
-        let mut offsets = [0; 7];
-        for offset in &mut offsets {
-            *offset = r.size()?;
-        }
-        let [hashes, imports, exports, bundle_entries, _, _, imported] = offsets;
-        Some(Summary {
-            name,
-            size,
-            hashes,
-            imports,
-            exports,
-            bundle_entries,
-            imported,
-        })
-    }
-}
-
 impl Header {
     pub(super) fn read(id: u64, block: &[u8]) -> Option<Header> {
-        let mut r = Reader::new(block);
-        let summary = Summary::read(&mut r)?;
-        let names = batch(&mut r)?;
-        let name = summary.name;
-        let header = Header {
+        let (_, read) = read(block)?;
+        let imported = read.imported.iter();
+        Some(Header {
             id,
-            name: name.is_in(&names).then(|| name.rendered(&names))?,
-            hashes: hashes(block.get(summary.hashes..summary.imports)?),
-            exports: exports(block.get(summary.exports..summary.bundle_entries)?)?,
-            imported: imported(block.get(summary.imported..summary.size)?)?,
-            names,
-        };
-        let is_named = |export: &Export| export.name.is_in(&header.names);
-        header.exports.iter().all(is_named).then_some(header)
+            name: read.name.rendered(&read.texts),
+            names: read.texts,
+            hashes: read.hashes,
+            exports: read.exports,
+            imported: imported
+                .map(|name| rendered(&name.text, name.number))
+                .collect(),
+        })
     }
 
     pub(super) fn rendered(&self, export: &Export) -> String {
@@ -103,37 +60,4 @@ impl Header {
             Some(outer) => format!("{package}.{}:{own}", self.rendered(outer)),
         }
     }
-}
-
-fn hashes(region: &[u8]) -> Vec<u64> {
-    let (hashes, _) = region.as_chunks();
-    hashes.iter().copied().map(u64::from_le_bytes).collect()
-}
-
-fn exports(region: &[u8]) -> Option<Vec<Export>> {
-    let mut r = Reader::new(region);
-    let mut exports = Vec::new();
-    while !r.is_empty() {
-        let _serial = r.take(16)?;
-        let name = Name::read(&mut r)?;
-        let (outer, class, super_index) = (r.u64()?, r.u64()?, r.u64()?);
-        let _template = r.u64()?;
-        let hash = r.u64()?;
-        let _flags = r.u64()?;
-        exports.push(Export {
-            name,
-            outer,
-            class,
-            super_index,
-            hash,
-        });
-    }
-    Some(exports)
-}
-
-fn imported(region: &[u8]) -> Option<Vec<String>> {
-    let mut r = Reader::new(region);
-    let names = batch(&mut r)?;
-    let numbered = |name: String| Some(rendered(&name, r.u32()?));
-    names.into_iter().map(numbered).collect()
 }

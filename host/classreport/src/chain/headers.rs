@@ -2,12 +2,12 @@
 use std::collections::HashMap;
 
 use super::agree::{Disagreement, agree};
-use super::header::{Export, Header};
+use super::header::Header;
 use super::index::{Kind, kind};
 use super::objects::{Line, LineEnd, Objects};
 use super::reference::{Key, Meaning, Reference, reference};
 use super::{Chain, Class, End};
-use crate::{ClassKind, Corpus, Limits, Row, Section};
+use crate::{ClassKind, Corpus, Export, Limits, Row, Section};
 
 /// The headers of an accepted corpus, to be followed within the limits of its report.
 ///

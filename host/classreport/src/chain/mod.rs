@@ -3,7 +3,10 @@
 //! A report says where a chain ends, not how it gets there. Here the corpus's headers are read a second time and each
 //! chain is followed again, to be shown. Every end is compared with the row that the proved call gave: where they differ
 //! there is a [`Disagreement`] and no chain.
+//!
+//! [`described`] reads a single header as what describes it, also to be shown.
 mod agree;
+mod described;
 mod hashes;
 mod header;
 mod headers;
@@ -14,8 +17,11 @@ mod reader;
 mod reference;
 
 pub use agree::Disagreement;
-pub use hashes::{Findings, Flagged};
+pub use described::{Described, LeftOut, described};
+pub use hashes::{Findings, Flagged, script_index, script_paths};
 pub use headers::Headers;
+pub use names::id;
+pub(crate) use names::rendered;
 pub use objects::{Line, LineEnd};
 
 use crate::ClassKind;

@@ -1,5 +1,6 @@
 //! Name batches, and names with an instance number.
 use super::reader::Reader;
+use crate::Name;
 
 /// The texts of a name batch.
 pub(super) fn batch(r: &mut Reader) -> Option<Vec<String>> {
@@ -37,27 +38,21 @@ fn name([first, second]: [u8; 2], strings: &mut Reader) -> Option<String> {
     String::from_utf16(&units).ok()
 }
 
-/// A mapped name: its number in the batch, and the instance number.
-#[derive(Debug, Clone, Copy)]
-pub(super) struct Name {
-    index: usize,
-    number: u32,
-}
-
 impl Name {
+    /// A mapped name: its number in the batch, whose top two bits say nothing here, and the instance number.
     pub(super) fn read(r: &mut Reader) -> Option<Name> {
-        let index = (r.u32()? & 0x3fff_ffff) as usize;
+        let text = r.u32()? & 0x3fff_ffff;
         let number = r.u32()?;
-        Some(Name { index, number })
+        Some(Name { text, number })
     }
 
     /// The text without the instance number.
     pub(super) fn base(self, batch: &[String]) -> &str {
-        &batch[self.index]
+        &batch[self.text as usize]
     }
 
     pub(super) fn is_in(self, batch: &[String]) -> bool {
-        self.index < batch.len()
+        (self.text as usize) < batch.len()
     }
 
     /// The text with the instance number.
@@ -67,7 +62,7 @@ impl Name {
 }
 
 /// A base with what its instance number adds: nothing for 0, `_` and N - 1 for N.
-pub(super) fn rendered(base: &str, number: u32) -> String {
+pub(crate) fn rendered(base: &str, number: u32) -> String {
     match number.checked_sub(1) {
         None => base.to_owned(),
         Some(shown) => format!("{base}_{shown}"),
@@ -75,7 +70,11 @@ pub(super) fn rendered(base: &str, number: u32) -> String {
 }
 
 /// The id of a package's name: CityHash64 of its UTF-16LE text, each character lowered to one.
-pub(super) fn id(name: &str) -> u64 {
+///
+/// ```
+/// assert_eq!(classreport::chain::id("/Game/Sound/BP_Sound"), 0xa82b_bfaa_f2eb_0386);
+/// ```
+pub fn id(name: &str) -> u64 {
     let lowered: String = name.chars().map(lower).collect();
     let units: Vec<[u8; 2]> = lowered.encode_utf16().map(u16::to_le_bytes).collect();
     cityhasher::hash(units.as_flattened())

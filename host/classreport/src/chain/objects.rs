@@ -2,8 +2,9 @@
 use std::collections::HashMap;
 
 use super::index::{Kind, kind};
-use super::names::{Name, batch};
+use super::names::batch;
 use super::reader::Reader;
+use crate::Name;
 
 struct Object {
     name: String,

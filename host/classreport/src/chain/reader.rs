@@ -4,11 +4,17 @@
 #[derive(Clone, Copy)]
 pub(super) struct Reader<'a> {
     rest: &'a [u8],
+    /// how much of it was read
+    at: usize,
 }
 
 impl<'a> Reader<'a> {
     pub(super) fn new(rest: &'a [u8]) -> Reader<'a> {
-        Reader { rest }
+        Reader { rest, at: 0 }
+    }
+
+    pub(super) fn at(&self) -> usize {
+        self.at
     }
 
     pub(super) fn is_empty(&self) -> bool {
@@ -18,6 +24,7 @@ impl<'a> Reader<'a> {
     pub(super) fn take(&mut self, count: usize) -> Option<&'a [u8]> {
         let (taken, rest) = self.rest.split_at_checked(count)?;
         self.rest = rest;
+        self.at += count;
         Some(taken)
     }
 

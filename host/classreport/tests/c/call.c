@@ -1,5 +1,5 @@
 /* Makes the calls by the header, as a host in C would. `call CORPUS` writes the report to stdout, `call CORPUS verify` what
-   class_verify finds. */
+   class_verify finds, `call DESCRIPTION header` the header. */
 #include "classreport.h"
 
 #include <stdio.h>
@@ -9,6 +9,9 @@
 /* The corpus without objects and packages, and its report. */
 static const uint8_t EMPTY[21] = {0, 0, 0, 17, 1, 0, 0, 0, 8};
 static const uint8_t EMPTY_REPORT[9] = {0, 0, 0, 5, 1, 0, 0, 0, 0};
+
+/* What describes a package named A. */
+static const uint8_t NAMED_A[34] = {0, 0, 0, 30, 1, 0, 0, 0, 0, 0, 0, 0, 0, 0, 0, 0, 1, 0, 0, 0, 1, 'A'};
 
 static int failures;
 
@@ -69,6 +72,30 @@ static void verified(void) {
     expect(classreport_question(answer) == CLASSREPORT_VERSION, "version 2 is refused here too");
 }
 
+static void written(void) {
+    uint8_t description[sizeof NAMED_A], header[92], before[92];
+    memset(before, 0xaa, sizeof before);
+    memcpy(header, before, sizeof header);
+    expect(classreport_header_enough(sizeof NAMED_A) == 102, "enough for the header");
+    expect(classreport_header_enough(SIZE_MAX) == CLASSREPORT_LONGEST_HEADER, "no header is longer");
+    uint64_t answer = class_header(NAMED_A, sizeof NAMED_A, header, 90);
+    expect(answer == UINT64_C(0x8000001c00000000), "90 bytes are too short, in block 0");
+    expect(classreport_question(answer) == CLASSREPORT_HEADER, "which is question 28");
+    memcpy(description, NAMED_A, sizeof description);
+    description[4] = 2;
+    answer = class_header(description, sizeof description, header, 0);
+    expect(classreport_question(answer) == CLASSREPORT_DESCRIPTION, "version 2 is asked before the buffer");
+    answer = class_header(NAMED_A, sizeof NAMED_A - 1, header, sizeof header);
+    expect(classreport_question(answer) == CLASSREPORT_DESCRIPTION, "a description cut short");
+    expect(memcmp(header, before, sizeof header) == 0, "the header's buffer is as it was");
+    answer = class_header(NAMED_A, sizeof NAMED_A, header, sizeof header);
+    expect(answer == 91 && classreport_length(answer) == 91, "a package named A has 91 bytes");
+    expect(header[4] == 91 && header[80] == 0 && header[78] == 'A', "its size, and its name");
+    for (int offset = 24; offset < 52; offset += 4)
+        expect(header[offset] == 87 && header[offset + 1] == 0, "its offsets are 87");
+    expect(header[91] == 0xaa, "the byte behind the header");
+}
+
 static void limited(void) {
     uint8_t work[1], report[9];
     memset(report, 0x55, sizeof report);
@@ -108,7 +135,14 @@ static uint8_t *read_file(const char *name, size_t *length) {
     return bytes;
 }
 
-/* Either call. */
+/* class_header with a work buffer, which it has no use for. */
+static uint64_t to_header(const uint8_t *description, size_t length, uint8_t *work, size_t work_length, uint8_t *header,
+                          size_t room) {
+    (void)work, (void)work_length;
+    return class_header(description, length, header, room);
+}
+
+/* Any of the calls. */
 typedef uint64_t call(const uint8_t *, size_t, uint8_t *, size_t, uint8_t *, size_t);
 
 static int output_of(call *made, const char *name) {
@@ -133,11 +167,12 @@ static int output_of(call *made, const char *name) {
 
 int main(int argc, char **argv) {
     if (argc > 1)
-        return output_of(argc == 2 ? in_a_booth : class_verify, argv[1]);
+        return output_of(argc == 2 ? in_a_booth : strcmp(argv[2], "verify") == 0 ? class_verify : to_header, argv[1]);
     accepted();
     refused();
     verified();
     limited();
+    written();
     unpacked();
     return failures != 0;
 }

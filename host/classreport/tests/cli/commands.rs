@@ -176,8 +176,8 @@ fn help_and_version() {
     let overview = place.done(&["--help"]);
     assert_eq!(place.done(&["help"]), overview);
     for name in [
-        "show", "check", "summary", "why", "verify", "diff", "explain", "report", "pack", "unpack",
-        "example",
+        "show", "check", "summary", "why", "verify", "diff", "explain", "header", "describe",
+        "report", "pack", "unpack", "example",
     ] {
         assert!(overview.contains(&format!("\n  {name} ")), "{name}");
         let help = place.done(&[name, "--help"]);
@@ -187,7 +187,7 @@ fn help_and_version() {
         assert_eq!(place.done(&[name, "-h"]), help);
     }
     assert!(place.done(&["--version"]).starts_with("classreport "));
-    assert_eq!(place.done(&["explain"]).lines().count(), 26);
+    assert_eq!(place.done(&["explain"]).lines().count(), 28);
     let packed = place.done(&["explain", "0x8000001100000008"]);
     assert!(
         packed.starts_with("Refused 17 (block 8, package 7): an offset is below its predecessor")

@@ -1,13 +1,18 @@
 //! The real program on real files.
 mod browser;
 mod commands;
+mod describe;
+mod descriptions;
 mod diffs;
+mod documents;
 mod files;
+mod header;
 mod limits;
 mod pages;
 mod python;
 mod refusals;
 mod rows;
+mod schema;
 mod texts;
 mod tool;
 mod usage;

@@ -63,15 +63,15 @@ fn bad_arguments_are_told() {
         ),
         (
             &["explain", "30"],
-            "'30' is neither a question (1 to 22, 24 to 26, 29) nor a number that the call returned",
+            "'30' is neither a question (1 to 22, 24 to 29) nor a number that the call returned",
         ),
         (
             &["explain", "23"],
-            "'23' is neither a question (1 to 22, 24 to 26, 29) nor a number that the call returned",
+            "'23' is neither a question (1 to 22, 24 to 29) nor a number that the call returned",
         ),
         (
             &["explain", "x"],
-            "'x' is neither a question (1 to 22, 24 to 26, 29) nor a number that the call returned",
+            "'x' is neither a question (1 to 22, 24 to 29) nor a number that the call returned",
         ),
         (
             &["why", "booth", "Nobody"],

@@ -66,3 +66,22 @@ pub fn damage_block(random: &mut Random, corpus: &[u8]) -> Vec<u8> {
     damage(random, &mut out[range], corpus);
     out
 }
+
+/// A description with damage by chance: bytes changed, taken out or put in, or cut short; mostly with the length that it
+/// then has, since most is asked behind that.
+pub fn damage_description(random: &mut Random, description: &[u8]) -> Vec<u8> {
+    let mut out = description.to_vec();
+    let at = random.below(out.len() as u64) as usize;
+    let some = random.below(9) as usize;
+    match random.below(10) {
+        0 => out.truncate(at),
+        1 => drop(out.drain(at..out.len().min(at + some))),
+        2 => drop(out.splice(at..at, vec![0; some])),
+        _ => damage(random, &mut out[4..], description),
+    }
+    if random.chance(95) && out.len() >= 4 {
+        let length = out.len() as u32 - 4;
+        put(&mut out, 0, &length.to_be_bytes());
+    }
+    out
+}

@@ -1,18 +1,22 @@
 //! Damage: named faults in document 01's order of questions, each an edit of a sound draft, and damage to bytes by
-//! chance; beside them edits that are no faults.
+//! chance; beside them edits that are no faults. So too of what describes a header.
 mod accents;
 mod batch;
 mod block;
 mod bytes;
+mod description;
 mod frame;
 mod package;
 mod script;
 mod sound;
+mod utf8;
 
 pub use accents::{Accent, accents};
 pub use block::cuts;
-pub use bytes::{damage, damage_block};
+pub use bytes::{damage, damage_block, damage_description};
+pub use description::{Malformed, malformed, sound_description};
 pub use sound::sound;
+pub use utf8::ILL_FORMED;
 
 use crate::draft::Draft;
 

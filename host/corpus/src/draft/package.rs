@@ -92,6 +92,19 @@ impl PackageDraft {
         d
     }
 
+    /// With 0 in every passed-over field; what has no fixed length stays.
+    #[must_use]
+    pub fn cleared(mut self) -> PackageDraft {
+        (self.package_flags, self.cooked_size) = (0, 0);
+        self.batch.hashes.fill(0);
+        self.imported.hashes.fill(0);
+        for export in &mut self.exports {
+            (export.serial, export.template) = ([0; 2], 0);
+            (export.object_flags, export.filter) = (0, [0; 4]);
+        }
+        self
+    }
+
     /// Offsets and sizes as the parts' lengths have them.
     fn settle(&mut self) {
         let mut at = 52 + self.batch.size() + 8 + self.bulk.len();

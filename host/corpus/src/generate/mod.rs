@@ -1,12 +1,15 @@
 //! Corpora from a seed. `generate` makes large ones like a game's build, `dense` small ones in which everything meets,
 //! `spelt` small ones about the spelling of names, `hashed` small ones with the hashes of their names, `natives` large script
 //! blocks, `ladder` those that go step by step to a limit, `heavy` and `hostile` those that are meant to be slow; `sized` one
-//! whose report has a wanted length.
+//! whose report has a wanted length. `description` makes what describes a header, `lengthy` one whose header has a wanted
+//! length.
 mod dense;
+mod descriptions;
 mod hashed;
 pub mod heavy;
 pub mod hostile;
 pub mod ladder;
+mod lengthy;
 mod names;
 mod objects;
 mod packages;
@@ -17,7 +20,9 @@ mod spelt;
 
 pub use crate::random::Random;
 pub use dense::{dense, dense_described};
+pub use descriptions::{LONGEST_NAME, description, description_edges, filled};
 pub use hashed::hashed;
+pub use lengthy::{FILLINGS, Filling, lengthy};
 pub use objects::natives;
 pub use sized::{sized, sized_edges};
 pub use spelt::spelt;

@@ -3,58 +3,10 @@ use answer::Answer;
 use corpus::generate::Random;
 use model::{BASE, Limits};
 
-/// So many bytes stand before and behind each buffer.
-const CANARY: usize = 64;
-
-fn canary(i: usize) -> u8 {
-    (i as u8).wrapping_mul(151) ^ 0xc5
-}
-
-/// A buffer with canaries on both sides.
-#[derive(Default)]
-struct Buffer {
-    bytes: Vec<u8>,
-    start: usize,
-    length: usize,
-    /// how often it started at each of eight addresses
-    starts: [u64; 8],
-}
-
-impl Buffer {
-    /// Sets the canaries around so many bytes, which keep what an earlier call left there.
-    fn lay(&mut self, length: usize, random: &mut Random) {
-        self.start = CANARY + random.below(16) as usize;
-        self.length = length;
-        let end = self.start + length;
-        self.bytes.resize(self.bytes.len().max(end + CANARY), 0);
-        for i in 0..CANARY {
-            self.bytes[self.start - CANARY + i] = canary(i);
-            self.bytes[end + i] = canary(i);
-        }
-        let address = self.bytes[self.start..].as_ptr().addr();
-        self.starts[address % 8] += 1;
-    }
-
-    fn lent(&mut self) -> &mut [u8] {
-        &mut self.bytes[self.start..self.start + self.length]
-    }
-
-    fn intact(&self) -> bool {
-        let end = self.start + self.length;
-        let before = &self.bytes[self.start - CANARY..self.start];
-        let behind = &self.bytes[end..end + CANARY];
-        let whole = |side: &[u8]| side.iter().enumerate().all(|(i, b)| *b == canary(i));
-        whole(before) && whole(behind)
-    }
-}
+use crate::buffer::Buffer;
 
 /// What the work buffer holds when it is lent.
 const CONTENTS: [&str; 4] = ["zeros", "ones", "noise", "what a call left"];
-
-/// What the report's buffer holds at a place when it is lent.
-fn noise(seed: u8, i: usize) -> u8 {
-    seed.wrapping_add((i as u8).wrapping_mul(29)) ^ (i >> 8) as u8
-}
 
 /// Limits, a corpus, a work buffer and an output buffer give a number.
 pub(crate) type Call = fn(Limits, &[u8], &mut [u8], &mut [u8]) -> u64;
@@ -97,9 +49,12 @@ impl Caller {
         work: usize,
         report: usize,
     ) -> Answer {
-        let seed = self.prepare(corpus, work, report);
+        self.corpus.lay_input(corpus, &mut self.random);
+        self.work.lay(work, &mut self.random);
+        self.fill_work();
+        self.report.lay_output(report, &mut self.random);
         let number = self.call(limits, corpus);
-        let answer = self.answer(number, seed);
+        let answer = self.report.answer(number);
         // The work buffer is now as the call left it, and the report's holds the report.
         let before = self.report.lent().to_vec();
         assert_eq!(
@@ -109,20 +64,6 @@ impl Caller {
         );
         assert!(before == self.report.lent(), "the report the second time");
         answer
-    }
-
-    /// Lays out the buffers, and gives the seed of what the report's holds.
-    fn prepare(&mut self, corpus: &[u8], work: usize, report: usize) -> u8 {
-        self.corpus.lay(corpus.len(), &mut self.random);
-        self.work.lay(work, &mut self.random);
-        self.report.lay(report, &mut self.random);
-        self.corpus.lent().copy_from_slice(corpus);
-        self.fill_work();
-        let seed = self.random.next() as u8;
-        for (i, byte) in self.report.lent().iter_mut().enumerate() {
-            *byte = noise(seed, i);
-        }
-        seed
     }
 
     fn fill_work(&mut self) {
@@ -148,33 +89,13 @@ impl Caller {
         number
     }
 
-    /// The answer of a number: past the report, and where there is none, the report's buffer is as it was.
-    fn answer(&mut self, number: u64, seed: u8) -> Answer {
-        let refusal = answer::refusal(number);
-        let length = refusal.map_or(number, |_| 0);
-        let buffer = self.report.lent();
-        assert!(length <= buffer.len() as u64, "{length} bytes, too many");
-        let (report, rest) = buffer.split_at(length as usize);
-        let as_it_was = (report.len()..)
-            .zip(rest)
-            .all(|(i, b)| *b == noise(seed, i));
-        assert!(as_it_was, "written past a report of {length} bytes");
-        let answer = refusal.map_or_else(|| Ok(report.to_vec()), Err);
-        assert_eq!(number, answer::number(&answer), "bits beside the answer");
-        answer
-    }
-
     /// Contents of the work buffer and starts of any buffer that never were.
     pub(crate) fn missing(&self) -> Vec<String> {
-        let mut out = Vec::new();
-        for (what, n) in CONTENTS.iter().zip(self.contents) {
-            if n == 0 {
-                out.push(format!("work of {what}"));
-            }
-        }
+        let contents = CONTENTS.iter().zip(self.contents);
+        let never = contents.filter(|(_, n)| *n == 0);
+        let mut out: Vec<String> = never.map(|(what, _)| format!("work of {what}")).collect();
         for buffer in [&self.corpus, &self.work, &self.report] {
-            let never = (0..8).filter(|i| buffer.starts[*i] == 0);
-            out.extend(never.map(|i| format!("a start {i} bytes past a multiple of 8")));
+            out.extend(buffer.missing());
         }
         out
     }

@@ -3,6 +3,8 @@ mod agree;
 mod asked;
 #[path = "../../../oracle/tests/both/mod.rs"]
 mod both;
+#[path = "../buffer/mod.rs"]
+mod buffer;
 mod demand3;
 mod faults;
 mod hostile;

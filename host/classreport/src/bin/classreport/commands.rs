@@ -3,7 +3,7 @@ use std::fmt::Write;
 
 use crate::args::{Flag, Words};
 use crate::failure::Failure;
-use crate::{diff, explain, files, show, summary, verify, why};
+use crate::{describe, diff, explain, files, header, schema, show, summary, verify, why};
 
 pub struct Command {
     pub name: &'static str,
@@ -36,6 +36,7 @@ const REVERSE: Flag = flag("reverse", None, None);
 const WIDTH: Flag = flag("width", None, Some("COLUMNS"));
 const LOOKUPS: Flag = flag("lookups", None, Some("N"));
 const OBJECTS: Flag = flag("objects", None, Some("N"));
+const SCRIPT: Flag = flag("script", None, Some("FILE"));
 const TEACHING: Flag = flag("teaching", None, None);
 
 /// What every command takes.
@@ -77,7 +78,7 @@ packages.tsv lists them (ID, a tab, the file; in corpus order, ids may repeat). 
 what `report` writes. INPUT is any of them, - is standard input.
 ";
 
-pub static COMMANDS: [Command; 11] = [
+pub static COMMANDS: [Command; 13] = [
     Command {
         name: "show",
         operands: "INPUT",
@@ -208,13 +209,42 @@ Examples:
         flags: &[],
         about: "what a refusal means and what usually causes it",
         help: "\
-NUMBER is a question, 1 to 22, 24 to 26 and 29, or the number that the call returned. Without it all questions are listed.
+NUMBER is a question, 1 to 22 or 24 to 29, or the number that the call returned. Without it all questions are listed.
 
 Examples:
   classreport explain 17
   classreport explain 0x8000001100000008
 ",
         run: explain::run,
+    },
+    Command {
+        name: "header",
+        operands: "DESCRIPTION",
+        count: (1, 1),
+        flags: &[],
+        about: "a package header from a description in JSON, for tests without the engine",
+        help: schema::HELP,
+        run: header::run,
+    },
+    Command {
+        name: "describe",
+        operands: "HEADER",
+        count: (1, 1),
+        flags: &[SCRIPT],
+        about: "the description of a package header, the way back",
+        help: "\
+HEADER is a package's file. What is written is JSON as `header` reads it (`classreport header --help`): it gives the same
+header, byte for byte, where that was written by `header`. An engine's header also has what no description says: bulk data,
+an import map, bundles and dependencies, hashes of names, flags and sizes. That is left out, and a line on standard error
+says what was there. A list is printed only where `header` would not make the same of what is used.
+
+      --script FILE     a build's script.bin: script objects are then told by their paths
+
+Examples:
+  classreport describe --script build/script.bin build/packages/90448a944c3b20bd.bin -o echo.json
+  classreport header echo.json | classreport describe -
+",
+        run: describe::run,
     },
     Command {
         name: "report",
@@ -285,7 +315,7 @@ pub fn overview() -> String {
          Usage: classreport COMMAND ...; classreport COMMAND --help\n\nCommands:\n",
     );
     for Command { name, about, .. } in &COMMANDS {
-        let _ = writeln!(text, "  {name:8} {about}");
+        let _ = writeln!(text, "  {name:9}{about}");
     }
     format!("{text}\n{INPUTS_HELP}\n{EVERYWHERE_HELP}\nTry:\n  classreport show --example\n")
 }

@@ -15,7 +15,7 @@ pub fn run(words: &Words) -> Result<u8, Failure> {
             let word = word.to_string_lossy();
             let (question, place) = asked(&word).ok_or_else(|| {
                 Failure::usage(format!(
-                    "'{word}' is neither a question (1 to 22, 24 to 26, 29) nor a number that the call returned"
+                    "'{word}' is neither a question (1 to 22, 24 to 29) nor a number that the call returned"
                 ))
             })?;
             told(question, place, look)
@@ -54,6 +54,7 @@ fn told(question: &Question, place: Option<Refusal>, look: Look) -> String {
     let place = place.map_or(String::new(), |refusal| format!(" ({})", refusal.place()));
     let head = look.bold(&format!("Refused {number}{place}: {failed}."));
     let blocks = match number {
+        27 | 28 => "It names block 0: what describes a header has no blocks.",
         1 | 2 | 25 | 26 | 29 => "It names block 0, the corpus.",
         8 | 9 | 11..=13 => "It names block 1, the script block.",
         14..=24 => "It names the block of the package: block j + 1 is package j, from 1.",

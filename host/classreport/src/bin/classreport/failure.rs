@@ -14,6 +14,8 @@ pub struct Failure {
     kind: Kind,
     /// the file that it is about
     file: Option<String>,
+    /// line and column in it, from 1
+    place: Option<(usize, usize)>,
     message: String,
     /// of a refusal, with the id of its package
     refusal: Option<(Refusal, Option<u64>)>,
@@ -28,6 +30,8 @@ enum Kind {
     Malformed,
     /// hashes or ids that are not those of the names
     Mismatch,
+    /// no failure: something could not be taken over
+    LeftOut,
     /// nobody reads what is written
     Closed,
 }
@@ -37,6 +41,7 @@ impl Failure {
         Failure {
             kind,
             file: None,
+            place: None,
             message: message.into(),
             refusal: None,
         }
@@ -55,6 +60,11 @@ impl Failure {
         Failure::new(Kind::Mismatch, message)
     }
 
+    /// What could not be taken over, though all else was.
+    pub fn left_out(message: impl Into<String>) -> Failure {
+        Failure::new(Kind::LeftOut, message)
+    }
+
     /// A refusal, and the id of the package that it names.
     pub fn refused(refusal: Refusal, id: Option<u64>) -> Failure {
         Failure {
@@ -70,6 +80,14 @@ impl Failure {
         Failure {
             message: format!("refused {question} ({place}, id {id:016x}): {failed}"),
             ..Failure::refused(refusal, Some(id))
+        }
+    }
+
+    /// A refusal of a file that is the only block that was asked about, so that no block is told.
+    pub fn refused_alone(refusal: Refusal) -> Failure {
+        Failure {
+            message: format!("refused {}: {}", refusal.question, refusal.failed()),
+            ..Failure::refused(refusal, None)
         }
     }
 
@@ -95,10 +113,22 @@ impl Failure {
         self
     }
 
+    /// The same, at this line and column of it.
+    pub fn at(mut self, line: usize, column: usize) -> Failure {
+        self.place = Some((line, column));
+        self
+    }
+
+    /// The same, with a reason.
+    pub fn because(mut self, reason: &str) -> Failure {
+        self.message = format!("{}: {reason}", self.message);
+        self
+    }
+
     /// 0 done, 1 refused or differing, 2 usage, 3 input or output, 4 malformed file, 5 mismatch.
     pub fn status(&self) -> u8 {
         match self.kind {
-            Kind::Closed => 0,
+            Kind::Closed | Kind::LeftOut => 0,
             Kind::Refused | Kind::Disagreement => 1,
             Kind::Usage => 2,
             Kind::Files => 3,
@@ -107,12 +137,14 @@ impl Failure {
         }
     }
 
-    /// What is told, without the name of the program: the file, then what is wrong.
+    /// What is told, without the name of the program: the file with the place in it, then what is wrong.
     pub fn text(&self) -> String {
         let message = crate::text::visible(&self.message);
-        match &self.file {
-            None => message,
-            Some(file) => format!("{}: {message}", crate::text::visible(file)),
+        let file = self.file.as_deref().map(crate::text::visible);
+        match (file, self.place) {
+            (None, _) => message,
+            (Some(file), None) => format!("{file}: {message}"),
+            (Some(file), Some((line, column))) => format!("{file}:{line}:{column}: {message}"),
         }
     }
 
@@ -137,6 +169,7 @@ impl Failure {
             Kind::Files => "files",
             Kind::Malformed => "malformed",
             Kind::Mismatch => "mismatch",
+            Kind::LeftOut => "left_out",
             Kind::Closed => "closed",
         };
         let mut fields = vec![
@@ -145,6 +178,10 @@ impl Failure {
         ];
         if let Some(file) = &self.file {
             fields.push(("file", quoted(file)));
+        }
+        if let Some((line, column)) = self.place {
+            fields.push(("line", line.to_string()));
+            fields.push(("column", column.to_string()));
         }
         if let Some((refusal, id)) = self.refusal {
             fields.push(("question", refusal.question.to_string()));

@@ -3,6 +3,7 @@ use std::ffi::{OsStr, OsString};
 use std::io::{self, Read};
 use std::path::{Path, PathBuf};
 
+use classreport::chain::described;
 use classreport::{Corpus, Limits, Refusal, Report, Verified};
 
 use crate::args::Words;
@@ -114,7 +115,7 @@ pub fn named_source(words: &Words, name: &OsStr) -> Result<Source, Failure> {
 }
 
 /// A file, or standard input.
-fn read(words: &Words, name: &OsStr) -> Result<(PathBuf, Vec<u8>), Failure> {
+pub fn read(words: &Words, name: &OsStr) -> Result<(PathBuf, Vec<u8>), Failure> {
     let path = Path::new(name);
     let _shown = Progress::start(words, format!("{}: reading", path.display()));
     if name != "-" {
@@ -193,6 +194,9 @@ fn looks_like_report(bytes: &[u8]) -> Result<bool, Failure> {
         (Err(_), Ok(_)) => Ok(false),
         (Ok(_), Ok(_)) => Err(Failure::usage(
             "it can be read as a report and as a corpus: say which with --as report or --as corpus",
+        )),
+        _ if described(bytes).is_ok() => Err(Failure::malformed(
+            "it is a package header: `classreport describe` shows it",
         )),
         (Err(malformed), Err(refusal)) => Err(Failure::malformed(format!(
             "it is neither a report ({malformed}) nor a corpus ({refusal})"

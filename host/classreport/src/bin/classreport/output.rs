@@ -21,9 +21,7 @@ pub type Body<'a> = dyn FnOnce(&mut dyn Write) -> io::Result<()> + 'a;
 pub fn write(words: &Words, holds: Holds, body: Box<Body>) -> Result<(), Failure> {
     let file = words.value("output").filter(|file| *file != "-");
     match file {
-        Some(file) => {
-            to_file(Path::new(file), body).map_err(|error| Failure::files(&error).about(file))
-        }
+        Some(file) => to_named(Path::new(file), body),
         None => to_stdout(holds, body),
     }
 }
@@ -38,6 +36,16 @@ pub fn write_text(words: &Words, text: &str) -> Result<(), Failure> {
 pub fn write_bytes(words: &Words, bytes: &[u8]) -> Result<(), Failure> {
     let body = |out: &mut dyn Write| out.write_all(bytes);
     write(words, Holds::Bytes, Box::new(body))
+}
+
+/// Writes a file of this name, whatever `-o` says.
+pub fn write_file(file: &Path, bytes: &[u8]) -> Result<(), Failure> {
+    let body = |out: &mut dyn Write| out.write_all(bytes);
+    to_named(file, Box::new(body))
+}
+
+fn to_named(file: &Path, body: Box<Body>) -> Result<(), Failure> {
+    to_file(file, body).map_err(|error| Failure::files(&error).about(file))
 }
 
 fn to_stdout(holds: Holds, body: Box<Body>) -> Result<(), Failure> {
