@@ -258,12 +258,12 @@ columns-same u v e =
     ∙ ap (columns (v .outer) (v .start) (v .size)) (eqb-true (u .number) (v .number) n)
 
 -- its text is this row's
-pub shared : {b : List ℕ} {n objects gap rows lo hi r : ℕ} {v w : List ℕ} → State b n objects gap rows lo hi r v w → {l m : Led} {k : ℕ} → l ≡ ledAt w (rowAt w r)
-    → m ≡ ledAt w (rowAt w k) → Before w r (l .object) k → k < r → (m .size ≡ 0 → ⊥)
+pub shared : {b : List ℕ} {n objects gap rows lo hi r : ℕ} {v w : List ℕ} → State b n objects gap rows lo hi r v w → {u : Object} {m : Led} {k : ℕ}
+    → u ≡ ledAt w (rowAt w r) .object → m ≡ ledAt w (rowAt w k) → Before w r u k → k < r → (m .size ≡ 0 → ⊥)
     → TextAt b n objects lo hi w (ledAt w (rowAt w r) .object) (m .text) (m .size)
-shared {b} {n} {objects} {gap} {rows} {lo} {hi} {r} {v} {w} t {l} {m} {k} p q e h ne =
-    let x : ledAt w (rowAt w k) .object ≡ ledAt w (rowAt w r) .object = e .same h ∙ ap (λ (y : Led). y .object) p in
-    subst (λ (u : Object). TextAt b n objects lo hi w u (m .text) (m .size)) x
+shared {b} {n} {objects} {gap} {rows} {lo} {hi} {r} {v} {w} t {u} {m} {k} p q e h ne =
+    let x : ledAt w (rowAt w k) .object ≡ ledAt w (rowAt w r) .object = e .same h ∙ p in
+    subst (λ (y : Object). TextAt b n objects lo hi w y (m .text) (m .size)) x
     (subst (λ (y : Led). TextAt b n objects lo hi w (ledAt w (rowAt w k) .object) (y .text) (y .size)) (sym q)
     (t .done .texts k h .kept (λ z. ne (ap (λ (y : Led). y .size) q ∙ z))))
 

@@ -11,6 +11,7 @@ ghost use Rattle.pool.specs.Pool.{Stood, Left, State, sameColumns, Befor
 use super::compose::compose;
 use objects::object::Object;
 use resolve::rows::led_at;
+use resolve::rows::object_in;
 use table::entries::clear;
 use table::words::get32;
 use table::words::set32;
@@ -32,8 +33,7 @@ fn before(w: &[u8], slot: usize, r: usize, u: Object) -> usize
     if r <= k {
         return r;
     }
-    let l = led_at(w, k);
-    if is_same(l.object, u) {
+    if is_same(object_in(w, k), u) {
         return k;
     }
     r
@@ -93,8 +93,7 @@ fn pool_row(
     ensures is { λ k. ⌜ ((v : List ℕ) → State (now (s .entry)) n objects gap rows (gap + 4 * slots) free r v (now (w .entry))
         → State (now (s .entry)) n objects gap rows (gap + 4 * slots) k (r + 1) v (now (w .exit))) ⌝ }
 {
-    let l = led_at(w, r);
-    let u = l.object;
+    let u = object_in(w, r);
     if u.outer == 0 {
         keep(w, r, 0, 0);
         return free;
@@ -123,7 +122,8 @@ fn slots_of(n: usize, rows: usize) -> usize
     2 * n + 1
 }
 
-// Sets the slots to 0: nothing is read of the work buffer that was not written.
+// Sets the slots to 0, since `before` also reads one that no row has set yet. Of a row its object is read, which resolving wrote, and where its text
+// stands only once it keeps one: nothing is read of the work buffer that was not written.
 fn clear_slots(w: &mut [u8], n: usize, classes: usize, rows: usize)
     requires { ⌜ 64 * (n + classes + rows) ≤ length (now w) ⌝ }
     ensures { λ _. ⌜ Left (64 * (n + classes)) rows (now (w .entry)) (now (w .exit)) ⌝ }

@@ -43,6 +43,20 @@ pub struct Led {
     pub size: usize,
 }
 
+// The columns of the script object that row r leads to. Where its text stands is not read: it may not be kept yet.
+pub fn object_in(w: &[u8], r: usize) -> Object
+    requires { ⌜ 32 * (r + 1) ≤ length (now w) ⌝ }
+    ensures { λ u. ⌜ u ≡ ledAt (now (w .entry)) (rowAt (now (w .entry)) r) .object ⌝ }
+{
+    let at = w.len() - 32 * (r + 1);
+    Object {
+        outer: get32(w, at + 4),
+        start: get32(w, at + 8),
+        size: get32(w, at + 12),
+        number: le32(w, at + 16),
+    }
+}
+
 // Where row r leads.
 pub fn led_at(w: &[u8], r: usize) -> Led
     requires { ⌜ 32 * (r + 1) ≤ length (now w) ⌝ }
@@ -51,12 +65,7 @@ pub fn led_at(w: &[u8], r: usize) -> Led
     let at = w.len() - 32 * (r + 1);
     Led {
         class: get32(w, at),
-        object: Object {
-            outer: get32(w, at + 4),
-            start: get32(w, at + 8),
-            size: get32(w, at + 12),
-            number: le32(w, at + 16),
-        },
+        object: object_in(w, r),
         text: get32(w, at + 20),
         size: get32(w, at + 24),
     }

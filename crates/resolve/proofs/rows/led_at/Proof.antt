@@ -15,6 +15,9 @@ sub-at c = search needs
 get32-requires : tie.Need-get32-requires
 get32-requires c κs = search needs
 
+object-in-requires : tie.Need-object-in-requires
+object-in-requires c κs = search needs
+
 add-get32 : tie.Need-add-get32
 add-get32 c = search needs
 
@@ -27,30 +30,6 @@ add-get32-2 c = search needs
 get32-requires-3 : tie.Need-get32-requires-3
 get32-requires-3 c κs = search needs
 
-add-get32-3 : tie.Need-add-get32-3
-add-get32-3 c = search needs
-
-get32-requires-4 : tie.Need-get32-requires-4
-get32-requires-4 c κs = search needs
-
-add-le32 : tie.Need-add-le32
-add-le32 c = search needs
-
-le32-requires : tie.Need-le32-requires
-le32-requires c κs = search needs
-
-add-get32-4 : tie.Need-add-get32-4
-add-get32-4 c = search needs
-
-get32-requires-5 : tie.Need-get32-requires-5
-get32-requires-5 c κs = search needs
-
-add-get32-5 : tie.Need-add-get32-5
-add-get32-5 c = search needs
-
-get32-requires-6 : tie.Need-get32-requires-6
-get32-requires-6 c κs = search needs
-
 returns : tie.Need-returns
 returns c = cc
 
@@ -62,16 +41,9 @@ led-at-spec =
     mul-at
     sub-at
     get32-requires
+    object-in-requires
     add-get32
     get32-requires-2
     add-get32-2
     get32-requires-3
-    add-get32-3
-    get32-requires-4
-    add-le32
-    le32-requires
-    add-get32-4
-    get32-requires-5
-    add-get32-5
-    get32-requires-6
     returns)
