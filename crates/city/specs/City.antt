@@ -39,41 +39,47 @@ hashLen16 u v = hashLen16Mul u v kMul
 unfoldable pub mulOf : ℕ → ℕ
 mulOf n = addw k2 (n * 2)
 
--- HashLen0to16, by its cases
-unfoldable pub len1to3 : List ℕ → ℕ
-len1to3 s =
-    let n = length s in
-    let y = getD s 0 0 + getD s (n / 2) 0 * 2 ^ 8 in
-    let z = n + getD s (n - 1) 0 * 2 ^ 2 in
+-- HashLen0to16, by its cases, each of the length n and of what is read: the first, the middle and the last byte;
+unfoldable pub hashBytes : ℕ → ℕ → ℕ → ℕ → ℕ
+hashBytes n a b c =
+    let y = a + b * 2 ^ 8 in
+    let z = n + c * 2 ^ 2 in
     mulw (shiftMix (bitXor (mulw y k2) (mulw z k0))) k2
 
-unfoldable pub len4to7 : List ℕ → ℕ
-len4to7 s =
-    let n = length s in
-    hashLen16Mul (n + leAt 4 s 0 * 2 ^ 3) (leAt 4 s (n - 4)) (mulOf n)
+-- the first and the last four bytes;
+unfoldable pub hashHalves : ℕ → ℕ → ℕ → ℕ
+hashHalves n a b = hashLen16Mul (n + a * 2 ^ 3) b (mulOf n)
 
-unfoldable pub len8to16 : List ℕ → ℕ
-len8to16 s =
-    let n = length s in
+-- the first and the last eight
+unfoldable pub hashTwo : ℕ → ℕ → ℕ → ℕ
+hashTwo n first b =
     let m = mulOf n in
-    let a = addw (leAt 8 s 0) k2 in
-    let b = leAt 8 s (n - 8) in
+    let a = addw first k2 in
     let c = addw (mulw (rotr 37 b) m) a in
     let d = mulw (addw (rotr 25 a) b) m in
     hashLen16Mul c d m
 
+unfoldable pub len1to3 : List ℕ → ℕ
+len1to3 s = let n = length s in hashBytes n (getD s 0 0) (getD s (n / 2) 0) (getD s (n - 1) 0)
+
+unfoldable pub len4to7 : List ℕ → ℕ
+len4to7 s = let n = length s in hashHalves n (leAt 4 s 0) (leAt 4 s (n - 4))
+
+unfoldable pub len8to16 : List ℕ → ℕ
+len8to16 s = let n = length s in hashTwo n (leAt 8 s 0) (leAt 8 s (n - 8))
+
 unfoldable pub len0to16 : List ℕ → ℕ
 len0to16 s = cond (leb 8 (length s)) (len8to16 s) (cond (leb 4 (length s)) (len4to7 s) (cond (ltb 0 (length s)) (len1to3 s) k2))
 
--- HashLen17to32: what is done with the four words read
+-- HashLen17to32: what is done with the four words read, the first two, the last and the one before it
 unfoldable pub mix4 : ℕ → ℕ → ℕ → ℕ → ℕ → ℕ
 mix4 a b c d m = hashLen16Mul (addw (addw (rotr 43 (addw a b)) (rotr 30 c)) d) (addw (addw a (rotr 18 (addw b k2))) c) m
 
+unfoldable pub hashFour : ℕ → ℕ → ℕ → ℕ → ℕ → ℕ
+hashFour n a b c d = let m = mulOf n in mix4 (mulw a k1) b (mulw c m) (mulw d k2) m
+
 unfoldable pub len17to32 : List ℕ → ℕ
-len17to32 s =
-    let n = length s in
-    let m = mulOf n in
-    mix4 (mulw (leAt 8 s 0) k1) (leAt 8 s 8) (mulw (leAt 8 s (n - 8)) m) (mulw (leAt 8 s (n - 16)) k2) m
+len17to32 s = let n = length s in hashFour n (leAt 8 s 0) (leAt 8 s 8) (leAt 8 s (n - 8)) (leAt 8 s (n - 16))
 
 -- bswap_64(x * m)
 unfoldable pub swapMul : ℕ → ℕ → ℕ

@@ -5,7 +5,7 @@ use mathlib.Core.List.{List, [], _∷_, map}
 use Prim.Native.Nat.{ℕ, zero, suc, _+_}
 use Rattle.base.specs.Number.{leAt}
 use Rattle.city.specs.Word.{addw, mulw, rotr, swap}
-use Rattle.city.specs.City.{k2, shiftMix, hashLen16Mul, hashLen16, mulOf, len1to3, len4to7, len8to16, len0to16, mix4, len17to32, swapMul, mixU, mixV, mixY, mixLast, mix8, len33to64, weak32, weakAt, nextX, nextY, nextZ, nextV, nextW, turn, turns, start, finish, longer, cityHash64}
+use Rattle.city.specs.City.{k2, shiftMix, hashLen16Mul, hashLen16, mulOf, hashBytes, hashHalves, hashTwo, len1to3, len4to7, len8to16, len0to16, mix4, hashFour, len17to32, swapMul, mixU, mixV, mixY, mixLast, mix8, len33to64, weak32, weakAt, nextX, nextY, nextZ, nextV, nextW, turn, turns, start, finish, longer, cityHash64}
 
 -- document 01: "Id of the empty name: k2"
 empty : cityHash64 [] ≡ k2
@@ -13,11 +13,11 @@ unfolding cityHash64 len0to16
 empty = refl
 
 one : cityHash64 (228 ∷ []) ≡ 0x5411_50e8_7f41_5e96
-unfolding cityHash64 len0to16 len1to3 mulw shiftMix
+unfolding cityHash64 len0to16 len1to3 hashBytes mulw shiftMix
 one = refl
 
 five : cityHash64 (100 ∷ 252 ∷ 242 ∷ 143 ∷ 5 ∷ []) ≡ 0x831f_448b_dc56_00b3
-unfolding cityHash64 len0to16 len4to7 leAt mulOf addw mulw shiftMix hashLen16Mul
+unfolding cityHash64 len0to16 len4to7 hashHalves leAt mulOf addw mulw shiftMix hashLen16Mul
 five = refl
 
 -- n bytes that count from b
@@ -26,11 +26,11 @@ counting zero b = []
 counting (suc n) b = b ∷ counting n (b + 1)
 
 twelve : cityHash64 (counting 12 0) ≡ 0x9fd5_df33_aefc_3d7d
-unfolding cityHash64 len0to16 len8to16 leAt mulOf addw mulw rotr shiftMix hashLen16Mul
+unfolding cityHash64 len0to16 len8to16 hashTwo leAt mulOf addw mulw rotr shiftMix hashLen16Mul
 twelve = refl
 
 two-dozen : cityHash64 (counting 24 0) ≡ 0x3f3b_313d_cbd1_6ec7
-unfolding cityHash64 len17to32 mix4 leAt mulOf addw mulw rotr shiftMix hashLen16Mul
+unfolding cityHash64 len17to32 hashFour mix4 leAt mulOf addw mulw rotr shiftMix hashLen16Mul
 two-dozen = refl
 
 four-dozen : cityHash64 (counting 48 0) ≡ 0xc709_9eac_443f_4625
@@ -59,7 +59,7 @@ ways =
     []
 
 at-edges : map (λ w. cityHash64 (counting (w .0) 0)) ways ≡ map (λ w. w .1) ways
-unfolding cityHash64 len0to16 len1to3 len4to7 len8to16 mix4 len17to32 mix8 mixU mixV mixY mixLast swapMul len33to64
+unfolding cityHash64 len0to16 len1to3 len4to7 len8to16 hashBytes hashHalves hashTwo hashFour mix4 len17to32 mix8 mixU mixV mixY mixLast swapMul len33to64
     longer start turns turn finish nextX nextY nextZ nextV nextW weakAt weak32 leAt mulOf addw mulw rotr swap shiftMix hashLen16 hashLen16Mul
 at-edges = refl
 

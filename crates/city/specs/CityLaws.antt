@@ -1,4 +1,4 @@
--- Laws of the hash for a text that is read 64 bytes at a time. Assumes nothing.
+-- Laws of the hash: of the few bytes or words of a short text, and of a text that is read 64 bytes at a time. Assumes nothing.
 use mathlib.Core.Path.{_≡_, refl, sym, ap, _∙_}
 use mathlib.Core.List.{List}
 use Prim.Native.Nat.{ℕ, zero, suc, _+_, _-_, _/_, _≤_, _<_}
@@ -6,13 +6,39 @@ use native.Mathlib.Nat.{zero-add, not-suc-le-zero}
 use native.Mathlib.Numerals.{sub-one}
 use native.Mathlib.Omega.{arith}
 use lib.Dec.{lit≤}
-use lib.ListN.{length, take, drop}
+use lib.ListN.{length, getD, take, drop}
 use lib.Seq.{drop-drop}
-use borrow.Author.Tests.{lt-leb}
+use borrow.Author.Tests.{le-leb, lt-leb, lt-ltb}
 use Rattle.base.specs.Number.{leAt}
 use Rattle.base.specs.NumberLaws.{leAt-part}
+use Rattle.city.specs.City.{k2, hashBytes, hashHalves, hashTwo, hashFour, len1to3, len4to7, len8to16, len0to16, len17to32}
 use Rattle.city.specs.City.{weakAt, nextV, nextW, turn, turns, start, finish, longer, cityHash64}
 use Rattle.city.specs.declared.city.State.{State}
+
+-- ---- up to 32 bytes, of what is read of them
+
+module _ (s : List ℕ) (n : ℕ) (e : length s ≡ n) where
+  pub none-is : n ≡ 0 → cityHash64 s ≡ k2
+  unfolding cityHash64 len0to16
+  none-is z = rw (e, z)
+
+  pub bytes-is : 0 < n → n < 4 → cityHash64 s ≡ hashBytes n (getD s 0 0) (getD s (n / 2) 0) (getD s (n - 1) 0)
+  unfolding cityHash64 len0to16 len1to3
+  bytes-is a b = rw (e, le-leb n 16 (omega arith), lt-leb 8 n (omega arith), lt-leb 4 n b, lt-ltb 0 n a)
+
+  pub halves-is : 4 ≤ n → n < 8 → cityHash64 s ≡ hashHalves n (leAt 4 s 0) (leAt 4 s (n - 4))
+  unfolding cityHash64 len0to16 len4to7
+  halves-is a b = rw (e, le-leb n 16 (omega arith), lt-leb 8 n b, le-leb 4 n a)
+
+  pub two-is : 8 ≤ n → n ≤ 16 → cityHash64 s ≡ hashTwo n (leAt 8 s 0) (leAt 8 s (n - 8))
+  unfolding cityHash64 len0to16 len8to16
+  two-is a b = rw (e, le-leb n 16 b, le-leb 8 n a)
+
+  pub four-is : 16 < n → n ≤ 32 → cityHash64 s ≡ hashFour n (leAt 8 s 0) (leAt 8 s 8) (leAt 8 s (n - 8)) (leAt 8 s (n - 16))
+  unfolding cityHash64 len17to32
+  four-is a b = rw (e, lt-leb n 16 a, le-leb n 32 b)
+
+-- ---- 64 bytes at a time
 
 module _ (s : List ℕ) where
   -- the words within the first 64 bytes

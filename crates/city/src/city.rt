@@ -2,7 +2,8 @@
 ghost use mathlib.Core.Path.{_≡_};
 ghost use Prim.Native.Nat.{_+_, _<_, _≤_};
 ghost use lib.ListN.{length};
-ghost use Rattle.city.specs.City.{shiftMix, hashLen16Mul, hashLen16, mulOf, len1to3, len4to7, len8to16, len0to16, mix4, len17to32};
+ghost use Rattle.city.specs.City.{k2, shiftMix, hashLen16Mul, hashLen16, mulOf, hashBytes, hashHalves, hashTwo, hashFour};
+ghost use Rattle.city.specs.City.{len1to3, len4to7, len8to16, len0to16, mix4, len17to32};
 ghost use Rattle.city.specs.City.{swapMul, mixU, mixV, mixY, mixLast, mix8, len33to64};
 ghost use Rattle.city.specs.City.{weak32, weakAt, nextX, nextY, nextZ, nextV, nextW, turn, start, finish, longer, cityHash64};
 use super::word::add;
@@ -48,14 +49,30 @@ fn mul_of(n: usize) -> u64
     add(K2, (n as u64) * 2)
 }
 
+// The hash of n bytes, up to three, of the first, the middle and the last one.
+pub fn hash_bytes(n: usize, a: u8, b: u8, c: u8) -> u64
+    requires { ⌜ n ≤ 64 ⌝ }
+    ensures { λ r. ⌜ r ≡ hashBytes n a b c ⌝ }
+{
+    let y = wide64(a) + (wide64(b) << 8);
+    let z = n as u64 + (wide64(c) << 2);
+    mul(shift_mix(mul(y, K2) ^ mul(z, K0)), K2)
+}
+
 fn hash_len1to3(s: &[u8]) -> u64
     requires { ⌜ (0 < length (now s)) × (length (now s) ≤ 64) ⌝ }
     ensures { λ r. ⌜ r ≡ len1to3 (now (s .entry)) ⌝ }
 {
     let n = s.len();
-    let y = wide64(s[0]) + (wide64(s[n >> 1]) << 8);
-    let z = n as u64 + (wide64(s[n - 1]) << 2);
-    mul(shift_mix(mul(y, K2) ^ mul(z, K0)), K2)
+    hash_bytes(n, s[0], s[n >> 1], s[n - 1])
+}
+
+// The hash of n bytes, 4 to 7, of the first and the last four.
+pub fn hash_halves(n: usize, a: u32, b: u32) -> u64
+    requires { ⌜ n ≤ 64 ⌝ }
+    ensures { λ r. ⌜ r ≡ hashHalves n a b ⌝ }
+{
+    hash_len16_mul(n as u64 + ((a as u64) << 3), b as u64, mul_of(n))
 }
 
 fn hash_len4to7(s: &[u8]) -> u64
@@ -63,9 +80,19 @@ fn hash_len4to7(s: &[u8]) -> u64
     ensures { λ r. ⌜ r ≡ len4to7 (now (s .entry)) ⌝ }
 {
     let n = s.len();
-    let a = le32(s, 0) as u64;
-    let b = le32(s, n - 4) as u64;
-    hash_len16_mul(n as u64 + (a << 3), b, mul_of(n))
+    hash_halves(n, le32(s, 0), le32(s, n - 4))
+}
+
+// The hash of n bytes, 8 to 16, of the first and the last eight.
+pub fn hash_two(n: usize, first: u64, b: u64) -> u64
+    requires { ⌜ n ≤ 64 ⌝ }
+    ensures { λ r. ⌜ r ≡ hashTwo n first b ⌝ }
+{
+    let m = mul_of(n);
+    let a = add(first, K2);
+    let c = add(mul(rotate(b, 37), m), a);
+    let d = mul(add(rotate(a, 25), b), m);
+    hash_len16_mul(c, d, m)
 }
 
 fn hash_len8to16(s: &[u8]) -> u64
@@ -73,12 +100,14 @@ fn hash_len8to16(s: &[u8]) -> u64
     ensures { λ r. ⌜ r ≡ len8to16 (now (s .entry)) ⌝ }
 {
     let n = s.len();
-    let m = mul_of(n);
-    let a = add(le64(s, 0), K2);
-    let b = le64(s, n - 8);
-    let c = add(mul(rotate(b, 37), m), a);
-    let d = mul(add(rotate(a, 25), b), m);
-    hash_len16_mul(c, d, m)
+    hash_two(n, le64(s, 0), le64(s, n - 8))
+}
+
+// The hash of no bytes.
+pub fn hash_len0() -> u64
+    ensures { λ r. ⌜ r ≡ k2 ⌝ }
+{
+    K2
 }
 
 fn hash_len0to16(s: &[u8]) -> u64
@@ -95,7 +124,7 @@ fn hash_len0to16(s: &[u8]) -> u64
     if 0 < n {
         return hash_len1to3(s);
     }
-    K2
+    hash_len0()
 }
 
 fn mix_four(a: u64, b: u64, c: u64, d: u64, m: u64) -> u64
@@ -106,17 +135,21 @@ fn mix_four(a: u64, b: u64, c: u64, d: u64, m: u64) -> u64
     hash_len16_mul(u, v, m)
 }
 
+// The hash of n bytes, 17 to 32, of the first and the second eight, the last eight and those before them.
+pub fn hash_four(n: usize, a: u64, b: u64, c: u64, d: u64) -> u64
+    requires { ⌜ n ≤ 64 ⌝ }
+    ensures { λ r. ⌜ r ≡ hashFour n a b c d ⌝ }
+{
+    let m = mul_of(n);
+    mix_four(mul(a, K1), b, mul(c, m), mul(d, K2), m)
+}
+
 fn hash_len17to32(s: &[u8]) -> u64
     requires { ⌜ (16 ≤ length (now s)) × (length (now s) ≤ 64) ⌝ }
     ensures { λ r. ⌜ r ≡ len17to32 (now (s .entry)) ⌝ }
 {
     let n = s.len();
-    let m = mul_of(n);
-    let a = mul(le64(s, 0), K1);
-    let b = le64(s, 8);
-    let c = mul(le64(s, n - 8), m);
-    let d = mul(le64(s, n - 16), K2);
-    mix_four(a, b, c, d, m)
+    hash_four(n, le64(s, 0), le64(s, 8), le64(s, n - 8), le64(s, n - 16))
 }
 
 fn swap_mul(x: u64, m: u64) -> u64

@@ -1,2 +1,4 @@
 pub mod NameUnits
+pub mod PutUnits
+pub mod ShortUnits
 pub mod WideUnits

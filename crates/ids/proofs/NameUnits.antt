@@ -47,6 +47,11 @@ pub narrow-is : {wide : Bool} → wide ≡ false → (part : List ℕ) → Bytes
 unfolding decoded
 narrow-is {wide} e part b = rw e (narrow-units part b)
 
+pub narrow-name : {wide : Bool} → wide ≡ false → (part : List ℕ) → Bytes part → (suffix : List ℕ)
+    → nameUnits (base wide part) suffix ≡ lowered part ++ suffix
+unfolding nameUnits
+narrow-name e part b suffix = ap (λ (s : List ℕ). s ++ suffix) (narrow-is e part b)
+
 pub narrow-count : {wide : Bool} → wide ≡ false → (part : List ℕ) → length (unitsOf wide part) ≡ length part
 narrow-count {wide} e part = rw (e, unitsOf-narrow part)
 

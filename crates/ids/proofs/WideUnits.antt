@@ -3,12 +3,12 @@ use mathlib.Core.Path.{_≡_, refl, sym, _∙_, ap}
 use mathlib.Core.Bool.{Bool, true, false, cond, _&&_, and-eq-true-iff}
 use mathlib.Core.List.{List, [], _∷_, _++_, map}
 use mathlib.Core.Logic.{inr, by-cases}
-use Prim.Native.Nat.{ℕ, zero, suc, _+_, _≤_, _<_}
+use Prim.Native.Nat.{ℕ, zero, suc, _+_, _-_, _*_, _/_, _%_, _≤_, _<_}
 use native.Mathlib.Decide.{decLt}
 use native.Mathlib.Numerals.{add-one}
 use native.Mathlib.Omega.{arith}
 use lib.Bits.{bitOr, or-add-and, and-le-l, and-le-r}
-use lib.ListN.{length, getD, take, drop, length-map, length-take, length-drop, List·getD-map}
+use lib.ListN.{length, set, getD, take, drop, length-map, length-take, length-drop, List·getD-map}
 use lib.Seq.{take-suc, getD-take, getD-drop, ext-getD}
 use Rattle.lower.specs.Ascii.{lowerAscii}
 use Rattle.lower.specs.Lower.{lowered}
@@ -16,18 +16,17 @@ use Rattle.lower.specs.LowerLaws.{lower-single}
 use Rattle.rules.specs.Caseless.{caseless}
 use Rattle.rules.specs.CaselessLaws.{ascii-caseless}
 use Rattle.rules.specs.Scripts.{LowersBy}
-use Rattle.rules.specs.ScriptLaws.{caseless-script, latin-script, greek-script}
+use Rattle.rules.specs.ScriptLaws.{caseless-script}
 use Rattle.base.specs.NumberLaws.{Bytes}
 use Rattle.base.specs.Output.{Wrote}
-use Rattle.base.specs.OutputLaws.{wrote-as}
-use Rattle.text.specs.PlainLaws.{wrote-over}
+use Rattle.base.specs.OutputLaws.{wrote-taken}
 use Rattle.text.specs.Utf16.{isWell, encode16, unitBytes}
 use Rattle.text.specs.Name.{decoded, base}
 use Rattle.text.specs.Units.{unitsOf}
-use Rattle.ids.specs.LoweredUnits.{loweredUnit, allAre, bitsFrom, scriptTest, scriptLower}
-use Rattle.ids.specs.IdLaws.{unitBytes-length}
+use Rattle.ids.specs.LoweredUnits.{loweredUnit, allAre, bitsFrom}
 use Rattle.ids.specs.LowerLaws.{below-lowered, single-lowered, high-lowered, low-lowered}
 use Rattle.ids.proofs.NameUnits.{part-length, place}
+use Rattle.ids.proofs.PutUnits.{Put, put-none, put-next, put-all, wrote-within}
 
 -- a lowered unit is one
 pub lowered-word : (b u : ℕ) → u < 65536 → loweredUnit b u < 65536
@@ -97,16 +96,32 @@ module _ (us : List ℕ) (from i : ℕ) (h : from + i < length us) where
 
 -- ---- a script: a test, and a way to lower that is right where it holds
 
-pub of-script : (greek : Bool) → LowersBy (scriptTest greek) (scriptLower greek)
-of-script true = greek-script
-of-script false = latin-script
-
 pub mapped-length : (f : ℕ → ℕ) (us : List ℕ) → length (map f us) ≡ length us
 mapped-length f us = length-map us f
 
 module _ {t : ℕ → Bool} {f : ℕ → ℕ} (s : LowersBy t f) where
   pub mapped-at : (us : List ℕ) (i : ℕ) → getD (map f us) i 0 ≡ f (getD us i 0)
   mapped-at us i = rw (s .none) at (List·getD-map f us i 0)
+
+  -- units lowered by the script put one after the other, and the test of all of them
+  pub record Passed (us : List ℕ) (from n : ℕ) (old now : List ℕ) (all : Bool) (at i : ℕ) : Type 0 where
+    pub put : Put (map f us) from n old now at i
+    pub are : all ≡ allAre t (take i (drop from us))
+
+  pub passed-none : {us s : List ℕ} {from n : ℕ} → Passed us from n s s true 0 0
+  passed-none = record { put = put-none; are = refl }
+
+  pub passed-next : {us s o : List ℕ} {all b : Bool} {from n at i u v : ℕ} → Passed us from n s o all at i → i < n → n ≤ length us - from → 2 * n ≤ length s
+      → u ≡ getD us (from + i) 0 → v ≡ f u → b ≡ t u
+      → Passed us from n s (set (set o at (v % 256)) (at + 1) (v / 256)) (all && b) (at + 2) (i + 1)
+  passed-next {us} {all = all} {from = from} {i = i} p h k l e g y = record {
+    put = put-next (p .put) h (omega (arith, mapped-length f us)) l (g ∙ ap f e ∙ sym (mapped-at us (from + i)));
+    are = rw (y, e) (are-next us from i (omega arith) t all (p .are));
+  }
+
+  pub passed-all : {us s o : List ℕ} {all : Bool} {from n at i : ℕ} → Passed us from n s o all at i → ¬ (i < n)
+      → (all ≡ allAre t (take n (drop from us))) × Wrote s (unitBytes (take n (drop from (map f us)))) o (2 * n)
+  passed-all {n = n} {i = i} p h = let e : i ≡ n = omega (arith, p .put .most) in (rw e at (p .are), put-all (p .put) h)
 
   module _ (part : List ℕ) (b : Bytes part) (w : isWell (decoded true part) ≡ true) where
     -- n units that pass the test
@@ -125,24 +140,21 @@ module _ {t : ℕ → Bool} {f : ℕ → ℕ} (s : LowersBy t f) where
         rw (getD-take n (drop from (map f us)) i 0 l, getD-take n (drop from vs) i 0 l, getD-drop from (map f us) i 0, getD-drop from vs i 0)
         (mapped-at us (from + i) ∙ sym (place true part b w (from + i) j .0 ∙ below-lowered (getD (0 ∷ us) (from + i) 0) (getD us (from + i) 0) (q .1) ∙ q .0)))
 
-    -- they are the text's as they were written
-    pub script-wrote : (from n : ℕ) {r : Bool} {s o : List ℕ} {k : ℕ} → r ≡ allAre t (take n (drop from (unitsOf true part))) → r ≡ true
-        → Wrote s (unitBytes (take n (drop from (map f (unitsOf true part))))) o k
-        → Wrote s (unitBytes (take n (drop from (encode16 (lowered (base true part)))))) o k
-    script-wrote from n a y v = wrote-as v (ap unitBytes (window from n (sym a ∙ y)))
-
--- the text's units, written over no more of others
-pub script-then : (f : ℕ → ℕ) (part : List ℕ) (b : Bytes part) (w : isWell (decoded true part) ≡ true) (from m n : ℕ) → m ≤ n
-    → {s o p : List ℕ} {j k : ℕ} → Wrote s (unitBytes (take m (drop from (map f (unitsOf true part))))) o j
-    → Wrote o (unitBytes (take n (drop from (encode16 (lowered (base true part)))))) p k
-    → Wrote s (unitBytes (take n (drop from (encode16 (lowered (base true part)))))) p k
-script-then f part b w from m n h v u =
-    wrote-over v u (simp (unitBytes-length, length-take, length-drop, mapped-length, part-length true part b w) (omega arith))
+    -- m of n units tried as units of the script: all are the text's where the test says so, else none counts
+    pub turned : (from m n : ℕ) {all : Bool} {r : ℕ} {s x q o : List ℕ} → m ≤ n → all ≡ allAre t (take m (drop from (unitsOf true part))) → r ≡ cond all m 0
+        → Wrote s x q (2 * n) → Wrote q (unitBytes (take m (drop from (map f (unitsOf true part))))) o (2 * m)
+        → (r ≤ n) × (take (2 * r) o ≡ unitBytes (take r (drop from (encode16 (lowered (base true part)))))) × Wrote s (take (2 * n) o) o (2 * n)
+    turned from m n {all} {r} {o = o} h a e v u = (go all a e .0, go all a e .1, wrote-within v u (omega arith))
+      where
+        go : (b : Bool) → b ≡ allAre t (take m (drop from (unitsOf true part))) → r ≡ cond b m 0
+            → (r ≤ n) × (take (2 * r) o ≡ unitBytes (take r (drop from (encode16 (lowered (base true part))))))
+        go true d z = (omega arith, rw z (wrote-taken u ∙ ap unitBytes (window from m (sym d))))
+        go false d z = (omega arith, rw z)
 
 -- units whose bits are those of ASCII
-pub ascii-wrote : (part : List ℕ) (b : Bytes part) (w : isWell (decoded true part) ≡ true) (from n : ℕ) {r : ℕ} {s o : List ℕ} {k : ℕ}
+pub ascii-taken : (part : List ℕ) (b : Bytes part) (w : isWell (decoded true part) ≡ true) (from n : ℕ) {r : ℕ} {s o : List ℕ} {k : ℕ}
     → r ≡ bitsFrom 0 (take n (drop from (unitsOf true part))) → r < 0x80
     → Wrote s (unitBytes (take n (drop from (map lowerAscii (unitsOf true part))))) o k
-    → Wrote s (unitBytes (take n (drop from (encode16 (lowered (base true part)))))) o k
-ascii-wrote part b w from n e h v =
-    script-wrote caseless-script part b w from n refl (bits-ascii 0 (take n (drop from (unitsOf true part))) (omega arith) .1) v
+    → take k o ≡ unitBytes (take n (drop from (encode16 (lowered (base true part)))))
+ascii-taken part b w from n e h v =
+    wrote-taken v ∙ ap unitBytes (window caseless-script part b w from n (bits-ascii 0 (take n (drop from (unitsOf true part))) (omega arith) .1))

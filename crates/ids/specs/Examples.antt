@@ -5,7 +5,7 @@ use mathlib.Core.List.{[], _∷_}
 use Rattle.base.specs.Number.{leAt}
 use Rattle.base.specs.Literal.{quoted as text}
 use Rattle.city.specs.Word.{addw, mulw, rotr}
-use Rattle.city.specs.City.{k2, shiftMix, hashLen16Mul, mulOf, len1to3, len4to7, len0to16, cityHash64}
+use Rattle.city.specs.City.{k2, shiftMix, hashLen16Mul, mulOf, hashBytes, hashHalves, len1to3, len4to7, len0to16, cityHash64}
 use Rattle.lower.specs.Lower.{lower, lowered}
 use Rattle.text.specs.Utf16.{encodeOne, encode16}
 use Rattle.ids.specs.LoweredUnits.{nameUnits}
@@ -32,5 +32,5 @@ pub record Hashes : Type 0 where
   pub lowers : idOf (text "A") ∷ idOf (text "ZÉ") ∷ [] ≡ cityHash64 (0x61 ∷ 0x00 ∷ []) ∷ cityHash64 (0x7A ∷ 0x00 ∷ 0xE9 ∷ 0x00 ∷ []) ∷ []
 
 pub hashes : Hashes
-unfolding idOf lower encodeOne encode16 cityHash64 len0to16 len1to3 len4to7 leAt mulOf addw mulw rotr shiftMix hashLen16Mul
+unfolding idOf lower encodeOne encode16 cityHash64 len0to16 len1to3 len4to7 hashBytes hashHalves leAt mulOf addw mulw rotr shiftMix hashLen16Mul
 hashes = record { empty = refl; lowers = refl }

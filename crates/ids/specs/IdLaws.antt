@@ -44,7 +44,7 @@ name-units base number = rw (lowered-append, suffix-lowered, encode-append, enco
 
 -- ---- the bytes of units
 
-twice : (n : ℕ) → 2 * suc n ≡ suc (suc (2 * n))
+pub twice : (n : ℕ) → 2 * suc n ≡ suc (suc (2 * n))
 twice n = omega arith
 
 pub unitBytes-length : (us : List ℕ) → length (unitBytes us) ≡ 2 * length us

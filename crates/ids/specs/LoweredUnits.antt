@@ -1,10 +1,9 @@
--- The units of a lowered text and of a lowered name, as the id takes them, and scripts by which they are lowered. Assumes nothing.
-use mathlib.Core.Bool.{Bool, true, false, cond, _&&_}
+-- The units of a lowered text and of a lowered name, as the id takes them. Assumes nothing.
+use mathlib.Core.Bool.{Bool, true, cond, _&&_}
 use mathlib.Core.List.{List, [], _∷_, _++_}
 use Prim.Native.Nat.{ℕ, _+_, _-_, _%_}
 use lib.Bits.{bitOr}
 use Rattle.lower.specs.Lower.{lower, lowered}
-use Rattle.rules.specs.Scripts.{isLatin, lowerLatin, isGreek, lowerGreek}
 use Rattle.text.specs.Utf16.{isHigh, isLow, ofPair, encode16}
 
 -- a unit of a lowered text, by the unit before it: a leading surrogate stays, a trailing one is lowered with its pair
@@ -20,15 +19,6 @@ allAre t (u ∷ us) = t u && allAre t us
 abbrev pub bitsFrom : ℕ → List ℕ → ℕ
 bitsFrom b [] = b
 bitsFrom b (u ∷ us) = bitsFrom (bitOr b u) us
-
--- Greek with Cyrillic, or Latin: its test and its lowering
-abbrev pub scriptTest : Bool → ℕ → Bool
-scriptTest true u = isGreek u
-scriptTest false u = isLatin u
-
-abbrev pub scriptLower : Bool → ℕ → ℕ
-scriptLower true u = lowerGreek u
-scriptLower false u = lowerLatin u
 
 -- the units of a lowered name: those of its base, lowered as scalar values, and its suffix, which has no letter
 unfoldable pub nameUnits : List ℕ → List ℕ → List ℕ

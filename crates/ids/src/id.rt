@@ -2,6 +2,7 @@
 // from the block and the suffix as the hash asks for them, 64 bytes at a time.
 ghost use mathlib.Core.Path.{_≡_};
 ghost use mathlib.Core.Bool.{true};
+ghost use mathlib.Core.List.{_++_};
 ghost use mathlib.Core.Logic.{_⊎_};
 ghost use Prim.Native.Nat.{_+_, _-_, _*_, _^_, _≤_, _<_};
 ghost use lib.ListN.{length, take, drop};
@@ -14,6 +15,8 @@ ghost use Rattle.city.specs.City.{cityHash64};
 ghost use Rattle.text.specs.Units.{unitsOf};
 ghost use Rattle.ids.specs.LoweredUnits.{nameUnits};
 ghost use Rattle.ids.specs.Id.{idOf};
+use super::short::one_unit;
+use super::short::short_hash;
 use super::wide::put_wide;
 use base::number::le64;
 use city::city::first_state;
@@ -167,6 +170,67 @@ fn long_hash(part: &[u8], wide: bool, suffix: &[u8], n: usize) -> u64
     last_mix(t)
 }
 
+// The units of a lowered name of one-byte text from a place on, behind those before it. Each unit is one number, of which both bytes are
+// written: that is one store.
+fn put_end(out: &mut [u8], part: &[u8], suffix: &[u8], from: usize, n: usize)
+    requires { ⌜ (from ≤ n) × (n ≤ length (now part) + length (now suffix)) × (2 * n ≤ length (now out))
+        × (take (2 * from) (now out) ≡ unitBytes (take from (lowered (now part) ++ now suffix))) ⌝ }
+    ensures { λ _. ⌜ Wrote (now (out .entry)) (unitBytes (take n (lowered (now (part .entry)) ++ now (suffix .entry)))) (now (out .exit)) (2 * n) ⌝ }
+{
+    let mut i: usize = from;
+    while i < n {
+        let u = one_unit(part, suffix, i);
+        out[2 * i] = (u % 256) as u8;
+        out[2 * i + 1] = (u / 256) as u8;
+        i += 1;
+    }
+}
+
+// Whether a name of one-byte text is hashed by words: where it has few units, or a base of four to seven, which has no eight to lower at once.
+fn by_words(count: usize, n: usize) -> bool
+    ensures { λ r. ⌜ (r ≡ true → n ≤ 16) ⌝ }
+{
+    if n <= 8 {
+        return true;
+    }
+    if 16 < n {
+        return false;
+    }
+    (4 <= count) & (count < 8)
+}
+
+// CityHash64 of a lowered name of one-byte text that has up to 32 units. Eights of its base are lowered at once.
+fn narrow_hash(part: &[u8], suffix: &[u8], n: usize) -> u64
+    requires { ⌜ (n ≡ length (now part) + length (now suffix)) × (n ≤ 32) ⌝ }
+    ensures { λ r. ⌜ r ≡ cityHash64 (unitBytes (lowered (now (part .entry)) ++ now (suffix .entry))) ⌝ }
+{
+    if by_words(part.len(), n) {
+        return short_hash(part, suffix, n);
+    }
+    let mut chunk = [0u8; 64];
+    let k = part.len() / 8 * 8;
+    put_narrow(&mut chunk, part, 0, k);
+    put_end(&mut chunk, part, suffix, k, n);
+    let size = 2 * n;
+    if size <= 32 {
+        return hash_len0to32(&chunk[..size]);
+    }
+    hash_len33up(&chunk[..size])
+}
+
+// CityHash64 of a lowered name of wide text that has up to 32 units.
+fn wide_hash(part: &[u8], suffix: &[u8], n: usize) -> u64
+    requires { ⌜ (isWell (decoded true (now part)) ≡ true) × (n ≡ length (nameUnits (base true (now part)) (now suffix))) × (n ≤ 32) ⌝ }
+    ensures { λ r. ⌜ r ≡ cityHash64 (unitBytes (nameUnits (base true (now (part .entry))) (now (suffix .entry)))) ⌝ }
+{
+    let mut chunk = [0u8; 64];
+    let size = put_units(&mut chunk, part, true, suffix, 0, n);
+    if size <= 32 {
+        return hash_len0to32(&chunk[..size]);
+    }
+    hash_len33up(&chunk[..size])
+}
+
 // CityHash64 of a lowered name.
 fn units_hash(part: &[u8], wide: bool, suffix: &[u8]) -> u64
     requires { ⌜ (isWell (decoded wide (now part)) ≡ true) × (length (now part) < 2 ^ 32) × (length (now suffix) < 2 ^ 32) ⌝ }
@@ -176,12 +240,10 @@ fn units_hash(part: &[u8], wide: bool, suffix: &[u8]) -> u64
     if 32 < n {
         return long_hash(part, wide, suffix, n);
     }
-    let mut chunk = [0u8; 64];
-    let size = put_units(&mut chunk, part, wide, suffix, 0, n);
-    if size <= 32 {
-        return hash_len0to32(&chunk[..size]);
+    if wide {
+        return wide_hash(part, suffix, n);
     }
-    hash_len33up(&chunk[..size])
+    narrow_hash(part, suffix, n)
 }
 
 // The id of a name.

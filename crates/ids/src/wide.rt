@@ -1,7 +1,7 @@
 // The units of lowered wide text, as the id of a name takes them: many a turn where they are of a script that is lowered with no branch, else
-// one by one.
+// one by one. Each function that writes is called from one place, so that the compiler leaves no call.
 ghost use mathlib.Core.Path.{_≡_};
-ghost use mathlib.Core.Bool.{true};
+ghost use mathlib.Core.Bool.{true, cond};
 ghost use mathlib.Core.List.{map};
 ghost use mathlib.Core.Logic.{_⊎_};
 ghost use Prim.Native.Nat.{_+_, _-_, _*_, _^_, _≤_, _<_};
@@ -16,7 +16,7 @@ ghost use Rattle.base.specs.Output.{Wrote};
 ghost use Rattle.text.specs.Utf16.{isWell, encode16, unitBytes};
 ghost use Rattle.text.specs.Name.{decoded, base};
 ghost use Rattle.text.specs.Units.{unitsOf};
-ghost use Rattle.ids.specs.LoweredUnits.{allAre, bitsFrom, scriptTest, scriptLower};
+ghost use Rattle.ids.specs.LoweredUnits.{allAre, bitsFrom};
 use super::lowered::lowered_unit;
 use super::lowered::quick_unit;
 use lower::ascii::lower_ascii;
@@ -90,19 +90,6 @@ fn put_greek(out: &mut [u8], part: &[u8], from: usize, n: usize) -> bool
         i += 1;
     }
     all
-}
-
-// The same as Greek or Cyrillic, or as Latin.
-fn put_as(out: &mut [u8], part: &[u8], greek: bool, from: usize, n: usize) -> bool
-    requires { ⌜ (n ≤ length (unitsOf true (now part)) - from) × (from + n < 2 ^ 64) × (2 * n ≤ length (now out)) ⌝ }
-    ensures { λ r. ⌜ (r ≡ allAre (scriptTest greek) (take n (drop from (unitsOf true (now (part .entry))))))
-        × Wrote (now (out .entry)) (unitBytes (take n (drop from (map (scriptLower greek) (unitsOf true (now (part .entry)))))))
-        (now (out .exit)) (2 * n) ⌝ }
-{
-    if greek {
-        return put_greek(out, part, from, n);
-    }
-    put_latin(out, part, from, n)
 }
 
 // The same with A to Z lowered, and whether that is all there was to lower.
@@ -189,23 +176,6 @@ fn put_singly(out: &mut [u8], part: &[u8], from: usize, n: usize)
     }
 }
 
-// The same, many a turn as units of a script where they are all of it, but for the last up to seven.
-fn put_script(out: &mut [u8], part: &[u8], greek: bool, from: usize, n: usize)
-    requires { ⌜ (isWell (decoded true (now part)) ≡ true) × (n ≤ length (unitsOf true (now part)) - from) × (from + n < 2 ^ 64)
-        × (2 * n ≤ length (now out)) ⌝ }
-    ensures { λ _. ⌜ Wrote (now (out .entry)) (unitBytes (take n (drop from (encode16 (lowered (base true (now (part .entry))))))))
-        (now (out .exit)) (2 * n) ⌝ }
-{
-    let m = n - n % 8;
-    if put_as(out, part, greek, from, m) {
-        if m < n {
-            put_singly(&mut out[2 * m..], part, from + m, n - m);
-        }
-        return;
-    }
-    put_singly(out, part, from, n);
-}
-
 // Whether the n units from a place on start with an ideograph or what is beyond: then they are not tried as ASCII.
 fn starts_high(part: &[u8], from: usize, n: usize) -> bool
     requires { ⌜ n ≤ length (unitsOf true (now part)) - from ⌝ }
@@ -216,28 +186,21 @@ fn starts_high(part: &[u8], from: usize, n: usize) -> bool
     0x2CF3 <= unit_at(part, true, from)
 }
 
-// The same where A to Z are mostly all there is to lower.
-fn put_other(out: &mut [u8], part: &[u8], from: usize, n: usize)
-    requires { ⌜ (isWell (decoded true (now part)) ≡ true) × (n ≤ length (unitsOf true (now part)) - from) × (from + n < 2 ^ 64)
-        × (2 * n ≤ length (now out)) ⌝ }
-    ensures { λ _. ⌜ Wrote (now (out .entry)) (unitBytes (take n (drop from (encode16 (lowered (base true (now (part .entry))))))))
-        (now (out .exit)) (2 * n) ⌝ }
-{
-    if put_caseless(out, part, from, n) {
-        return;
-    }
-    put_singly(out, part, from, n);
-}
-
-// What units look like by their bits together.
+// What units look like.
 enum Guess {
+    Ascii,
     Latin,
     Greek,
     Other,
 }
 
-// The script to try. Nothing but time depends on it.
-fn guessed(bits: u16) -> Guess {
+// The same by their bits together. Nothing but time depends on which script it is.
+fn guessed(bits: u16) -> Guess
+    ensures { λ r. ⌜ (r ≡ Guess.Ascii → bits < 0x80) ⌝ }
+{
+    if bits < 0x80 {
+        return Guess::Ascii;
+    }
     if bits < 0x200 {
         return Guess::Latin;
     }
@@ -253,24 +216,53 @@ fn guessed(bits: u16) -> Guess {
     Guess::Other
 }
 
-// The n units of lowered wide text from a place on: with A to Z lowered where they are ASCII, else by script, else one by one.
+// What the n units from a place on look like. Where they do not start high they are put with A to Z lowered, which is right if they are ASCII.
+// Here and below nothing behind the first 2 * n bytes changes.
+fn tried(out: &mut [u8], part: &[u8], from: usize, n: usize) -> Guess
+    requires { ⌜ (isWell (decoded true (now part)) ≡ true) × (n ≤ length (unitsOf true (now part)) - from) × (from + n < 2 ^ 64)
+        × (2 * n ≤ length (now out)) ⌝ }
+    ensures { λ r. ⌜ Wrote (now (out .entry)) (take (2 * n) (now (out .exit))) (now (out .exit)) (2 * n)
+        × (r ≡ Guess.Ascii → take (2 * n) (now (out .exit)) ≡ unitBytes (take n (drop from (encode16 (lowered (base true (now (part .entry)))))))) ⌝ }
+{
+    if starts_high(part, from, n) {
+        return Guess::Other;
+    }
+    guessed(put_ascii(out, part, from, n))
+}
+
+// A number or 0.
+fn done(all: bool, n: usize) -> usize
+    ensures { λ r. ⌜ r ≡ cond all n 0 ⌝ }
+{
+    if all { n } else { 0 }
+}
+
+// How many of the n units of lowered wide text from a place on were put many a turn: all of them, by script all but the last up to seven, or none.
+// What a try left behind them is to be written over.
+fn put_turns(out: &mut [u8], part: &[u8], from: usize, n: usize) -> usize
+    requires { ⌜ (isWell (decoded true (now part)) ≡ true) × (n ≤ length (unitsOf true (now part)) - from) × (from + n < 2 ^ 64)
+        × (2 * n ≤ length (now out)) ⌝ }
+    ensures { λ r. ⌜ (r ≤ n) × (take (2 * r) (now (out .exit)) ≡ unitBytes (take r (drop from (encode16 (lowered (base true (now (part .entry))))))))
+        × Wrote (now (out .entry)) (take (2 * n) (now (out .exit))) (now (out .exit)) (2 * n) ⌝ }
+{
+    let m = n - n % 8;
+    match tried(out, part, from, n) {
+        Guess::Ascii => n,
+        Guess::Latin => done(put_latin(out, part, from, m), m),
+        Guess::Greek => done(put_greek(out, part, from, m), m),
+        Guess::Other => done(put_caseless(out, part, from, n), n),
+    }
+}
+
+// The n units of lowered wide text from a place on: many a turn, and what is left one by one.
 pub fn put_wide(out: &mut [u8], part: &[u8], from: usize, n: usize)
     requires { ⌜ (isWell (decoded true (now part)) ≡ true) × (n ≤ length (unitsOf true (now part)) - from) × (from + n < 2 ^ 64)
         × (2 * n ≤ length (now out)) ⌝ }
     ensures { λ _. ⌜ Wrote (now (out .entry)) (unitBytes (take n (drop from (encode16 (lowered (base true (now (part .entry))))))))
         (now (out .exit)) (2 * n) ⌝ }
 {
-    if starts_high(part, from, n) {
-        put_other(out, part, from, n);
-        return;
-    }
-    let bits = put_ascii(out, part, from, n);
-    if bits < 0x80 {
-        return;
-    }
-    match guessed(bits) {
-        Guess::Latin => put_script(out, part, false, from, n),
-        Guess::Greek => put_script(out, part, true, from, n),
-        Guess::Other => put_other(out, part, from, n),
+    let k = put_turns(out, part, from, n);
+    if k < n {
+        put_singly(&mut out[2 * k..], part, from + k, n - k);
     }
 }

@@ -3,7 +3,7 @@
 use mathlib.Core.List.{List}
 use Prim.Native.Nat.{ℕ}
 use Rattle.text.specs.Affix.{endsWith}
-use Rattle.city.specs.City.{shiftMix, hashLen16Mul, hashLen16, mulOf, len1to3, len4to7, len8to16, len0to16, mix4, len17to32}
+use Rattle.city.specs.City.{shiftMix, hashLen16Mul, hashLen16, mulOf, hashBytes, hashHalves, hashTwo, len1to3, len4to7, len8to16, len0to16, mix4, hashFour, len17to32}
 use Rattle.city.specs.City.{swapMul, mixU, mixV, mixY, mixLast, mix8, len33to64}
 use Rattle.city.specs.City.{weak32, weakAt, nextX, nextY, nextZ, nextV, nextW, turn, turns, start, finish, longer, cityHash64}
 use Rattle.text.specs.Digits.{digits, decimal, hex}
@@ -34,12 +34,12 @@ use Rattle.meaning.specs.Limited.{answerWithin}
 
 -- with 64 lookups and 65 objects, and buffers that are long enough
 unfoldable pub asked : List ℕ → Answer (List ℕ)
-unfolding endsWith shiftMix hashLen16Mul hashLen16 mulOf len1to3 len4to7 len8to16 len0to16 mix4 len17to32 swapMul mixU mixV mixY mixLast mix8
-    len33to64 weak32 weakAt nextX nextY nextZ nextV nextW turn turns start finish longer cityHash64 digits decimal hex idOf lower decoded textBytes
-    leAt beBytes leBytes rows runBlock twos encodeOne encode16 utf16 units utf8One addw mulw rotr swap headOf head strings noNames someNames body batch entry
-    entries opening script offset summary ordered bulk export tables imports content header lead part packages frame framed sameKey pathOf outerOf lastPart
-    isClass classPath classAt classesOf candidateKind instanceName numbered candidates badImport badExport refIn refText ownChain nativeOf resolve rowRest
-    rowBytes rowOf section reportOf holding openedIn opened workBytes weighed answer numberOf answerWithin
-    stringBytes headBytes someBytes batchBytes exportBytes importedBytes hashesStart exportsStart importedStart headerSize offsetsOf summaryBytes
-    contentBytes headerWith headerOf
+unfolding endsWith shiftMix hashLen16Mul hashLen16 mulOf hashBytes hashHalves hashTwo len1to3 len4to7 len8to16 len0to16 mix4 hashFour len17to32
+    swapMul mixU mixV mixY mixLast mix8 len33to64 weak32 weakAt nextX nextY nextZ nextV nextW turn turns start finish longer cityHash64 digits decimal
+    hex idOf lower decoded textBytes leAt beBytes leBytes rows runBlock twos encodeOne encode16 utf16 units utf8One addw mulw rotr swap headOf head
+    strings noNames someNames body batch entry entries opening script offset summary ordered bulk export tables imports content header lead part
+    packages frame framed sameKey pathOf outerOf lastPart isClass classPath classAt classesOf candidateKind instanceName numbered candidates badImport
+    badExport refIn refText ownChain nativeOf resolve rowRest rowBytes rowOf section reportOf holding openedIn opened workBytes weighed answer
+    numberOf answerWithin stringBytes headBytes someBytes batchBytes exportBytes importedBytes hashesStart exportsStart importedStart headerSize
+    offsetsOf summaryBytes contentBytes headerWith headerOf
 asked corpus = answerWithin limits corpus 65536 65536

@@ -1,9 +1,10 @@
 -- Laws of lowering by scripts: each is right by one computed test over its ranges. Assumes nothing.
-use mathlib.Core.Path.{_≡_, refl, sym, _∙_}
-use mathlib.Core.Bool.{Bool, true, false, cond, _&&_, _||_, and-eq-true-iff}
+use mathlib.Core.Path.{_≡_, refl}
+use mathlib.Core.Bool.{Bool, true, false, cond, _&&_, and-eq-true-iff}
 use mathlib.Core.List.{List, [], _∷_}
-use mathlib.Core.Logic.{_⊎_, inl, inr}
-use Prim.Native.Nat.{ℕ, _+_, _-_, _%_, _≤_, _<_}
+use mathlib.Core.Logic.{_⊎_, inl, inr, by-cases}
+use Prim.Native.Nat.{ℕ, _+_, _-_, _≤_, _<_}
+use native.Mathlib.Decide.{decLt}
 use native.Mathlib.Omega.{arith}
 use borrow.Author.Tests.{leb-true, ltb-true}
 use lib.Dec.{leb, ltb}
@@ -14,7 +15,6 @@ use Rattle.rules.specs.QuickLaws.{agree, agree-at, or-cases}
 use Rattle.rules.specs.Caseless.{caseless}
 use Rattle.rules.specs.CaselessLaws.{caseless-lower}
 use Rattle.rules.specs.Scripts.{
-  raised,
   latins,
   latinCapitals,
   latinPairs,
@@ -24,7 +24,8 @@ use Rattle.rules.specs.Scripts.{
   lowerLatin,
   greeks,
   greekCapitals,
-  farCapitals,
+  greekSteps,
+  stepIn,
   isGreek,
   lowerGreek,
   LowersBy,
@@ -71,14 +72,38 @@ among-agree g f (r ∷ rs) e c h =
 
 -- ---- a unit stays one
 
-raised-unit : (t s : Bool) (d e u : ℕ) → (t ≡ true → u < 0x2000) → (s ≡ true → u < 0x2000) → d ≤ 48 → e ≤ 48 → u < 65536 → raised t d s e u < 65536
-raised-unit true s d e u a b k l h = let w = a refl in go s
-  where
-    go : (s : Bool) → u + (d + cond s e 0) < 65536
-    go true = omega (arith, a refl)
-    go false = omega (arith, a refl)
-raised-unit false true d e u a b k l h = let w = b refl in omega arith
-raised-unit false false d e u a b k l h = omega arith
+-- a step of u: at most m, and none from U+2000 on
+abbrev Step : ℕ → ℕ → ℕ → Type 0
+Step m u n = (n ≤ m) × (0x2000 ≤ u → n ≡ 0)
+
+one-step : (t : Bool) (d u : ℕ) → (t ≡ true → u < 0x2000) → Step d u (cond t d 0)
+one-step true d u a = (omega arith, λ h. absurd (omega (arith, a refl)))
+one-step false d u a = (omega arith, λ h. refl)
+
+two-steps : {m k u n l : ℕ} → Step m u n → Step k u l → Step (m + k) u (n + l)
+two-steps a b = (omega arith, λ h. omega (arith, a .1 h, b .1 h))
+
+step-unit : {m u n : ℕ} → Step m u n → m ≤ 0x1000 → u < 65536 → u + n < 65536
+step-unit {m} {u} {n} a k h =
+    by-cases (decLt u 0x2000) (λ (l : u < 0x2000). omega arith) (λ (l : ¬ (u < 0x2000)). omega (arith, a .1 (omega arith)))
+
+-- the steps of some ranges together, and whether all of these end below U+2000, or there
+unfoldable total : List (ℕ × ℕ × ℕ) → ℕ
+total [] = 0
+total (r ∷ rs) = r .2 + total rs
+
+unfoldable low : List (ℕ × ℕ × ℕ) → Bool
+low [] = true
+low (r ∷ rs) = leb (r .1) 0x2000 && low rs
+
+steps : (rs : List (ℕ × ℕ × ℕ)) → low rs ≡ true → (u : ℕ) → Step (total rs) u (stepIn rs u)
+unfolding stepIn total low
+steps [] e u = (omega arith, λ h. refl)
+steps (r ∷ rs) e u =
+    let both = and-eq-true-iff (leb (r .1) 0x2000) (low rs) .0 e in
+    let l = leb-true (r .1) 0x2000 (both .0) in
+    two-steps (one-step (leb (r .0) u && ltb u (r .1)) (r .2) u (λ k. omega (arith, ltb-true u (r .1) (and-eq-true-iff (leb (r .0) u) (ltb u (r .1)) .0 k .1))))
+    (steps rs (both .1) u)
 
 pub turn-bit : (u : ℕ) → latinTurn u < 2
 unfolding latinTurn
@@ -87,14 +112,14 @@ turn-bit u = omega arith
 pub latin-unit : (u : ℕ) → u < 65536 → lowerLatin u < 65536
 unfolding lowerLatin below latinCapitals latinPairs
 latin-unit u h =
-    raised-unit (among latinCapitals u) (among latinPairs u) 32 (latinTurn u) u
-    (among-below 0x2000 latinCapitals refl u) (among-below 0x2000 latinPairs refl u) (omega arith) (omega (arith, turn-bit u)) h
+    step-unit
+    (two-steps (one-step (among latinCapitals u) 32 u (among-below 0x2000 latinCapitals refl u))
+    (one-step (among latinPairs u) (latinTurn u) u (among-below 0x2000 latinPairs refl u))) (omega (arith, turn-bit u)) h
 
 pub greek-unit : (u : ℕ) → u < 65536 → lowerGreek u < 65536
-unfolding lowerGreek below greekCapitals farCapitals
+unfolding lowerGreek below greekCapitals greekSteps total low
 greek-unit u h =
-    raised-unit (among greekCapitals u) (among farCapitals u) 32 48 u
-    (among-below 0x2000 greekCapitals refl u) (among-below 0x2000 farCapitals refl u) (omega arith) (omega arith) h
+    step-unit (two-steps (one-step (among greekCapitals u) 32 u (among-below 0x2000 greekCapitals refl u)) (steps greekSteps refl u)) (omega arith) h
 
 -- ---- each is right
 
@@ -114,11 +139,11 @@ latin-script = record {
 }
 
 greek-agrees : agrees lower lowerGreek greeks ≡ true
-unfolding agrees agree lower lowerGreek greekCapitals farCapitals among greeks
+unfolding agrees agree lower lowerGreek greekCapitals stepIn greekSteps among greeks
 greek-agrees = refl
 
 pub greek-script : LowersBy isGreek lowerGreek
-unfolding isGreek lowerGreek greekCapitals farCapitals among below greeks
+unfolding isGreek lowerGreek greekCapitals stepIn greekSteps among below greeks
 greek-script = record {
   none = refl;
   right = λ u e. (among-agree lower lowerGreek greeks greek-agrees u e, among-below 0xD800 greeks refl u e);

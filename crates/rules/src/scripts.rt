@@ -4,7 +4,7 @@ ghost use mathlib.Core.Bool.{cond, _&&_};
 ghost use Prim.Native.Nat.{_≤_, _<_};
 ghost use lib.Dec.{leb, ltb};
 ghost use Rattle.rules.specs.Quick.{among};
-ghost use Rattle.rules.specs.Scripts.{latinCapitals, latinPairs, latinOdds, isLatin, latinTurn, lowerLatin, greekCapitals, isGreek, lowerGreek};
+ghost use Rattle.rules.specs.Scripts.{latinCapitals, latinPairs, latinOdds, isLatin, latinTurn, lowerLatin, stepIn, greekCapitals, greekSteps, isGreek, lowerGreek};
 
 // Whether u lies from a on and before b.
 fn within(a: u16, b: u16, u: u16) -> bool
@@ -72,11 +72,21 @@ pub fn lower_latin_unit(u: u16) -> u16
     u + (pick(latin_capital(u), 32) + pick(latin_pair(u), latin_turn(u)))
 }
 
-// A capital of ASCII, Greek or Cyrillic at least 32 below its small letter.
+// A capital of ASCII, Greek or Cyrillic 32 below its small letter.
 fn greek_capital(u: u16) -> bool
     ensures { λ r. ⌜ r ≡ among greekCapitals u ⌝ }
 {
-    within(0x41, 0x5B, u) | (within(0x391, 0x3AC, u) | within(0x400, 0x430, u))
+    within(0x41, 0x5B, u) | (within(0x391, 0x3AC, u) | within(0x410, 0x430, u))
+}
+
+// How far another capital of Greek or Cyrillic is below its small letter; 0 of any other unit.
+fn greek_step(u: u16) -> u16
+    ensures { λ r. ⌜ (r ≡ stepIn greekSteps u) × (r ≤ 282) ⌝ }
+{
+    pick(within(0x386, 0x387, u), 38)
+        + (pick(within(0x388, 0x38B, u), 37)
+            + (pick(within(0x38C, 0x38D, u), 64)
+                + (pick(within(0x38E, 0x390, u), 63) + pick(within(0x400, 0x410, u), 80))))
 }
 
 // Whether a unit is ASCII, Greek or Cyrillic.
@@ -84,12 +94,16 @@ pub fn is_greek(u: u16) -> bool
     ensures { λ r. ⌜ r ≡ isGreek u ⌝ }
 {
     within(0, 0xC0, u)
-        | (within(0x391, 0x3A2, u) | (within(0x3A3, 0x3CF, u) | within(0x400, 0x460, u)))
+        | (within(0x386, 0x387, u)
+            | (within(0x388, 0x38B, u)
+                | (within(0x38C, 0x38D, u)
+                    | (within(0x38E, 0x3A2, u)
+                        | (within(0x3A3, 0x3CF, u) | within(0x400, 0x460, u))))))
 }
 
 // A unit of ASCII, Greek or Cyrillic lowered.
 pub fn lower_greek_unit(u: u16) -> u16
     ensures { λ r. ⌜ (r ≡ lowerGreek u) × (r < 65536) ⌝ }
 {
-    u + (pick(greek_capital(u), 32) + pick(within(0x400, 0x410, u), 48))
+    u + (pick(greek_capital(u), 32) + greek_step(u))
 }

@@ -43,6 +43,18 @@ decimal-more n h l =
 pub decimal-length : (n : ℕ) → 10 ≤ n → n < 2 ^ 64 → length (decimal n) ≡ length (decimal (n / 10)) + 1
 decimal-length n h l = rw (← decimal-more n h l) (simp length-append)
 
+-- two digits at a time
+pub decimal-two : (n : ℕ) → 10 ≤ n → n < 100 → decimal n ≡ (48 + n / 10) ∷ (48 + n % 10) ∷ []
+decimal-two n h l = let m : n / 10 < 10 = omega arith in rw (← decimal-more n h (omega arith), decimal-last m)
+
+pub decimal-pair : (n : ℕ) → 100 ≤ n → n < 2 ^ 64 → (decimal (n / 100) ++ (48 + n / 10 % 10) ∷ []) ++ (48 + n % 10) ∷ [] ≡ decimal n
+decimal-pair n h l =
+    let e : n / 100 ≡ n / 10 / 10 = omega arith in
+    rw (e, decimal-more (n / 10) (omega arith) (omega arith)) (decimal-more n (omega arith) l)
+
+pub decimal-length-pair : (n : ℕ) → 100 ≤ n → n < 2 ^ 64 → length (decimal n) ≡ length (decimal (n / 100)) + 2
+decimal-length-pair n h l = rw (← decimal-pair n h l) (simp length-append (omega arith))
+
 -- a number has at most 20 digits, and at most k + 1 where it is below 10 ^ (k + 1)
 digits-short : (f n : ℕ) → length (digits f n) ≤ f
 unfolding digits

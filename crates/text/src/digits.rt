@@ -27,9 +27,15 @@ pub fn put_decimal(out: &mut [u8], n: u64) -> usize
         out[0] = (48 + n) as u8;
         return 1;
     }
-    let at = put_decimal(out, n / 10);
-    out[at] = (48 + n % 10) as u8;
-    at + 1
+    if n < 100 {
+        out[0] = (48 + n / 10) as u8;
+        out[1] = (48 + n % 10) as u8;
+        return 2;
+    }
+    let at = put_decimal(out, n / 100);
+    out[at] = (48 + n / 10 % 10) as u8;
+    out[at + 1] = (48 + n % 10) as u8;
+    at + 2
 }
 
 // A digit, in eight bits, so that the compiler can make many at once.

@@ -21,7 +21,9 @@ returns-3 c =
 
 returns-4 : tie.Need-returns-4
 unfolding len0to16
-returns-4 c = rw (lt-leb _ _ (c .before .before .if1 .left), lt-leb _ _ (c .before .if2 .left), le-ltb _ _ (c .if3 .left))
+returns-4 c =
+    rw (lt-leb _ _ (c .before .before .before .if1 .left), lt-leb _ _ (c .before .before .if2 .left), le-ltb _ _ (c .before .if3 .left))
+    (c .hash-len0 .ensures)
 
 pub hash-len0to16-spec : {M : Type 1} → statement M
-hash-len0to16-spec = tie.close (tie.spec (search needs) returns (search needs) returns-2 (search needs) returns-3 returns-4)
+hash-len0to16-spec = tie.close (tie.spec (search needs) returns (search needs) returns-2 (search needs) returns-3 (search needs) returns-4)

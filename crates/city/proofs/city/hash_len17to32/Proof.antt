@@ -10,5 +10,4 @@ returns c = cc
 
 pub hash-len17to32-spec : {M : Type 1} → statement M
 hash-len17to32-spec =
-    tie.close (tie.spec (search needs) (search needs) (search needs) (search needs) (search needs) (search needs) (search needs) (search needs)
-    (search needs) (search needs) (search needs) returns)
+    tie.close (tie.spec (search needs) (search needs) (search needs) (search needs) (search needs) (search needs) (search needs) returns)

@@ -1,6 +1,4 @@
--- `city::hash_len1to3` computes `len1to3`: no shift of a byte loses a bit. Assumes nothing.
-use lib.Dec.{lit≤}
-use lib.Pow.{shl-exact}
+-- `city::hash_len1to3` computes `len1to3`. Assumes nothing.
 use borrow.Author.Needs.{needs}
 use Rattle.city.specs.City.{len1to3}
 use Rattle.city.proofs.city.hash_len1to3.Statement.{statement}
@@ -8,12 +6,7 @@ use Rattle.city.proofs.city.hash_len1to3.Tie as tie
 
 returns : tie.Need-returns
 unfolding len1to3
-returns c =
-    let h = c .before .before .before .before .before .before .wide642 in
-    let l = c .before .before .before .before .wide643 in
-    cc (shl-exact {a = h .result} 8 8 64 (h .ensures .1) (lit≤ tt), shl-exact {a = l .result} 8 2 64 (l .ensures .1) (lit≤ tt))
+returns c = cc
 
 pub hash-len1to3-spec : {M : Type 1} → statement M
-hash-len1to3-spec =
-    tie.close (tie.spec (search needs) (search needs) (search needs) (search needs) (search needs) (search needs) (search needs) (search needs)
-    (search needs) (search needs) (search needs) (search needs) (search needs) returns)
+hash-len1to3-spec = tie.close (tie.spec (search needs) (search needs) (search needs) (search needs) (search needs) returns)

@@ -9,6 +9,4 @@ unfolding len8to16
 returns c = cc
 
 pub hash-len8to16-spec : {M : Type 1} → statement M
-hash-len8to16-spec =
-    tie.close (tie.spec (search needs) (search needs) (search needs) (search needs) (search needs) (search needs) (search needs) (search needs)
-    (search needs) (search needs) (search needs) (search needs) returns)
+hash-len8to16-spec = tie.close (tie.spec (search needs) (search needs) (search needs) (search needs) returns)

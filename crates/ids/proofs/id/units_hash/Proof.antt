@@ -1,18 +1,17 @@
--- `id::units_hash`: few units are hashed in one piece, more by `long_hash`. Assumes nothing.
-use mathlib.Core.Path.{_≡_, _∙_, ap}
+-- `id::units_hash`: more than 32 units are hashed by `long_hash`, fewer by the width of the text. Assumes nothing.
+use mathlib.Core.Path.{_≡_, sym, _∙_, ap}
 use mathlib.Core.List.{List}
 use Prim.Native.Nat.{ℕ, _+_}
 use native.Mathlib.Omega.{arith}
 use borrow.Author.Needs.{needs}
-use lib.ListN.{length, take}
-use Rattle.base.specs.OutputLaws.{taken-length}
+use lib.ListN.{length}
 use Rattle.text.specs.Utf16.{unitBytes}
 use Rattle.city.specs.City.{cityHash64}
 use Rattle.text.specs.Name.{base}
 use Rattle.text.specs.Units.{unitsOf}
 use Rattle.ids.specs.LoweredUnits.{nameUnits}
 use Rattle.text.specs.UnitsLaws.{unitsOf-bound}
-use Rattle.ids.proofs.NameUnits.{name-length, wrote-all}
+use Rattle.ids.proofs.NameUnits.{name-length, narrow-name, narrow-count}
 use Rattle.ids.proofs.id.units_hash.Statement.{statement}
 use Rattle.ids.proofs.id.units_hash.Tie as tie
 
@@ -25,13 +24,6 @@ module _ (k : tie.After-shared-slice-known) where
   count =
       name-length (k .before .args .wide) (k .before .args .part .now)
       (λ j. k .shared-slice-known .given j .fits) (k .before .pre .0) (k .before .args .suffix .now)
-
--- the bytes of all of them are in front of the chunk
-written : (c : tie.After-put-units) → take (c .put-units .result) (c .put-units .last .0) ≡ unitBytes (units (c .before .before .before .before .before))
-written c =
-    let k = c .before .before .before .before .before in
-    wrote-all (units k) (c .before .before .before .unit-count .result + length (k .before .args .suffix .now)) (c .put-units .ensures)
-    (omega (arith, count k))
 
 unit-count-requires : tie.Need-unit-count-requires
 unit-count-requires c κs = search needs
@@ -51,38 +43,25 @@ long-hash-requires c κs =
 returns : tie.Need-returns
 returns c = search needs
 
-slice-aggregate-put-units : tie.Need-slice-aggregate-put-units
-slice-aggregate-put-units c = search needs
-
-put-units-requires : tie.Need-put-units-requires
-put-units-requires c κs =
+wide-hash-requires : tie.Need-wide-hash-requires
+wide-hash-requires c κs =
     let k = c .before .before .before .before in
-    let n = count k in
-    (search needs, omega arith, omega arith)
-
-array-share-prefix-chunk : tie.Need-array-share-prefix-chunk
-array-share-prefix-chunk c = search needs
-
-slice-aggregate-hash-len0to32 : tie.Need-slice-aggregate-hash-len0to32
-slice-aggregate-hash-len0to32 c = taken-length (c .before .before .before .put-units .ensures)
-
-hash-len0to32-requires : tie.Need-hash-len0to32-requires
-hash-len0to32-requires c κs = omega (arith, taken-length (c .before .before .before .put-units .ensures))
+    let e : c .before .before .unit-count .result + length (k .before .args .suffix .now) ≡ length (units k) = omega (arith, count k) in
+    let t = c .if2 .taken in
+    (rw t at (k .before .pre .0), rw t at e, search needs)
 
 returns-2 : tie.Need-returns-2
-returns-2 c = c .hash-len0to32 .ensures ∙ ap cityHash64 (written (c .before .before .before .before))
+returns-2 c = rw (c .before .if2 .taken) (c .wide-hash .ensures)
 
-array-share-prefix-chunk-2 : tie.Need-array-share-prefix-chunk-2
-array-share-prefix-chunk-2 c = search needs
-
-slice-aggregate-hash-len33up : tie.Need-slice-aggregate-hash-len33up
-slice-aggregate-hash-len33up c = taken-length (c .before .before .before .put-units .ensures)
-
-hash-len33up-requires : tie.Need-hash-len33up-requires
-hash-len33up-requires c κs = omega (arith, taken-length (c .before .before .before .put-units .ensures))
+narrow-hash-requires : tie.Need-narrow-hash-requires
+narrow-hash-requires c κs = (omega (arith, narrow-count (c .if2 .left) (c .before .before .before .before .before .args .part .now)), search needs)
 
 returns-3 : tie.Need-returns-3
-returns-3 c = c .hash-len33up .ensures ∙ ap cityHash64 (written (c .before .before .before .before))
+returns-3 c =
+    let k = c .before .before .before .before .before in
+    c .narrow-hash .ensures
+    ∙ ap (λ (s : List ℕ). cityHash64 (unitBytes s))
+    (sym (narrow-name (c .before .if2 .left) (k .before .args .part .now) (λ j. k .shared-slice-known .given j .fits) (k .before .args .suffix .now)))
 
 pub units-hash-spec : {M : Type 1} → statement M
 units-hash-spec =
@@ -92,13 +71,7 @@ units-hash-spec =
     add-n
     long-hash-requires
     returns
-    slice-aggregate-put-units
-    put-units-requires
-    array-share-prefix-chunk
-    slice-aggregate-hash-len0to32
-    hash-len0to32-requires
+    wide-hash-requires
     returns-2
-    array-share-prefix-chunk-2
-    slice-aggregate-hash-len33up
-    hash-len33up-requires
+    narrow-hash-requires
     returns-3)

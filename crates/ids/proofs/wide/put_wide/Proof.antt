@@ -1,118 +1,74 @@
--- `wide::put_wide`: with A to Z lowered the units are the text's where they are ASCII; where not, the text's are written over them.
--- Assumes nothing.
+-- `wide::put_wide`: what was put many a turn, and behind it the rest, over what was tried there. Assumes nothing.
+use mathlib.Core.Path.{_≡_}
+use mathlib.Core.Bool.{true}
 use native.Mathlib.Omega.{arith}
-use Rattle.lower.specs.Ascii.{lowerAscii}
-use Rattle.base.specs.NumberLaws.{Bytes}
-use Rattle.ids.proofs.WideUnits.{ascii-wrote, script-then}
+use Rattle.lower.specs.Lower.{lowered}
+use Rattle.base.specs.OutputLaws.{wrote-as}
+use Rattle.text.specs.Utf16.{encode16}
+use Rattle.text.specs.Name.{base}
+use Rattle.ids.proofs.PutUnits.{wrote-behind}
 use borrow.Author.Needs.{needs}
 use Rattle.ids.proofs.wide.put_wide.Statement.{statement}
 use Rattle.ids.proofs.wide.put_wide.Tie as tie
 
-starts-high-requires : tie.Need-starts-high-requires
-starts-high-requires c κs = search needs
+put-turns-requires : tie.Need-put-turns-requires
+put-turns-requires c κs = search needs
 
-put-other-requires : tie.Need-put-other-requires
-put-other-requires c κs = search needs
+mul-put-singly : tie.Need-mul-put-singly
+mul-put-singly c = search needs
+
+sub-put-singly : tie.Need-sub-put-singly
+sub-put-singly c = search needs
+
+part-put-singly-start : tie.Need-part-put-singly-start
+part-put-singly-start c = search needs
+
+part-put-singly-end : tie.Need-part-put-singly-end
+part-put-singly-end c = search needs
+
+add-put-singly : tie.Need-add-put-singly
+add-put-singly c = search needs
+
+sub-put-singly-2 : tie.Need-sub-put-singly-2
+sub-put-singly-2 c = search needs
+
+put-singly-requires : tie.Need-put-singly-requires
+put-singly-requires c κs = search needs
 
 same-length : tie.Need-same-length
 same-length c = search needs
 
 returns : tie.Need-returns
-returns c = search needs
-
-put-ascii-requires : tie.Need-put-ascii-requires
-put-ascii-requires c κs = search needs
+returns c =
+    let t = c .before .before .before .before .before .before .before in
+    let a = t .before .before .before .before .args in
+    let p = t .put-turns .ensures in
+    wrote-behind (encode16 (lowered (base true (a .part .now)))) (a .from) (a .n) (t .put-turns .result) (p .0) (p .2) (p .1) (c .before .before .put-singly .ensures)
 
 same-length-2 : tie.Need-same-length-2
 same-length-2 c = search needs
 
 returns-2 : tie.Need-returns-2
 returns-2 c =
-    let k = c .before .before .before .before .before .before .before in
-    let s = c .before .before .before .before .before .before .before .before .before in
-    let a = s .args in
-    let b : Bytes (a .part .now) = λ j. k .shared-slice-known .given j .fits in
-    let p = c .before .before .before .put-ascii .ensures in
-    ascii-wrote (a .part .now) b (s .pre .0) (a .from) (a .n) (p .0) (c .if2 .taken) (p .1)
-
-guessed-requires : tie.Need-guessed-requires
-guessed-requires c κs = search needs
-
-enum-told : tie.Need-enum-told
-enum-told c = search needs
-
-put-script-requires : tie.Need-put-script-requires
-put-script-requires c κs = search needs
-
-enum-told-2 : tie.Need-enum-told-2
-enum-told-2 c = search needs
-
-put-script-requires-2 : tie.Need-put-script-requires-2
-put-script-requires-2 c κs = search needs
-
-enum-told-3 : tie.Need-enum-told-3
-enum-told-3 c = search needs
-
-put-other-requires-2 : tie.Need-put-other-requires-2
-put-other-requires-2 c κs = search needs
-
-same-length-3 : tie.Need-same-length-3
-same-length-3 c = search needs
-
-returns-3 : tie.Need-returns-3
-returns-3 c =
-    let k = c .before .before .before .before .before .before .before .before .before .before .before .before .before .before in
-    let s = c .before .before .before .before .before .before .before .before .before .before .before .before .before .before .before .before in
-    let a = s .args in
-    let b : Bytes (a .part .now) = λ j. k .shared-slice-known .given j .fits in
-    script-then lowerAscii (a .part .now) b (s .pre .0) (a .from) (a .n) (a .n) (omega arith)
-    (c .before .before .before .before .before .before .before .before .before .before .put-ascii .ensures .1) (c .before .before .put-script .ensures)
-
-same-length-4 : tie.Need-same-length-4
-same-length-4 c = search needs
-
-returns-4 : tie.Need-returns-4
-returns-4 c =
-    let k = c .before .before .before .before .before .before .before .before .before .before .before .before .before .before in
-    let s = c .before .before .before .before .before .before .before .before .before .before .before .before .before .before .before .before in
-    let a = s .args in
-    let b : Bytes (a .part .now) = λ j. k .shared-slice-known .given j .fits in
-    script-then lowerAscii (a .part .now) b (s .pre .0) (a .from) (a .n) (a .n) (omega arith)
-    (c .before .before .before .before .before .before .before .before .before .before .put-ascii .ensures .1) (c .before .before .put-script2 .ensures)
-
-same-length-5 : tie.Need-same-length-5
-same-length-5 c = search needs
-
-returns-5 : tie.Need-returns-5
-returns-5 c =
-    let k = c .before .before .before .before .before .before .before .before .before .before .before .before .before .before in
-    let s = c .before .before .before .before .before .before .before .before .before .before .before .before .before .before .before .before in
-    let a = s .args in
-    let b : Bytes (a .part .now) = λ j. k .shared-slice-known .given j .fits in
-    script-then lowerAscii (a .part .now) b (s .pre .0) (a .from) (a .n) (a .n) (omega arith)
-    (c .before .before .before .before .before .before .before .before .before .before .put-ascii .ensures .1) (c .before .before .put-other2 .ensures)
+    let t = c .before .before .before in
+    let a = t .before .before .before .before .args in
+    let p = t .put-turns .ensures in
+    let e : t .put-turns .result ≡ a .n = omega arith in
+    wrote-as (p .2) (rw e at (p .1))
 
 pub put-wide-spec : {M : Type 1} → statement M
 put-wide-spec =
     tie.close
     (tie.spec
-    starts-high-requires
-    put-other-requires
+    put-turns-requires
+    mul-put-singly
+    sub-put-singly
+    part-put-singly-start
+    part-put-singly-end
+    add-put-singly
+    sub-put-singly-2
+    put-singly-requires
     same-length
     returns
-    put-ascii-requires
     same-length-2
-    returns-2
-    guessed-requires
-    enum-told
-    put-script-requires
-    enum-told-2
-    put-script-requires-2
-    enum-told-3
-    put-other-requires-2
-    same-length-3
-    returns-3
-    same-length-4
-    returns-4
-    same-length-5
-    returns-5)
+    returns-2)

@@ -25,7 +25,7 @@ returns c =
       c .before .before .within .ensures,
       c .before .within2 .ensures,
       c .within3 .ensures,
-      or-false (leb 0x400 u && ltb u 0x430),
+      or-false (leb 0x410 u && ltb u 0x430),
     )
 
 pub greek-capital-spec : {M : Type 1} → statement M
