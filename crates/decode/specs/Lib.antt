@@ -13,10 +13,20 @@ pub mod GrammarLaws
 pub mod Measure
 pub mod TurnLaws
 pub mod MeasureLaws
-pub mod Count
-pub mod CountLaws
+pub mod Latin
+pub mod LatinLaws
+pub mod Step
+pub mod StepLaws
+pub mod Narrow
+pub mod NarrowLaws
 pub mod PlainLaws
+pub mod Tails
+pub mod TailsLaws
 pub mod WriteLaws
+pub mod Run
+pub mod RunLaws
+pub mod Eight
+pub mod EightLaws
 pub mod BackLaws
 -- ---- All of it computed at its edges
 pub mod Examples

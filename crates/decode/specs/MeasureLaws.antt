@@ -1,7 +1,7 @@
 -- Laws of measuring: what a measure says. Assumes nothing.
 use mathlib.Core.Path.{_≡_, refl, sym, ap, _∙_}
-use mathlib.Core.Bool.{Bool, true, false, and-eq-true-iff}
-use mathlib.Core.List.{List, [], _∷_, _++_}
+use mathlib.Core.Bool.{Bool, true, and-eq-true-iff}
+use mathlib.Core.List.{List, [], _∷_}
 use Prim.Native.Nat.{ℕ, _*_, _≤_}
 use native.Mathlib.Omega.{arith}
 use borrow.Author.Tests.{ltb-true}
@@ -39,14 +39,6 @@ unfolding measured
 measured-none s e = go (fromUtf8 s) e
   where
     go : (d : Decoded) → measured d ≡ NoText → d ≡ ill
-    go (well t) e = never (cc)
-    go ill e = refl
-
-pub not-measured : (s : List ℕ) → isWell (fromUtf8 s) ≡ false → NoText ≡ measured (fromUtf8 s)
-unfolding measured
-not-measured s e = go (fromUtf8 s) e
-  where
-    go : (d : Decoded) → isWell d ≡ false → NoText ≡ measured d
     go (well t) e = never (cc)
     go ill e = refl
 

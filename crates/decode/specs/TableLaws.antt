@@ -18,7 +18,7 @@ use Rattle.decode.specs.Chars.{Range, within, tail, second, isTwo, isThr
 pub inside : (low high b : ℕ) → low ≤ b → b ≤ high → within low high b ≡ true
 inside low high b l h = rw (le-leb low b l, le-leb b high h)
 
-within-is : (low high b : ℕ) → within low high b ≡ true → Range low high b
+pub within-is : (low high b : ℕ) → within low high b ≡ true → Range low high b
 within-is low high b e = let p = both (leb low b) (leb b high) e in (leb-true low b (p .0), leb-true b high (p .1))
 
 above : (low high b : ℕ) → high < b → within low high b ≡ false
@@ -143,22 +143,26 @@ pub four-range : (a b c d : ℕ) → isFour a b c d ≡ true → Range 0xF0 0xF4
 four-range a b c d e = let h = four-is a b c d e in (h .0, (h .1 .low, h .1 .high), h .2, h .3)
 
 -- a common character of three bytes is one of three
-pub common-three : (a b c : ℕ) → isCommon a b c ≡ true → isThree a b c ≡ true
-unfolding isCommon isThree
-common-three a b c e =
+pub common-is : (a b c : ℕ) → isCommon a b c ≡ true → Range 0xE1 0xEC a × Range 0x80 0xBF b × Range 0x80 0xBF c
+unfolding isCommon
+common-is a b c e =
     let p = both (within 0xE1 0xEC a && tail b) (tail c) e in
     let q = both (within 0xE1 0xEC a) (tail b) (p .0) in
-    let h = within-is 0xE1 0xEC a (q .0) in
-    let m = within-is 0x80 0xBF b (q .1) in
+    (within-is _ _ a (q .0), within-is _ _ b (q .1), within-is _ _ c (p .1))
+
+pub common-three : (a b c : ℕ) → isCommon a b c ≡ true → isThree a b c ≡ true
+unfolding isThree
+common-three a b c e =
+    let h = common-is a b c e in
     let k : Second a b = record {
-      low = m .0;
-      high = m .1;
+      low = h .1 .0;
+      high = h .1 .1;
       afterE0 = λ i. omega arith;
       afterED = λ i. omega arith;
       afterF0 = λ i. omega arith;
       afterF4 = λ i. omega arith;
     } in
-    rw (inside 0xE0 0xEF a (omega arith) (omega arith), second-true a b k, p .1)
+    rw (inside 0xE0 0xEF a (omega arith) (omega arith), second-true a b k, inside 0x80 0xBF c (omega arith) (omega arith))
 
 -- charBy by its first byte
 pub by-one : (a b c d : ℕ) → a ≤ 0x7F → charBy a b c d ≡ Of a 1
@@ -254,7 +258,7 @@ pub part-is : (s : List ℕ) (at : ℕ) → take (length s - at) (drop at s) ≡
 part-is s at = let h : length (drop at s) ≤ length s - at = simp length-drop (omega arith) in take-all (length s - at) (drop at s) h
 
 -- charOf at a place, by the bytes there
-charOf-at : (s : List ℕ) (at : ℕ) → at < length s → charOf (drop at s) ≡ charBy (getD s at 0) (getD s (at + 1) 0) (getD s (at + 2) 0) (getD s (at + 3) 0)
+pub charOf-at : (s : List ℕ) (at : ℕ) → at < length s → charOf (drop at s) ≡ charBy (getD s at 0) (getD s (at + 1) 0) (getD s (at + 2) 0) (getD s (at + 3) 0)
 charOf-at s at h =
     let e : at + 0 ≡ at = omega arith in
     charOf-bytes (drop at s) (omega (arith, length-drop at s))

@@ -1,17 +1,15 @@
 -- Loops that write a text character by character: what is written, and what is left. Assumes nothing.
 use mathlib.Core.Path.{_≡_, refl, sym, ap, _∙_}
-use mathlib.Core.Bool.{true, and-eq-true-iff}
+use mathlib.Core.Bool.{true}
 use mathlib.Core.List.{List, [], _∷_, _++_, append-assoc, append-nil}
 use Prim.Native.Nat.{ℕ, _+_, _-_, _/_, _%_, _≤_, _<_}
 use native.Mathlib.Omega.{arith}
-use borrow.Author.Tests.{le-ltb, ltb-true}
-use lib.Dec.{ltb}
-use lib.ListN.{length, set, take, drop, length-append}
+use borrow.Author.Tests.{le-ltb}
+use lib.ListN.{length, take, drop, length-append}
 use Rattle.base.specs.Output.{Wrote}
-use Rattle.base.specs.OutputLaws.{wrote-none, wrote-as, wrote-byte, wrote-rest, wrote-room}
+use Rattle.base.specs.OutputLaws.{wrote-none, wrote-as, wrote-rest, wrote-room}
 use Rattle.ids.specs.IdLaws.{unitBytes-append}
 use Rattle.text.specs.Utf16.{isWell, encodeOne, encode16, unitBytes, utf16le}
-use Rattle.decode.specs.Measure.{fitsLatin1}
 use Rattle.decode.specs.TurnLaws.{Turn, from, textFrom, one-unit, text-next, last-turn}
 
 -- the buffer s is now o: of x, the first n bytes are written to its front, and rest is left
@@ -41,14 +39,6 @@ module _ {s x o rest : List ℕ} {n : ℕ} (p : Partly s x o rest n) (b r : List
       → Partly s x (take n o ++ (q ++ drop (length o - n) (drop n o))) r (n + m)
   partly-next v = record { done = p .done ++ b; wrote = wrote-rest (p .wrote) v; is = next }
 
--- one byte was stored
-module _ {s x o rest : List ℕ} {n : ℕ} (p : Partly s x o rest n) (v : ℕ) (r : List ℕ) (e : rest ≡ v ∷ r) where
-  pub byte-room : length x ≤ length s → n < length s
-  byte-room h = omega (arith, room p (v ∷ []) r e h)
-
-  pub byte-next : length x ≤ length s → Partly s x (set o n v) r (n + 1)
-  byte-next h = record { done = p .done ++ v ∷ []; wrote = wrote-byte (p .wrote) (byte-room h) v; is = next p (v ∷ []) r e }
-
 -- the text from a place on, as UTF-16LE
 module _ {s : List ℕ} {at c k : ℕ} (t : Turn s at c k) (ok : isWell (from s at) ≡ true) where
   pub utf16le-next : utf16le (textFrom s at) ≡ unitBytes (encodeOne c) ++ utf16le (textFrom s (at + k))
@@ -59,17 +49,9 @@ module _ {s : List ℕ} {at c k : ℕ} (t : Turn s at c k) (ok : isWell (from s 
       → length (unitBytes (encodeOne c)) ≤ length (take (length now - n) (drop n now))
   utf16le-room p h = partly-room p (unitBytes (encodeOne c)) (utf16le (textFrom s (at + k))) utf16le-next h
 
-  pub latin-next : fitsLatin1 (textFrom s at) ≡ true → (c < 0x100) × (fitsLatin1 (textFrom s (at + k)) ≡ true)
-  latin-next e =
-      let p = and-eq-true-iff (ltb c 0x100) (fitsLatin1 (textFrom s (at + k))) .0 (ap fitsLatin1 (sym (text-next t ok)) ∙ e) in
-      (ltb-true c 0x100 (p .0), p .1)
-
 pub utf16le-last : (s : List ℕ) (at : ℕ) → length s ≤ at → utf16le (textFrom s at) ≡ []
 unfolding encode16
 utf16le-last s at h = rw (last-turn s at h)
-
-pub text-last : (s : List ℕ) (at : ℕ) → length s ≤ at → textFrom s at ≡ []
-text-last s at h = rw (last-turn s at h)
 
 -- the bytes of a scalar value's units
 pub units-one : (c : ℕ) → c < 0x10000 → unitBytes (encodeOne c) ≡ c % 256 ∷ c / 256 ∷ []

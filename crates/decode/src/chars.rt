@@ -5,7 +5,6 @@ ghost use Prim.Native.Nat.{_+_, _-_, _≤_, _<_};
 ghost use lib.ListN.{length, getD, drop};
 ghost use Rattle.text.specs.Utf16.{isWell};
 ghost use Rattle.text.specs.Utf8.{fromUtf8};
-ghost use Rattle.decode.specs.Measure.{textOf, fitsLatin1};
 ghost use Rattle.decode.specs.Chars.{Range, within, second, isTwo, isThree, isFour, isCommon, joined, charOf};
 use base::number::wide;
 
@@ -87,7 +86,7 @@ fn two(a: u32, b: u32) -> u32
 }
 
 // The scalar value of three.
-fn three(a: u32, b: u32, c: u32) -> u32
+pub fn three(a: u32, b: u32, c: u32) -> u32
     requires { ⌜ Range 0xE0 0xEF a × Range 0x80 0xBF b × Range 0x80 0xBF c ⌝ }
     ensures { λ r. ⌜ r ≡ joined (joined (a - 0xE0) b) c ⌝ }
 {
@@ -202,30 +201,10 @@ fn known_first(s: &[u8]) -> Char
     Char::Of(four(a, b, c, wide(s[3])), 4)
 }
 
-// The same of a text that fits Latin-1, whose characters take two bytes at most.
-fn latin_first(s: &[u8]) -> Char
-    requires { ⌜ (0 < length (now s)) × (isWell (fromUtf8 (now s)) ≡ true) × (fitsLatin1 (textOf (now s)) ≡ true) ⌝ }
-    ensures { λ r. ⌜ r ≡ charOf (now (s .entry)) ⌝ }
-{
-    let a = wide(s[0]);
-    if a <= 0x7F {
-        return Char::Of(a, 1);
-    }
-    Char::Of(two(a, wide(s[1])), 2)
-}
-
 // The character at a place from which on the bytes are known to be UTF-8.
 pub fn known_char(s: &[u8], at: usize) -> Char
     requires { ⌜ (at < length (now s)) × (isWell (fromUtf8 (drop at (now s))) ≡ true) ⌝ }
     ensures { λ r. ⌜ r ≡ charOf (drop at (now (s .entry))) ⌝ }
 {
     known_first(&s[at..])
-}
-
-// The same where the text from there on fits Latin-1.
-pub fn latin_char(s: &[u8], at: usize) -> Char
-    requires { ⌜ (at < length (now s)) × (isWell (fromUtf8 (drop at (now s))) ≡ true) × (fitsLatin1 (textOf (drop at (now s))) ≡ true) ⌝ }
-    ensures { λ r. ⌜ r ≡ charOf (drop at (now (s .entry))) ⌝ }
-{
-    latin_first(&s[at..])
 }

@@ -10,38 +10,27 @@ ghost use Rattle.text.specs.Utf8.{fromUtf8};
 ghost use Rattle.decode.specs.Measure.{textOf, fitsLatin1};
 use super::chars::Char;
 use super::chars::known_char;
-use super::chars::latin_char;
-use text::plain::is_plain;
-use text::plain::put_plain;
+use super::eight::put_eight;
+use super::eight::starts_eight;
+use super::run::is_run;
+use super::run::put_run;
+use super::tails::is_accented;
+use super::tails::lift;
+use super::tails::put_each;
+use super::tails::squeeze;
 
-// The text as Latin-1, character by character: each byte is its code point.
-fn put_each(out: &mut [u8], s: &[u8]) -> usize
-    requires { ⌜ (isWell (fromUtf8 (now s)) ≡ true) × (fitsLatin1 (textOf (now s)) ≡ true) × (length (textOf (now s)) ≤ length (now out)) ⌝ }
-    ensures { λ r. ⌜ Wrote (now (out .entry)) (textOf (now (s .entry))) (now (out .exit)) r ⌝ }
-{
-    let mut n = 0;
-    let mut at = 0;
-    while at < s.len() {
-        match latin_char(s, at) {
-            Char::Of(c, k) => {
-                out[n] = c as u8;
-                n += 1;
-                at += k;
-            }
-            Char::Ill => return n,
-        }
-    }
-    n
-}
-
-// The text as Latin-1. ASCII is written as it stands.
+// The text as Latin-1. Where it is long and no byte leads but C3, its bytes are squeezed first and then lifted many at once.
 pub fn put_latin1(out: &mut [u8], s: &[u8]) -> usize
     requires { ⌜ (isWell (fromUtf8 (now s)) ≡ true) × (fitsLatin1 (textOf (now s)) ≡ true) × (length (textOf (now s)) ≤ length (now out)) ⌝ }
     ensures { λ r. ⌜ Wrote (now (out .entry)) (textOf (now (s .entry))) (now (out .exit)) r ⌝ }
 {
-    if is_plain(s) {
-        put_plain(out, s);
-        return s.len();
+    if s.len() < 64 {
+        return put_each(out, s);
+    }
+    if is_accented(s) {
+        let n = squeeze(out, s);
+        lift(out, n);
+        return n;
     }
     put_each(out, s)
 }
@@ -65,7 +54,7 @@ fn put_units(out: &mut [u8], c: u32) -> usize
     4
 }
 
-// The text as UTF-16LE.
+// The text as UTF-16LE: eight characters of ASCII at once, four of three bytes at once, others one by one.
 pub fn put_utf16le(out: &mut [u8], s: &[u8]) -> usize
     requires { ⌜ (isWell (fromUtf8 (now s)) ≡ true) × (length (utf16le (textOf (now s))) ≤ length (now out)) ⌝ }
     ensures { λ r. ⌜ Wrote (now (out .entry)) (utf16le (textOf (now (s .entry)))) (now (out .exit)) r ⌝ }
@@ -73,6 +62,19 @@ pub fn put_utf16le(out: &mut [u8], s: &[u8]) -> usize
     let mut n = 0;
     let mut at = 0;
     while at < s.len() {
+        let a = s[at];
+        if a < 0x80 && starts_eight(s, at) {
+            put_eight(&mut out[n..], s, at);
+            n += 16;
+            at += 8;
+            continue;
+        }
+        if 0xE0 <= a && is_run(s, at) {
+            put_run(&mut out[n..], s, at);
+            n += 8;
+            at += 12;
+            continue;
+        }
         match known_char(s, at) {
             Char::Of(c, k) => {
                 n += put_units(&mut out[n..], c);

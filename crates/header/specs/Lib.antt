@@ -11,4 +11,5 @@ pub mod TextLoops
 pub mod PartsLaws
 pub mod RegionLaws
 pub mod WritingLaws
+pub mod LaidLaws
 pub mod AnswerLaws

@@ -4,7 +4,7 @@ use mathlib.Core.Bool.{Bool, true, cond, _&&_}
 use mathlib.Core.List.{List, [], _∷_, _++_}
 use Prim.Native.Nat.{ℕ, zero, suc, _+_, _*_, _/_, _%_, _^_, _≤_, _<_}
 use lib.Dec.{leb, eqb}
-use lib.ListN.{length, getD, replicate}
+use lib.ListN.{length, take, drop, getD, replicate}
 use Rattle.base.specs.Choose.{pick}
 use Rattle.base.specs.Find.{flat}
 use Rattle.base.specs.Number.{beAt}
@@ -159,8 +159,16 @@ pub record TextIn (more : ℕ) (s : List ℕ) (at : ℕ) : Type 0 where
   pub there : at + 4 ≤ length s
   pub next : nextText more s at ≤ length s
 
+-- how many units a string of so many bytes has
+abbrev pub stringUnits : ℕ → Bool → ℕ
+stringUnits size latin = cond latin size (size / 2)
+
 abbrev pub headHigh : ℕ → Bool → ℕ
 headHigh units latin = (cond latin 0 0x8000 + units) / 256 % 256
+
+-- a buffer in which some bytes were written at a place
+unfoldable pub laid : List ℕ → ℕ → List ℕ → List ℕ
+laid o at b = take at o ++ b ++ drop (at + length b) o
 
 unfoldable pub frontBytes : ℕ → ℕ → List ℕ
 frontBytes count strings = le4 count ++ le4 strings ++ le8 0xC1640000

@@ -1,19 +1,19 @@
 -- Laws of a description's texts by position: one that can be written, or not; one text more. Assumes nothing.
 use mathlib.Core.Path.{_≡_, refl, sym, _∙_, ap}
 use mathlib.Core.Bool.{Bool, true, false, cond, _&&_, and-eq-true-iff}
-use mathlib.Core.List.{List, [], _∷_, _++_}
-use Prim.Native.Nat.{ℕ, zero, suc, _+_, _*_, _-_, _^_, _≤_, _<_}
+use mathlib.Core.List.{List}
+use Prim.Native.Nat.{ℕ, zero, suc, _+_, _*_, _-_, _≤_, _<_}
 use native.Mathlib.Nat.{mul-suc}
 use native.Mathlib.Omega.{arith}
 use borrow.Author.Tests.{le-leb, lt-leb, leb-true, lt-ltb, le-ltb}
 use lib.Dec.{leb, eqb}
-use lib.ListN.{length, length-append}
+use lib.ListN.{length, take, drop, length-append}
 use Rattle.base.specs.Choose.{pick}
 use Rattle.base.specs.Find.{flat}
 use Rattle.base.specs.Never.{never}
 use Rattle.base.specs.Number.{beAt}
 use Rattle.base.specs.ReadingRows.{cells}
-use Rattle.text.specs.Utf16.{ill, isWell, encode16, utf16le}
+use Rattle.text.specs.Utf16.{isWell, encode16, utf16le}
 use Rattle.text.specs.Utf8.{fromUtf8}
 use Rattle.ids.specs.IdLaws.{unitBytes-length}
 use Rattle.decode.specs.declared.measure.Measured.{Measured}
@@ -26,7 +26,6 @@ use Rattle.zen.specs.Zen.{named}
 use Rattle.header.specs.Places.{utf8At, textAt, nextText, textWell, textPlace, textsFrom, exportIn}
 use Rattle.header.specs.TextLoops.{texts-next, place-next}
 use Rattle.header.specs.Parts.{textFits, textsFit, stringsFrom, stringSize, sizedText, sizedTexts, batchOf}
-use Rattle.header.specs.declared.check.Sized.{Sized}
 use Rattle.header.specs.declared.check.Sized.the-variants.{To, Bad}
 
 -- ---- a string's size
@@ -93,19 +92,29 @@ module _ (more : ℕ) (s : List ℕ) (at : ℕ) where
       unfolding sizedText textFits textWell
       text-long h = rw (le-leb (at + 4) (length s) (omega arith), lt-leb (nextText more s at) (length s) (omega arith))
 
-      module _ (room : n + more ≤ length s - at - 4) (u : List ℕ) (is : u ≡ utf8At s at) where
+      -- the code measures from place to place
+      part-is : take (at + 4 + n - (at + 4)) (drop (at + 4) s) ≡ utf8At s at
+      part-is = let k : at + 4 + n - (at + 4) ≡ n = omega arith in rw (k, e)
+
+      module _ (room : n + more ≤ length s - at - 4) (x : Measured) (is : x ≡ measured (fromUtf8 (take (at + 4 + n - (at + 4)) (drop (at + 4) s)))) where
         fits-next : nextText more s at ≤ length s
         fits-next = omega arith
 
-        pub text-ill : measured (fromUtf8 u) ≡ NoText → Bad ≡ sizedText more s at
+        measured-is : measured (fromUtf8 (utf8At s at)) ≡ x
+        measured-is = rw (← part-is) (sym is)
+
+        pub text-ill : x ≡ NoText → Bad ≡ sizedText more s at
         unfolding sizedText textFits textWell
         text-ill m =
-            let f : fromUtf8 (utf8At s at) ≡ ill = ap fromUtf8 (sym is) ∙ measured-none u m in
-            rw (le-leb (at + 4) (length s) (omega arith), le-leb (nextText more s at) (length s) fits-next, f)
+            rw (
+              le-leb (at + 4) (length s) (omega arith),
+              le-leb (nextText more s at) (length s) fits-next,
+              measured-none (utf8At s at) (measured-is ∙ m),
+            )
 
-        module _ (units : ℕ) (latin : Bool) (m : measured (fromUtf8 u) ≡ Text units latin) where
+        module _ (units : ℕ) (latin : Bool) (m : x ≡ Text units latin) where
           said : Said (utf8At s at) units latin
-          said = measured-text (utf8At s at) (rw is at m)
+          said = measured-text (utf8At s at) (measured-is ∙ m)
 
           pub text-units : longestName < units → Bad ≡ sizedText more s at
           unfolding sizedText textFits textWell

@@ -1,6 +1,5 @@
 -- Texts and records from a place on, for loops: none left, or one and those behind it.
 use mathlib.Core.Path.{_≡_, refl, ap}
-use mathlib.Core.Bool.{true, _&&_}
 use mathlib.Core.List.{List, [], _∷_}
 use Prim.Native.Nat.{ℕ, zero, suc, _+_, _-_, _≤_, _<_}
 use native.Mathlib.Numerals.{sub-one}
@@ -8,24 +7,9 @@ use native.Mathlib.Omega.{arith}
 use lib.ListN.{length}
 use Rattle.base.specs.ReadingRows.{cells}
 use Rattle.written.specs.HeaderBytes.{importedTexts}
-use Rattle.header.specs.Places.{textAt, nextText, textWell, textPlace, textsFrom, textsWell, importedAt, importedFrom}
+use Rattle.header.specs.Places.{textAt, nextText, textPlace, textsFrom, importedAt, importedFrom}
 
 module _ (more : ℕ) (s : List ℕ) where
-  pub well-none : (n at : ℕ) → n ≤ 0 → textsWell more s at n ≡ true
-  unfolding textsWell
-  well-none zero at h = refl
-  well-none (suc n) at h = absurd (omega arith)
-
-  pub well-next : (n at : ℕ) → 0 < n → textsWell more s at n ≡ textWell more s at && textsWell more s (nextText more s at) (n - 1)
-  unfolding textsWell
-  well-next zero at h = absurd (omega arith)
-  well-next (suc n) at h = rw sub-one
-
-  pub place-none : (n at : ℕ) → n ≤ 0 → textPlace more s at n ≡ at
-  unfolding textPlace
-  place-none zero at h = refl
-  place-none (suc n) at h = absurd (omega arith)
-
   pub place-next : (n at : ℕ) → 0 < n → textPlace more s at n ≡ textPlace more s (nextText more s at) (n - 1)
   unfolding textPlace
   place-next zero at h = absurd (omega arith)

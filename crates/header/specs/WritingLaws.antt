@@ -6,19 +6,24 @@ use Prim.Native.Nat.{ℕ, zero, suc, _+_, _*_, _-_, _/_, _%_, _^_, _≤_, _<_}
 use native.Mathlib.Nat.{div-one}
 use native.Mathlib.Numerals.{add-one}
 use native.Mathlib.Omega.{arith}
-use lib.ListN.{length, replicate, length-append, length-replicate}
+use lib.ListN.{length, replicate}
 use Rattle.base.specs.Find.{flat}
 use Rattle.base.specs.Number.{beAt, beBytes, leBytes}
-use Rattle.base.specs.NumberLaws.{length-leBytes}
 use Rattle.base.specs.ReadingRows.{cells}
-use Rattle.text.specs.Utf16.{utf16le}
-use Rattle.decode.specs.Measure.{textOf}
-use Rattle.decode.specs.MeasureLaws.{Said}
+use Rattle.base.specs.Output.{Wrote}
+use Rattle.base.specs.OutputLaws.{wrote-as}
+use Rattle.text.specs.Affix.{allAscii}
+use Rattle.text.specs.Utf16.{isWell, scalars, encode16, utf16le}
+use Rattle.text.specs.Utf8.{fromUtf8}
+use Rattle.decode.specs.Measure.{textOf, fitsLatin1}
+use Rattle.decode.specs.MeasureLaws.{Said, measured-text}
+use Rattle.decode.specs.PlainLaws.{plain-text, plain-measured}
 use Rattle.written.specs.BatchBytes.{le4, le8, headBytes, stringBytes, someBytes, batchBytes}
 use Rattle.written.specs.HeaderBytes.{Description, exportBytes, importedBytes, headerSize, offsetsOf, summaryBytes, contentBytes}
-use Rattle.header.specs.Places.{textAt, textEnd, nextText, textsFrom, exportIn, importedAt, importedFrom, importedPlace, importedCount, descriptionAt}
-use Rattle.header.specs.TextLoops.{texts-count, imported-texts, texts-next, texts-none, imported-next, imported-none, cells-next, cells-none}
-use Rattle.header.specs.Parts.{partsOf, regionsOf, headHigh, frontBytes, namesBytes, summaryWords, tablesBytes, stringsFrom}
+use Rattle.header.specs.Places.{textEnd, nextText, textsFrom, exportIn, importedAt, importedFrom, importedPlace, importedCount, descriptionAt}
+use Rattle.header.specs.TextLoops.{texts-count, imported-texts, imported-next, imported-none, cells-next, cells-none}
+use Rattle.header.specs.Parts.{partsOf, regionsOf, stringSize, stringUnits, headHigh, frontBytes, namesBytes, summaryWords, tablesBytes, stringsFrom}
+use Rattle.header.specs.PartsLaws.{string-size}
 use Rattle.header.specs.RegionLaws.{numberBytes, starts}
 use Rattle.header.specs.declared.check.Regions.{Regions}
 
@@ -111,24 +116,13 @@ module _ (more : ℕ) (s : List ℕ) (at n : ℕ) where
       ≡ batchBytes (textsFrom more s at n)
   batch-made strings e h = rw e (sym (batch-some h))
 
-  pub names-size : length (namesBytes (textsFrom more s at n))
-      ≡ 8 * n + length (flat headBytes (textsFrom more s at n)) + length (flat stringBytes (textsFrom more s at n))
+  pub names-made : replicate (8 * n) 0 ++ (flat headBytes (textsFrom more s at n) ++ flat stringBytes (textsFrom more s at n))
+      ≡ namesBytes (textsFrom more s at n)
   unfolding namesBytes
-  names-size =
-      let ts = textsFrom more s at n in
-      let z = replicate {A = ℕ} (8 * length ts) 0 in
-      rw (
-        length-append (z ++ flat headBytes ts) (flat stringBytes ts),
-        length-append z (flat headBytes ts),
-        length-replicate {A = ℕ}
-            (8 * length ts) 0,
-        texts-count more s n at,
-      )
-
-  pub names-made : replicate (8 * n) 0 ++ flat headBytes (textsFrom more s at n) ++ flat stringBytes (textsFrom more s at n) ≡ namesBytes
-      (textsFrom more s at n)
-  unfolding namesBytes
-  names-made = rw (texts-count more s n at)
+  names-made = rw (
+    texts-count more s n at,
+    append-assoc (replicate {A = ℕ} (8 * n) 0) (flat headBytes (textsFrom more s at n)) (flat stringBytes (textsFrom more s at n)),
+  )
 
 pub front-length : (n k : ℕ) → length (frontBytes n k) ≡ 16
 unfolding frontBytes leBytes
@@ -167,22 +161,40 @@ words-length s g = refl
 
 -- ---- a name's string
 
-pub string-latin : {u : List ℕ} {n : ℕ} → Said u n true → stringBytes (textOf u) ≡ textOf u
+pub string-latin : (t : List ℕ) → fitsLatin1 t ≡ true → stringBytes t ≡ t
 unfolding stringBytes
-string-latin m = rw (m .fits)
+string-latin t e = rw e
 
-pub string-wide : {u : List ℕ} {n : ℕ} → Said u n false → stringBytes (textOf u) ≡ utf16le (textOf u)
+pub string-wide : (t : List ℕ) → fitsLatin1 t ≡ false → stringBytes t ≡ utf16le t
 unfolding stringBytes
-string-wide m = rw (m .fits)
+string-wide t e = rw e
 
--- ---- a turn of a loop over texts, over imported names, over records of one size
+-- ASCII, as the code's test says
+module _ (s : List ℕ) (b : Bool) (is : b ≡ allAscii s) (yes : b ≡ true) where
+  plain-latin : fitsLatin1 (textOf s) ≡ true
+  plain-latin = measured-text s (sym (plain-measured s b is yes)) .fits
 
-pub text-turn : (f : List ℕ → List ℕ) (more : ℕ) (s : List ℕ) (at n : ℕ) → 0 < n
-    → flat f (textsFrom more s at n) ≡ f (textAt s at) ++ flat f (textsFrom more s (nextText more s at) (n - 1))
-text-turn f more s at n h = each-next f (texts-next more s n at h)
+  string-plain : stringBytes (textOf s) ≡ s
+  string-plain = string-latin (textOf s) plain-latin ∙ ap scalars (plain-text s (sym is ∙ yes))
 
-pub text-last : (f : List ℕ → List ℕ) (more : ℕ) (s : List ℕ) (at n : ℕ) → n ≤ 0 → flat f (textsFrom more s at n) ≡ []
-text-last f more s at n h = each-none f (texts-none more s n at h)
+  pub plain-room : (room : ℕ) → length (stringBytes (textOf s)) ≤ room → length s ≤ room
+  plain-room room h = omega (arith, ap length string-plain)
+
+  pub plain-put : {out now : List ℕ} → Wrote out s now (length s) → Wrote out (stringBytes (textOf s)) now (length s) × (true ≡ fitsLatin1 (textOf s))
+  plain-put w = (wrote-as w (sym string-plain), sym plain-latin)
+
+-- its units, from how many bytes it takes
+units-back : (n : ℕ) (latin : Bool) → stringUnits (stringSize n latin) latin ≡ n
+units-back n true = refl
+units-back n false = omega arith
+
+pub string-said : (u : List ℕ) (size units : ℕ) (latin : Bool) → isWell (fromUtf8 u) ≡ true → size ≡ length (stringBytes (textOf u))
+    → latin ≡ fitsLatin1 (textOf u) → units ≡ stringUnits size latin → Said u units latin
+string-said u size units latin w e l q =
+    let m : Said u (length (encode16 (textOf u))) latin = record { is-utf8 = w; units = refl; fits = sym l } in
+    record { is-utf8 = w; units = sym (q ∙ rw (e, string-size m) (units-back (length (encode16 (textOf u))) latin)); fits = sym l }
+
+-- ---- a turn of a loop over imported names, over records of one size
 
 pub number-turn : (s : List ℕ) (at n : ℕ) → 0 < n
     → flat numberBytes (importedFrom s at n) ≡ leBytes 4 (beAt 4 s (textEnd s at)) ++ flat numberBytes (importedFrom s (nextText 4 s at) (n - 1))

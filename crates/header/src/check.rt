@@ -1,7 +1,7 @@
 // A description checked (27), and where its parts are.
 ghost use mathlib.Core.Path.{_≡_};
 ghost use Prim.Native.Nat.{_+_, _*_, _^_, _≤_, _<_};
-ghost use lib.ListN.{length, take, drop};
+ghost use lib.ListN.{length};
 ghost use Rattle.base.specs.Number.{beAt};
 ghost use Rattle.base.specs.ReadingRows.{cells};
 ghost use Rattle.zen.specs.Zen.{named};
@@ -10,7 +10,7 @@ ghost use Rattle.header.specs.Parts.{Says, batchOf, Small, regionsOf};
 ghost use Rattle.header.specs.Parts.{stringSize, sizedText, sizedTexts, Begun, Tabled, Listed};
 use base::number::be32;
 use decode::measure::Measured;
-use decode::measure::measure;
+use decode::narrow::measure_at;
 
 // Texts that can be written: where what follows starts, and how many bytes their strings take.
 pub enum Sized {
@@ -93,12 +93,13 @@ fn sized_text(s: &[u8], at: usize, more: usize) -> Sized
     if left - 4 < n + more {
         return Sized::Bad;
     }
-    match measure(utf8_at(s, at)) {
+    let start = at + 4;
+    match measure_at(s, start, start + n) {
         Measured::Text(units, latin) => {
             if LONGEST_NAME < units {
                 return Sized::Bad;
             }
-            Sized::To(at + 4 + n + more, string_size(units, latin))
+            Sized::To(start + n + more, string_size(units, latin))
         }
         Measured::NoText => Sized::Bad,
     }

@@ -1,26 +1,28 @@
-// A batch of names, written to the front of a lent buffer from the texts of a description. Each function returns how many bytes it wrote.
+// A batch of names, written to the front of a lent buffer from the texts of a description. A function returns how many bytes it wrote where it says
+// nothing else.
 ghost use mathlib.Core.Path.{_≡_};
 ghost use mathlib.Core.Bool.{true};
-ghost use Prim.Native.Nat.{_*_, _^_, _≤_, _<_};
+ghost use mathlib.Core.List.{_++_};
+ghost use Prim.Native.Nat.{_+_, _*_, _^_, _≤_, _<_};
 ghost use lib.ListN.{length, replicate};
 ghost use Rattle.base.specs.Find.{flat};
 ghost use Rattle.base.specs.Output.{Wrote};
 ghost use Rattle.text.specs.Utf16.{isWell, encode16};
 ghost use Rattle.text.specs.Utf8.{fromUtf8};
-ghost use Rattle.decode.specs.Measure.{textOf};
+ghost use Rattle.decode.specs.Measure.{textOf, fitsLatin1};
 ghost use Rattle.written.specs.BatchBytes.{stringBytes, headBytes, batchBytes};
 ghost use Rattle.written.specs.HeaderBytes.{longestName};
 ghost use Rattle.header.specs.Places.{nextText, textsFrom};
-ghost use Rattle.header.specs.Parts.{textsFit, stringsFrom, TextIn, headHigh, namesBytes, frontBytes};
+ghost use Rattle.header.specs.Parts.{textsFit, stringsFrom, TextIn, stringUnits, headHigh, laid, namesBytes, frontBytes};
 use super::check::size_at;
 use super::check::utf8_at;
 use super::little::put_le32;
 use super::little::put_le64;
-use decode::count::count;
-use decode::count::is_latin1;
-use decode::measure::Measured;
+use decode::latin::is_latin1;
 use decode::write::put_latin1;
 use decode::write::put_utf16le;
+use text::plain::is_plain;
+use text::plain::put_plain;
 
 // Zeros.
 fn put_zeros(out: &mut [u8], n: usize) -> usize
@@ -35,15 +37,41 @@ fn put_zeros(out: &mut [u8], n: usize) -> usize
     i
 }
 
-// A name's string: Latin-1, or UTF-16LE where the text doesn't fit.
-fn put_string(out: &mut [u8], s: &[u8]) -> usize
+// A string written: how many bytes it takes, and whether it is Latin-1.
+pub struct Put {
+    pub size: usize,
+    pub latin: bool,
+}
+
+// A name's string: Latin-1, or UTF-16LE where the text doesn't fit. ASCII is written as it stands.
+fn put_string(out: &mut [u8], s: &[u8]) -> Put
     requires { ⌜ (isWell (fromUtf8 (now s)) ≡ true) × (length (stringBytes (textOf (now s))) ≤ length (now out)) ⌝ }
-    ensures { λ r. ⌜ Wrote (now (out .entry)) (stringBytes (textOf (now (s .entry)))) (now (out .exit)) r ⌝ }
+    ensures { λ r. ⌜ Wrote (now (out .entry)) (stringBytes (textOf (now (s .entry)))) (now (out .exit)) (r .size)
+        × (r .latin ≡ fitsLatin1 (textOf (now (s .entry)))) ⌝ }
 {
-    if is_latin1(s) {
-        return put_latin1(out, s);
+    if is_plain(s) {
+        put_plain(out, s);
+        return Put {
+            size: s.len(),
+            latin: true,
+        };
     }
-    put_utf16le(out, s)
+    if is_latin1(s) {
+        let size = put_latin1(out, s);
+        return Put { size, latin: true };
+    }
+    let size = put_utf16le(out, s);
+    Put { size, latin: false }
+}
+
+// How many units a string of so many bytes has.
+fn string_units(size: usize, latin: bool) -> usize
+    ensures { λ r. ⌜ r ≡ stringUnits size latin ⌝ }
+{
+    if latin {
+        return size;
+    }
+    size / 2
 }
 
 // The first byte of a name's header: bit 7 where it is UTF-16LE, then how many units it has.
@@ -57,19 +85,18 @@ fn head_high(units: usize, latin: bool) -> u8
     ((0x8000 + units) / 256 % 256) as u8
 }
 
-// A name's header.
-fn put_head(out: &mut [u8], s: &[u8]) -> usize
-    requires { ⌜ (isWell (fromUtf8 (now s)) ≡ true) × (length (encode16 (textOf (now s))) ≤ longestName) × (2 ≤ length (now out)) ⌝ }
-    ensures { λ r. ⌜ Wrote (now (out .entry)) (headBytes (textOf (now (s .entry)))) (now (out .exit)) r ⌝ }
+// A text: its header at one place, its string at another behind it. Returns how many bytes the string takes.
+fn put_text(out: &mut [u8], head: usize, n: usize, s: &[u8]) -> usize
+    requires { ⌜ (isWell (fromUtf8 (now s)) ≡ true) × (length (encode16 (textOf (now s))) ≤ longestName) × (head + 2 ≤ n)
+        × (n + length (stringBytes (textOf (now s))) ≤ length (now out)) ⌝ }
+    ensures { λ r. ⌜ (r ≡ length (stringBytes (textOf (now (s .entry)))))
+        × (now (out .exit) ≡ laid (laid (now (out .entry)) n (stringBytes (textOf (now (s .entry))))) head (headBytes (textOf (now (s .entry))))) ⌝ }
 {
-    match count(s) {
-        Measured::Text(units, latin) => {
-            out[0] = head_high(units, latin);
-            out[1] = (units % 256) as u8;
-            2
-        }
-        Measured::NoText => 0,
-    }
+    let p = put_string(&mut out[n..], s);
+    let units = string_units(p.size, p.latin);
+    out[head] = head_high(units, p.latin);
+    out[head + 1] = (units % 256) as u8;
+    p.size
 }
 
 // Where the text behind one starts.
@@ -80,34 +107,20 @@ pub fn next_text(s: &[u8], at: usize, more: usize) -> usize
     at + 4 + size_at(s, at) + more
 }
 
-// The headers of so many texts from a place on.
-fn put_heads(out: &mut [u8], s: &[u8], from: usize, count: usize, more: usize) -> usize
-    requires { ⌜ (textsFit more (now s) from count ≡ true) × (length (flat headBytes (textsFrom more (now s) from count)) ≤ length (now out)) ⌝ }
-    ensures { λ r. ⌜ Wrote (now (out .entry)) (flat headBytes (textsFrom more (now (s .entry)) from count)) (now (out .exit)) r ⌝ }
+// The headers of so many texts from a place on, and behind them their strings.
+fn put_texts(out: &mut [u8], s: &[u8], from: usize, count: usize, more: usize) -> usize
+    requires { ⌜ (textsFit more (now s) from count ≡ true)
+        × (length (flat headBytes (textsFrom more (now s) from count) ++ flat stringBytes (textsFrom more (now s) from count)) ≤ length (now out)) ⌝ }
+    ensures { λ r. ⌜ Wrote (now (out .entry)) (flat headBytes (textsFrom more (now (s .entry)) from count)
+        ++ flat stringBytes (textsFrom more (now (s .entry)) from count)) (now (out .exit)) r ⌝ }
 {
-    let mut n = 0;
+    let mut n = 2 * count;
     let mut at = from;
-    let mut left = count;
-    while 0 < left {
-        n += put_head(&mut out[n..], utf8_at(s, at));
+    let mut i = 0;
+    while i < count {
+        n += put_text(out, 2 * i, n, utf8_at(s, at));
         at = next_text(s, at, more);
-        left -= 1;
-    }
-    n
-}
-
-// Their strings.
-fn put_strings(out: &mut [u8], s: &[u8], from: usize, count: usize, more: usize) -> usize
-    requires { ⌜ (textsFit more (now s) from count ≡ true) × (length (flat stringBytes (textsFrom more (now s) from count)) ≤ length (now out)) ⌝ }
-    ensures { λ r. ⌜ Wrote (now (out .entry)) (flat stringBytes (textsFrom more (now (s .entry)) from count)) (now (out .exit)) r ⌝ }
-{
-    let mut n = 0;
-    let mut at = from;
-    let mut left = count;
-    while 0 < left {
-        n += put_string(&mut out[n..], utf8_at(s, at));
-        at = next_text(s, at, more);
-        left -= 1;
+        i += 1;
     }
     n
 }
@@ -118,8 +131,7 @@ fn put_names(out: &mut [u8], s: &[u8], from: usize, count: usize, more: usize) -
     ensures { λ r. ⌜ Wrote (now (out .entry)) (namesBytes (textsFrom more (now (s .entry)) from count)) (now (out .exit)) r ⌝ }
 {
     let a = put_zeros(out, 8 * count);
-    let b = a + put_heads(&mut out[a..], s, from, count, more);
-    b + put_strings(&mut out[b..], s, from, count, more)
+    a + put_texts(&mut out[a..], s, from, count, more)
 }
 
 // What stands before them: how many there are, how many bytes their strings take, the version of the hashes.

@@ -2,15 +2,18 @@
 -- on, which is well-formed. Assumes nothing.
 use mathlib.Core.Path.{_≡_, sym, _∙_}
 use mathlib.Core.Bool.{true}
-use Prim.Native.Nat.{_-_, _≤_}
+use Prim.Native.Nat.{_+_, _-_, _≤_}
 use native.Mathlib.Omega.{arith}
-use lib.ListN.{length}
+use lib.ListN.{length, take, drop}
 use borrow.Author.Needs.{needs}
 use Rattle.base.specs.OutputLaws.{wrote-length}
 use Rattle.text.specs.Utf16.{isWell, utf16le}
 use Rattle.decode.specs.Measure.{textOf}
 use Rattle.decode.specs.TurnLaws.{Turn, from, textFrom, turn, turn-well, well-next}
 use Rattle.decode.specs.WriteLaws.{Partly, partly-none, partly-all, partly-next, utf16le-room, utf16le-next, utf16le-last}
+use Rattle.decode.specs.RunLaws.{Leads, run-leads, run-well, run-next, run-room}
+use Rattle.decode.specs.Latin.{every, ascii}
+use Rattle.decode.specs.EightLaws.{eight-is, eight-well, eight-next, eight-room}
 use Rattle.decode.proofs.write.put_utf16le.Statement.{statement}
 use Rattle.decode.proofs.write.put_utf16le.Tie as tie
 
@@ -22,64 +25,138 @@ Inv-loop out₀ s n₀ at₀ out n at =
 abbrev μ-loop : tie.MeasureT-loop
 μ-loop out₀ s n₀ at₀ out n at = length s - at
 
--- what a turn passes
-turned : (c : tie.After-c Inv-loop μ-loop)
-    → Turn (c .before .before .before .before .before .before .before .args .s .now) (c .before .before .before .before .loop .at) (c .c .given .0 .0) (c .c .given .0 .1 .0)
-turned c =
-    turn _ _ (c .before .before .before .loop-test .taken) (sym (c .before .before .known-char .ensures) ∙ c .c .given .1)
+-- what a turn passes: eight bytes of ASCII
+seen : (c : tie.Then2 Inv-loop μ-loop)
+    → (c .before .before .before .before .before .loop .at + 8 ≤ length (c .before .before .before .before .before .before .before .before .args .s .now))
+    × (every ascii (take 8 (drop (c .before .before .before .before .before .loop .at) (c .before .before .before .before .before .before .before .before .args .s .now))) ≡ true)
+seen c = eight-is _ _ (sym (c .before .starts-eight .ensures) ∙ c .if2 .taken)
+
+-- or four characters of three bytes
+led : (c : tie.Then4 Inv-loop μ-loop) → Leads (c .before .before .before .before .before .before .before .before .before .args .s .now) (c .before .before .before .before .before .before .loop .at)
+led c = run-leads _ _ (sym (c .before .is-run .ensures) ∙ c .if4 .taken)
+
+-- or one character
+turned : (c : tie.After-c Inv-loop μ-loop) → Turn (c .before .before .before .before .before .before .before .before .before .before .args .s .now) (c .before .before .before .before .before .before .before .loop .at) (c .c .given .0 .0) (c .c .given .0 .1 .0)
+turned c = turn _ _ (c .before .before .before .before .before .before .loop-test .taken) (sym (c .before .before .known-char .ensures) ∙ c .c .given .1)
 
 loop-holds : tie.Need-loop-holds Inv-loop μ-loop
 loop-holds c = (omega arith, omega arith, c .before .before .pre .0, partly-none _ _)
 
-known-char-requires : tie.Need-known-char-requires Inv-loop μ-loop
-known-char-requires c κs = (omega arith, c .before .loop .inv .2)
+shared-slice-read-a : tie.Need-shared-slice-read-a Inv-loop μ-loop
+shared-slice-read-a c = omega arith
 
-enum-known-c : tie.Need-enum-known-c Inv-loop μ-loop
-enum-known-c c = search needs
+starts-eight-requires : tie.Need-starts-eight-requires Inv-loop μ-loop
+starts-eight-requires c κs = omega arith
 
-sub-put-units : tie.Need-sub-put-units Inv-loop μ-loop
-sub-put-units c = omega (arith, c .before .before .before .before .before .loop .inv .3 .wrote .fits)
+sub-put-eight : tie.Need-sub-put-eight Inv-loop μ-loop
+sub-put-eight c = omega (arith, c .before .before .before .before .before .loop .inv .3 .wrote .fits)
 
-part-put-units-start : tie.Need-part-put-units-start Inv-loop μ-loop
-part-put-units-start c = omega (arith, c .before .before .before .before .before .loop .inv .3 .wrote .fits)
+part-put-eight-start : tie.Need-part-put-eight-start Inv-loop μ-loop
+part-put-eight-start c = omega (arith, c .before .before .before .before .before .loop .inv .3 .wrote .fits)
 
-part-put-units-end : tie.Need-part-put-units-end Inv-loop μ-loop
-part-put-units-end c = omega (arith, c .before .before .before .before .before .loop .inv .3 .wrote .fits)
+part-put-eight-end : tie.Need-part-put-eight-end Inv-loop μ-loop
+part-put-eight-end c = omega (arith, c .before .before .before .before .before .loop .inv .3 .wrote .fits)
 
-put-units-requires : tie.Need-put-units-requires Inv-loop μ-loop
-put-units-requires c κs =
+put-eight-requires : tie.Need-put-eight-requires Inv-loop μ-loop
+put-eight-requires c κs =
     let i = c .before .before .before .before .before .before .loop .inv in
-    let t = turned (c .before .before) in
-    (t .small, utf16le-room t (i .2) (i .3) (c .before .before .before .before .before .before .before .before .before .pre .1))
+    let l = seen (c .before) in
+    (l .0, eight-room _ _ (i .2) l (i .3) (c .before .before .before .before .before .before .before .before .before .pre .1))
 
 add-n : tie.Need-add-n Inv-loop μ-loop
 add-n c =
     let i = c .before .before .before .before .before .before .before .before .before .loop .inv in
-    omega (arith, partly-next (i .3) _ _ (utf16le-next (turned (c .before .before .before .before .before)) (i .2)) (c .before .before .put-units .ensures) .wrote .fits)
+    omega (arith, partly-next (i .3) _ _ (eight-next _ _ (i .2) (seen (c .before .before .before .before))) (c .before .before .put-eight .ensures) .wrote .fits)
 
 add-at : tie.Need-add-at Inv-loop μ-loop
-add-at c = let t = turned (c .before .before .before .before .before) in omega arith
+add-at c = let l = seen (c .before .before .before .before) in omega arith
 
 loop-less : tie.Need-loop-less Inv-loop μ-loop
-loop-less c = let t = turned (c .before .before .before .before .before) in omega arith
+loop-less c = let l = seen (c .before .before .before .before) in omega arith
 
 loop-again : tie.Need-loop-again Inv-loop μ-loop
 loop-again c =
     let i = c .before .before .before .before .before .before .before .before .before .loop .inv in
+    let l = seen (c .before .before .before .before) in
+    let p = partly-next (i .3) _ _ (eight-next _ _ (i .2) l) (c .before .before .put-eight .ensures) in
+    (l .0, wrote-length (p .wrote), eight-well _ _ (i .2) l, p)
+
+is-run-requires : tie.Need-is-run-requires Inv-loop μ-loop
+is-run-requires c κs = omega arith
+
+sub-put-run : tie.Need-sub-put-run Inv-loop μ-loop
+sub-put-run c = omega (arith, c .before .before .before .before .before .before .loop .inv .3 .wrote .fits)
+
+part-put-run-start : tie.Need-part-put-run-start Inv-loop μ-loop
+part-put-run-start c = omega (arith, c .before .before .before .before .before .before .loop .inv .3 .wrote .fits)
+
+part-put-run-end : tie.Need-part-put-run-end Inv-loop μ-loop
+part-put-run-end c = omega (arith, c .before .before .before .before .before .before .loop .inv .3 .wrote .fits)
+
+put-run-requires : tie.Need-put-run-requires Inv-loop μ-loop
+put-run-requires c κs =
+    let i = c .before .before .before .before .before .before .before .loop .inv in
+    (i .2, sym (c .before .before .is-run .ensures) ∙ c .before .if4 .taken, run-room _ _ (i .2) (led (c .before)) (i .3) (c .before .before .before .before .before .before .before .before .before .before .pre .1))
+
+add-n-2 : tie.Need-add-n-2 Inv-loop μ-loop
+add-n-2 c =
+    let i = c .before .before .before .before .before .before .before .before .before .before .loop .inv in
+    omega (arith, partly-next (i .3) _ _ (run-next _ _ (i .2) (led (c .before .before .before .before))) (c .before .before .put-run .ensures) .wrote .fits)
+
+add-at-2 : tie.Need-add-at-2 Inv-loop μ-loop
+add-at-2 c = let l = led (c .before .before .before .before) in omega arith
+
+loop-less-2 : tie.Need-loop-less-2 Inv-loop μ-loop
+loop-less-2 c = let l = led (c .before .before .before .before) in omega arith
+
+loop-again-2 : tie.Need-loop-again-2 Inv-loop μ-loop
+loop-again-2 c =
+    let i = c .before .before .before .before .before .before .before .before .before .before .loop .inv in
+    let l = led (c .before .before .before .before) in
+    let p = partly-next (i .3) _ _ (run-next _ _ (i .2) l) (c .before .before .put-run .ensures) in
+    (l .there, wrote-length (p .wrote), run-well _ _ (i .2) l, p)
+
+known-char-requires : tie.Need-known-char-requires Inv-loop μ-loop
+known-char-requires c κs = (omega arith, c .before .before .before .before .loop .inv .2)
+
+sub-put-units : tie.Need-sub-put-units Inv-loop μ-loop
+sub-put-units c = omega (arith, c .before .before .before .before .before .before .before .before .loop .inv .3 .wrote .fits)
+
+part-put-units-start : tie.Need-part-put-units-start Inv-loop μ-loop
+part-put-units-start c = omega (arith, c .before .before .before .before .before .before .before .before .loop .inv .3 .wrote .fits)
+
+part-put-units-end : tie.Need-part-put-units-end Inv-loop μ-loop
+part-put-units-end c = omega (arith, c .before .before .before .before .before .before .before .before .loop .inv .3 .wrote .fits)
+
+put-units-requires : tie.Need-put-units-requires Inv-loop μ-loop
+put-units-requires c κs =
+    let i = c .before .before .before .before .before .before .before .before .before .loop .inv in
+    let t = turned (c .before .before) in
+    (t .small, utf16le-room t (i .2) (i .3) (c .before .before .before .before .before .before .before .before .before .before .before .before .pre .1))
+
+add-n-3 : tie.Need-add-n-3 Inv-loop μ-loop
+add-n-3 c =
+    let i = c .before .before .before .before .before .before .before .before .before .before .before .before .loop .inv in
+    omega (arith, partly-next (i .3) _ _ (utf16le-next (turned (c .before .before .before .before .before)) (i .2)) (c .before .before .put-units .ensures) .wrote .fits)
+
+add-at-3 : tie.Need-add-at-3 Inv-loop μ-loop
+add-at-3 c = let t = turned (c .before .before .before .before .before) in omega arith
+
+loop-less-3 : tie.Need-loop-less-3 Inv-loop μ-loop
+loop-less-3 c = let t = turned (c .before .before .before .before .before) in omega arith
+
+loop-again-3 : tie.Need-loop-again-3 Inv-loop μ-loop
+loop-again-3 c =
+    let i = c .before .before .before .before .before .before .before .before .before .before .before .before .loop .inv in
     let t = turned (c .before .before .before .before .before) in
     let p = partly-next (i .3) _ _ (utf16le-next t (i .2)) (c .before .before .put-units .ensures) in
     (t .within, wrote-length (p .wrote), sym (well-next t) ∙ i .2, p)
-
-enum-told : tie.Need-enum-told Inv-loop μ-loop
-enum-told c = search needs
 
 same-length : tie.Need-same-length Inv-loop μ-loop
 same-length c = omega arith
 
 returns : tie.Need-returns Inv-loop μ-loop
-returns c =
-    let l = c .before .before .before .before in
-    absurd (turn-well _ _ (c .before .before .before .loop-test .taken) (l .loop .inv .2) (sym (c .before .before .known-char .ensures) ∙ c .enum-told .given .1))
+returns c = absurd (turn-well _ _ (c .before .before .before .before .before .before .loop-test .taken) (c .before .before .before .before .before .before .before .loop .inv .2) (sym (c .before .before .known-char .ensures) ∙ c .enum-told .given .1))
 
 same-length-2 : tie.Need-same-length-2 Inv-loop μ-loop
 same-length-2 c = omega arith
@@ -94,17 +171,36 @@ put-utf16le-spec =
     Inv-loop
     μ-loop
     loop-holds
-    known-char-requires
-    enum-known-c
-    sub-put-units
-    part-put-units-start
-    part-put-units-end
-    put-units-requires
+    shared-slice-read-a
+    starts-eight-requires
+    sub-put-eight
+    part-put-eight-start
+    part-put-eight-end
+    put-eight-requires
     add-n
     add-at
     loop-less
     loop-again
-    enum-told
+    is-run-requires
+    sub-put-run
+    part-put-run-start
+    part-put-run-end
+    put-run-requires
+    add-n-2
+    add-at-2
+    loop-less-2
+    loop-again-2
+    known-char-requires
+    (λ c. search needs)
+    sub-put-units
+    part-put-units-start
+    part-put-units-end
+    put-units-requires
+    add-n-3
+    add-at-3
+    loop-less-3
+    loop-again-3
+    (λ c. search needs)
     same-length
     returns
     same-length-2
