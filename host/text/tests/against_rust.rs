@@ -127,6 +127,22 @@ fn names() {
     assert!(texts > 50_000 && ill > 100 && pairs > 1_000);
 }
 
+/// Names of every length up to 40 units with numbers of every count of digits: where the hash goes another way, one of them is.
+#[test]
+fn short_names() {
+    let mut r = Random(3);
+    let powers = (0..10).flat_map(|digits| [10u32.pow(digits), 10u32.pow(digits) + 1]);
+    let numbers: Vec<u32> = [0, u32::MAX].into_iter().chain(powers).collect();
+    for units in 0..=40 {
+        for &number in &numbers {
+            for wide in [false, true] {
+                let p = part(&mut r, units, wide);
+                assert!(same(&p, wide, number), "{p:?}");
+            }
+        }
+    }
+}
+
 /// Every way in which two units can be surrogates or not, alone, at the start, and at the end.
 #[test]
 fn surrogates() {

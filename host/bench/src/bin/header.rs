@@ -17,7 +17,7 @@ const MEGABYTES: [usize; 3] = [1, 10, 100];
 /// A description whose header has about so many bytes.
 type Maker = fn(usize) -> Description;
 
-const KINDS: [(&str, Maker); 9] = [
+const KINDS: [(&str, Maker); 13] = [
     ("short ASCII names", |n| names("NiagaraEffect_", SHORT, n)),
     ("long ASCII names", |n| names("NiagaraEffect_", LONG, n)),
     ("short names with accents", |n| {
@@ -29,6 +29,16 @@ const KINDS: [(&str, Maker); 9] = [
     ("short wide names", |n| names("音声テスト", SHORT, n)),
     ("long wide names", |n| names("音声テスト", LONG, n)),
     ("long names of surrogate pairs", |n| names("🎯🎧", LONG, n)),
+    ("short Cyrillic names", |n| {
+        names("Звук_колокола_", SHORT, n)
+    }),
+    ("long Cyrillic names", |n| names("Звук_колокола_", LONG, n)),
+    ("short mixed names", |n| {
+        names("音声テスト_01_Niagara_", SHORT, n)
+    }),
+    ("long mixed names", |n| {
+        names("音声テスト_01_Niagara_", LONG, n)
+    }),
     ("exports", exports),
     ("imported names", |n| {
         let described = names("/Game/Audio_", SHORT, n - n / 5);

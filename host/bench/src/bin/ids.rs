@@ -8,7 +8,7 @@ use corpus::Text;
 use oracle::cityhash::hash_package_name;
 
 /// Lengths of names in units of their width; a surrogate pair is two.
-const LENGTHS: [usize; 5] = [8, 16, 32, 64, 200];
+const LENGTHS: [usize; 9] = [2, 4, 7, 8, 12, 16, 32, 64, 200];
 
 const ROUNDS: usize = 15;
 
@@ -16,7 +16,7 @@ const ROUNDS: usize = 15;
 type Maker = fn(usize) -> Text;
 
 /// What is timed; each is compared with the first, and with the first that is stored as it is.
-const KINDS: [(&str, Maker); 11] = [
+const KINDS: [(&str, Maker); 12] = [
     ("ASCII", |n| Text::of(&repeated("NiagaraEffect_", n))),
     ("ASCII, wide", |n| {
         Text::wide(&repeated("NiagaraEffect_", n))
@@ -39,6 +39,9 @@ const KINDS: [(&str, Maker); 11] = [
     ("wide, Cyrillic", |n| Text::wide(&repeated("ЗвукТест", n))),
     ("wide, Greek capitals", |n| {
         Text::wide(&repeated("ΑΒΓΔΕΣΩ", n))
+    }),
+    ("wide, Greek with accents", |n| {
+        Text::wide(&repeated("ΉχοςΆσμαΌργανο", n))
     }),
     ("wide, no letter has a capital", |n| {
         Text::wide(&repeated("音声테스트", n))
