@@ -1,6 +1,6 @@
 -- The texts of script objects, kept once between the classes and the rows of a resolved work buffer: 64 bytes are there for each row, and a row takes
 -- 32 of them. Row numbers stand first, by which an object that came before is found again, then texts, each with its length in front. A row keeps
--- where the text of its object stands (20), and its size (24), 0 where it isn't kept. Assumes nothing.
+-- where the text of its object stands (20), and its size (24), 0 where it isn't kept; its mark (28) stays. Assumes nothing.
 use mathlib.Core.Path.{_≡_}
 use mathlib.Core.Bool.{Bool, _&&_}
 use mathlib.Core.List.{List}
@@ -51,6 +51,7 @@ pub record TextIn (b : List ℕ) (n objects lo hi : ℕ) (w : List ℕ) (l : Led
 pub record Left (gap rows : ℕ) (w w′ : List ℕ) : Type 0 where
   pub kept : Kept gap (length w) w w′
   pub columns : (r : ℕ) → r < rows → mid (rowAt w r) 20 w′ ≡ mid (rowAt w r) 20 w
+  pub marks : (r : ℕ) → r < rows → mid (rowAt w r + 28) 4 w′ ≡ mid (rowAt w r + 28) 4 w
 
 -- the first k rows keep texts between lo and hi
 pub record Done (b : List ℕ) (n objects lo hi k : ℕ) (w : List ℕ) : Type 0 where

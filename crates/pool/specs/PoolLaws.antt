@@ -10,7 +10,7 @@ use native.Mathlib.Omega.{arith}
 use borrow.Author.Tests.{eqb-true}
 use lib.ListN.{length, take, drop, getD, length-drop}
 use Rattle.base.specs.Number.{leAt}
-use Rattle.base.specs.NumberLaws.{leAt-drop, leAt-part}
+use Rattle.base.specs.NumberLaws.{leAt-drop, leAt-part, leAt-same}
 use Rattle.scriptblock.specs.Script.{Objects}
 use Rattle.meaning.specs.Reference.{Ref, null}
 use Rattle.meaning.specs.Scan.{Class}
@@ -24,6 +24,8 @@ use Rattle.objects.specs.Work.{Stands}
 use Rattle.objects.specs.declared.object.Object.{Object}
 use Rattle.resolve.specs.ClassesLaws.{classes-kept}
 use Rattle.resolve.specs.Lent.{lent-rest}
+use Rattle.resolve.specs.MarkLaws.{row-behind, marks-whole}
+use Rattle.resolve.specs.Marks.{MarksKept}
 use Rattle.resolve.specs.ResolvingLaws.{kept-drop}
 use Rattle.resolve.specs.Rows.{rowAt, ledAt, columnsOf, objectNumber, Tables, TargetIn, TargetsIn, Resolved}
 use Rattle.resolve.specs.RowsLaws.{object-inside}
@@ -65,12 +67,14 @@ done-wider lo′ hi′ g h t = record { texts = λ r l. record { kept = λ ne. t
 module _ {b : List ℕ} {n objects gap rows lo hi k : ℕ} {v w : List ℕ} (t : State b n objects gap rows lo hi k v w) where
   -- nothing of the first k rows, nor of their texts
   pub state-kept : {w′ : List ℕ} {x y : ℕ} → Kept x y w w′ → 48 * n ≤ gap → gap ≤ x → y ≤ length w
-      → ((r : ℕ) → r < rows → (rowAt w r + 20 ≤ x) ⊎ (y ≤ rowAt w r)) → ((r : ℕ) → r < k → (rowAt w r + 28 ≤ x) ⊎ (y ≤ rowAt w r)) → (hi ≤ x) ⊎ (y ≤ lo)
+      → ((r : ℕ) → r < rows → (rowAt w r + 20 ≤ x) ⊎ (y ≤ rowAt w r)) → ((r : ℕ) → r < rows → (rowAt w r + 28 + 4 ≤ x) ⊎ (y ≤ rowAt w r + 28))
+      → ((r : ℕ) → r < k → (rowAt w r + 28 ≤ x) ⊎ (y ≤ rowAt w r)) → (hi ≤ x) ⊎ (y ≤ lo)
       → State b n objects gap rows lo hi k v w′
-  state-kept {w′} {x} {y} c front start stop rest done apart = record {
+  state-kept {w′} {x} {y} c front start stop rest marked done apart = record {
     left = record {
       kept = kept-then (t .left .kept) (kept-wider c gap (length v) start (omega (arith, t .left .kept .size)));
       columns = λ r h. kept-part c (rowAt v r) 20 (rw (t .left .kept .size) at (rest r h)) ∙ t .left .columns r h;
+      marks = λ r h. kept-part c (rowAt v r + 28) 4 (rw (t .left .kept .size) at (marked r h)) ∙ t .left .marks r h;
     };
     done = record { texts = λ r h. rw (c .size) (row r h) };
   }
@@ -125,8 +129,14 @@ module _ {b : List ℕ} {n objects gap rows lo hi r : ℕ} {v w w′ : List ℕ}
       (λ (g : i < r). inr (omega arith))
       (λ (g : ¬ (i < r)). inl (omega arith))
 
+  marked : (i : ℕ) → i < rows → (rowAt w i + 28 + 4 ≤ rowAt w r + 20) ⊎ (rowAt w r + 28 ≤ rowAt w i + 28)
+  marked i h =
+      by-cases (decLt r i)
+      (λ (g : r < i). inl (omega arith))
+      (λ (g : ¬ (r < i)). inr (omega arith))
+
   base : State b n objects gap rows lo hi r v w′
-  base = state-kept t change front (omega arith) (omega arith) others (λ i h. inr (omega arith)) (inl (omega arith))
+  base = state-kept t change front (omega arith) (omega arith) others marked (λ i h. inr (omega arith)) (inl (omega arith))
 
   mine : TextIn b n objects lo hi w′ (ledAt w′ (rowAt w r))
   mine =
@@ -153,22 +163,17 @@ module _ {b : List ℕ} {n objects gap rows lo hi r : ℕ} {v w w′ : List ℕ}
 
 pub state-none : (b : List ℕ) (n objects gap rows lo : ℕ) (w : List ℕ) → State b n objects gap rows lo lo 0 w w
 state-none b n objects gap rows lo w = record {
-  left = record { kept = kept-none gap (length w) w; columns = λ r h. refl };
+  left = record { kept = kept-none gap (length w) w; columns = λ r h. refl; marks = λ r h. refl };
   done = record { texts = λ r h. absurd (omega arith) };
 }
 
 -- a row, seen from behind the objects
 module _ (a r : ℕ) (w : List ℕ) (room : a + 32 * (r + 1) ≤ length w) where
-  behind-read : (c : ℕ) → leAt 4 (drop a w) (rowAt (drop a w) r + c) ≡ leAt 4 w (rowAt w r + c)
-  behind-read c =
-      let z : a + (rowAt (drop a w) r + c) ≡ rowAt w r + c = omega (arith, length-drop a w) in
-      leAt-drop 4 a w (rowAt (drop a w) r + c) ∙ ap (leAt 4 w) z
-
   behind-first : leAt 4 (drop a w) (rowAt (drop a w) r) ≡ leAt 4 w (rowAt w r)
   behind-first = let z : a + rowAt (drop a w) r ≡ rowAt w r = omega (arith, length-drop a w) in leAt-drop 4 a w (rowAt (drop a w) r) ∙ ap (leAt 4 w) z
 
   pub led-behind : ledAt (drop a w) (rowAt (drop a w) r) ≡ ledAt w (rowAt w r)
-  led-behind = rw (behind-first, behind-read 4, behind-read 8, behind-read 12, behind-read 16, behind-read 20, behind-read 24)
+  led-behind = let f = row-behind a r w room in rw (behind-first, f 4, f 8, f 12, f 16, f 20, f 24)
 
 -- a row of a resolved buffer leads to no object or to one of the block
 row-stood : {c b : List ℕ} {o : Objects} {n : ℕ} {xs : List Class} {lookups : ℕ} {refs : List Ref} {w : List ℕ} → Resolved c b o n xs lookups refs w
@@ -211,8 +216,8 @@ module _ {c b : List ℕ} {o : Objects} {n : ℕ} {xs : List Class} {lookups : �
         let a = t .targets .targets r h in
         let f = part-read w w′ 20 (rowAt w r) (l .columns r (omega arith)) in
         let e : rowAt w′ r ≡ rowAt w r = rw (l .kept .size) in
-        let old = behind-read (48 * n) r w (omega arith) in
-        let new = behind-read (48 * n) r w′ (omega (arith, l .kept .size)) in
+        let old = row-behind (48 * n) r w (omega arith) in
+        let new = row-behind (48 * n) r w′ (omega (arith, l .kept .size)) in
         let g : (c : ℕ) → c + 4 ≤ 20 → leAt 4 (drop (48 * n) w′) (rowAt (drop (48 * n) w′) r + c) ≡ leAt 4 (drop (48 * n) w) (rowAt (drop (48 * n) w) r + c) =
         λ c h. new c ∙ rw e (f c h) ∙ sym (old c) in
         record {
@@ -267,6 +272,12 @@ shared {b} {n} {objects} {gap} {rows} {lo} {hi} {r} {v} {w} t {u} {m} {k} p q e 
     (subst (λ (y : Led). TextAt b n objects lo hi w (ledAt w (rowAt w k) .object) (y .text) (y .size)) (sym q)
     (t .done .texts k h .kept (λ z. ne (ap (λ (y : Led). y .size) q ∙ z))))
 
+-- ---- marks stay
+
+pub left-marks : (n : ℕ) {gap rows : ℕ} {w w′ : List ℕ} → Left gap rows w w′ → 48 * n + 32 * rows ≤ length w → MarksKept n rows w w′
+left-marks n {gap} {rows} {w} {w′} l room =
+    marks-whole n rows w w′ room (l .kept .size) (λ r h. leAt-same 4 w′ w (rowAt w r + 28) (rowAt w r + 28) (l .marks r h))
+
 -- ---- slots set to 0
 
 pub slots-cleared : (gap rows slots : ℕ) (w : List ℕ) {p : List ℕ} → slots ≤ rows → gap + 64 * rows ≤ length w → p ≡ cleared slots (mid gap (length w - gap) w)
@@ -275,7 +286,11 @@ slots-cleared gap rows slots w {p} few room e =
     let m : length (mid gap (length w - gap) w) ≡ length w - gap = mid-length gap (length w - gap) w (omega arith) in
     let c : Kept 0 (4 * slots) (mid gap (length w - gap) w) p = rw e (cleared-kept slots (mid gap (length w - gap) w) (omega arith)) in
     let k = put-inner gap (length w - gap) w c (omega arith) (omega arith) (omega arith) in
-    record { kept = kept-wider k gap (length w) (omega arith) (omega arith); columns = λ r h. kept-part k (rowAt w r) 20 (inr (omega arith)) }
+    record {
+      kept = kept-wider k gap (length w) (omega arith) (omega arith);
+      columns = λ r h. kept-part k (rowAt w r) 20 (inr (omega arith));
+      marks = λ r h. kept-part k (rowAt w r + 28) 4 (inr (omega arith));
+    }
 
 -- ---- a text more
 
@@ -308,14 +323,15 @@ module _ {b : List ℕ} {n objects gap rows lo free r : ℕ} {v w w₁ w₂ w₃
     (at-u : u ≡ ledAt w (rowAt w r) .object) (some : u .outer ≡ 0 → ⊥) (front : 48 * n ≤ gap) (low : gap ≤ slot) (high : slot + 4 ≤ lo) (start : lo ≤ free)
     (room : free + 32 * rows ≤ length w) (inside : r < rows) where
   first-step : State b n objects gap rows lo free r v w₁
-  first-step = state-kept t one front low (omega arith) (λ i h. inr (omega arith)) (λ i h. inr (omega arith)) (inr high)
+  first-step = state-kept t one front low (omega arith) (λ i h. inr (omega arith)) (λ i h. inr (omega arith)) (λ i h. inr (omega arith)) (inr high)
 
   second-step : State b n objects gap rows lo (free + size) r v w₂
   second-step =
       let s = one .size in
       let y = two .within in
       state-wider
-      (state-kept first-step (two .kept) front (omega arith) (omega arith) (λ i h. inr (omega arith)) (λ i h. inr (omega arith)) (inl (omega arith)))
+      (state-kept first-step (two .kept) front (omega arith) (omega arith) (λ i h. inr (omega arith)) (λ i h. inr (omega arith)) (λ i h. inr (omega arith))
+      (inl (omega arith)))
       (free + size) (omega arith)
 
   object-still : ledAt w₂ (rowAt w₂ r) .object ≡ u

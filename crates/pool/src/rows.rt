@@ -6,6 +6,7 @@ ghost use lib.ListN.{length, take};
 ghost use Rattle.scriptblock.specs.Script.{Objects};
 ghost use Rattle.meaning.specs.Reference.{Ref};
 ghost use Rattle.meaning.specs.Scan.{Class};
+ghost use Rattle.resolve.specs.Marks.{MarksKept};
 ghost use Rattle.resolve.specs.Rows.{rowAt, ledAt, Resolved};
 ghost use Rattle.pool.specs.Pool.{Stood, Left, State, sameColumns, Before, noted, TextPut, Gap, RowStood, Roomy, Pooled};
 use super::compose::compose;
@@ -138,8 +139,9 @@ fn clear_slots(w: &mut [u8], n: usize, classes: usize, rows: usize)
 // The rows, one after the other, with slots that are set to 0 before.
 fn pool_rows(s: &[u8], w: &mut [u8], n: usize, classes: usize, rows: usize, objects: usize)
     requires { ⌜ Roomy (now s) n classes rows (now w) × (objects ≤ 65) ⌝ }
-    ensures { λ _. ⌜ ((c : List ℕ) (o : Objects) (xs : List Class) (lookups : ℕ) (refs : List Ref) → Resolved c (now (s .entry)) o n xs lookups refs (now (w .entry))
+    ensures is { λ _. ⌜ ((c : List ℕ) (o : Objects) (xs : List Class) (lookups : ℕ) (refs : List Ref) → Resolved c (now (s .entry)) o n xs lookups refs (now (w .entry))
         → length xs ≡ classes → length refs ≡ rows → Pooled c (now (s .entry)) o n xs lookups objects refs (now (w .exit))) ⌝ }
+    ensures marks { λ _. ⌜ MarksKept n rows (now (w .entry)) (now (w .exit)) ⌝ }
 {
     if rows == 0 {
         return;
@@ -158,8 +160,9 @@ fn pool_rows(s: &[u8], w: &mut [u8], n: usize, classes: usize, rows: usize, obje
 // gap has room for it.
 pub fn pool_texts(s: &[u8], w: &mut [u8], n: usize, classes: usize, rows: usize, objects: usize)
     requires { ⌜ Roomy (now s) n classes rows (now w) × (objects ≤ 65) ⌝ }
-    ensures { λ _. ⌜ ((c : List ℕ) (o : Objects) (xs : List Class) (lookups : ℕ) (refs : List Ref) → Resolved c (now (s .entry)) o n xs lookups refs (now (w .entry))
+    ensures is { λ _. ⌜ ((c : List ℕ) (o : Objects) (xs : List Class) (lookups : ℕ) (refs : List Ref) → Resolved c (now (s .entry)) o n xs lookups refs (now (w .entry))
         → length xs ≡ classes → length refs ≡ rows → Pooled c (now (s .entry)) o n xs lookups objects refs (now (w .exit))) ⌝ }
+    ensures marks { λ _. ⌜ MarksKept n rows (now (w .entry)) (now (w .exit)) ⌝ }
 {
     clear_slots(w, n, classes, rows);
     pool_rows(s, w, n, classes, rows, objects);

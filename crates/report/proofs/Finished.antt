@@ -1,9 +1,9 @@
 -- 26 and the report, from all that was gathered, linked and resolved. Assumes nothing.
 use mathlib.Core.Path.{_≡_, sym, _∙_, ap}
 use mathlib.Core.List.{List, []}
-use Prim.Native.Nat.{ℕ, _+_, _≤_, _<_}
+use Prim.Native.Nat.{ℕ, _+_, _*_, _≤_, _<_}
 use native.Mathlib.Omega.{arith}
-use lib.ListN.{length, length-map}
+use lib.ListN.{length, drop, length-map}
 use Rattle.base.specs.Answer.{refusal}
 use Rattle.base.specs.Output.{Wrote}
 use Rattle.scriptblock.specs.Script.{Objects}
@@ -18,7 +18,10 @@ use Rattle.report.specs.CallSteps.{workNeeded, Gathered, Answered}
 use Rattle.report.specs.CallLaws.{answer-beyond, answer-outside, answer-fits, refused-by, answered-refused, answered-report}
 use Rattle.walk.specs.Found.{classesIn}
 use Rattle.walk.specs.FoundLaws.{found-size, found-once}
-use Rattle.resolve.specs.Rows.{Kept, SomeClasses, SomeKept, Resolved, Resolution, limitsOf}
+use Rattle.resolve.specs.LinkLaws.{linked-marks}
+use Rattle.resolve.specs.MarkLaws.{marks-kept}
+use Rattle.resolve.specs.Marks.{marksIn, MarksIn, MarksKept}
+use Rattle.resolve.specs.Rows.{Tables, Kept, SomeClasses, SomeKept, LinkedTo, Resolved, Resolution, limitsOf}
 use Rattle.pool.specs.Pool.{Roomy, Pooled}
 use Rattle.sections.specs.Written.{reportAt, Ready, ReportRoom}
 use Rattle.walk.specs.declared.walk.Census.{Census}
@@ -66,6 +69,18 @@ module _ {limit : ℕ} {c : List ℕ} {f : Frame} {s : List ℕ} {n : ℕ} {t : 
 
     pub gathered-kept : SomeKept n (t .rows) v
     gathered-kept = record { corpus = c; block = s; objects = g .objects; classes = classes; refs = refs; count = rows-are; holds = linked }
+
+  -- linking leaves the rows' marks
+  pub gathered-linked : {v : List ℕ} → ((s b : List ℕ) (o : Objects) (xs : List Class) → Tables s b o n xs w → t .classes ≤ length xs → LinkedTo n xs (t .classes) w v)
+      → length v ≡ length w → MarksKept n (t .rows) w v
+  gathered-linked l e =
+      let i : t .classes ≤ length classes = omega (arith, classes-are) in
+      linked-marks kept rows-are i (l c s (g .objects) classes (kept .tables) i) e
+
+  -- and where all that follows does, they are what the walk found
+  pub gathered-marks : {v : List ℕ} → MarksKept n (t .rows) w v
+      → MarksIn (marksIn c (f .«end» + 4) (f .count)) (drop (48 * n) v) × (length (marksIn c (f .«end» + 4) (f .count)) ≡ t .rows)
+  gathered-marks k = let e = g .marked .count (g .all) in (marks-kept n (rw e k) (g .marked .holds (g .all)), e)
 
   -- no key stands twice, and the work buffer is long enough
   once : noneTwice (firstRepeat [] (foundBy limit (g .objects) c f .placed)) ≡ accepted tt

@@ -16,6 +16,8 @@ use Rattle.walk.specs.OpenLaws.{opened-package, opened-twice}
 use Rattle.report.specs.CallSteps.{workNeeded, Gathered, Refused, Answered}
 use Rattle.report.specs.CallLaws.{refused-opened, answered-refused}
 use Rattle.walk.specs.Found.{Linked, State}
+use Rattle.walk.specs.Steps.{Marked}
+use Rattle.resolve.specs.Marks.{marksIn}
 use Rattle.resolve.specs.Rows.{limitsOf}
 use Rattle.walk.specs.declared.walk.Census.{Census}
 
@@ -32,6 +34,7 @@ pub record Walked (limit : ℕ) (c : List ℕ) (f : Frame) (s : List ℕ) (n : �
   pub state : State c s (linked .objects) n (foundBy limit (linked .objects) c f) t w′
   pub size : length w′ ≡ length w
   pub few : (t .rows < 2 ^ 32) × (t .size < 2 ^ 60)
+  pub marked : Marked n (marksIn c (f .«end» + 4) (f .count)) t w′
 
 module _ {limit : ℕ} {c : List ℕ} {f : Frame} {s : List ℕ} {n : ℕ} {t : Census} {w w′ : List ℕ} (z : Walked limit c f s n t w w′) where
   read : run script 0 s ≡ gives (z .linked .objects)
@@ -53,4 +56,4 @@ module _ {limit : ℕ} {c : List ℕ} {f : Frame} {s : List ℕ} {n : ℕ} {t : 
 
   -- all is gathered
   pub scanned-all : t .open ≡ true → Gathered limit c f s n t w′
-  scanned-all e = record { objects = z .linked .objects; read = read; count = z .linked .count; all = e; state = z .state; few = z .few }
+  scanned-all e = record { objects = z .linked .objects; read = read; count = z .linked .count; all = e; state = z .state; few = z .few; marked = z .marked }

@@ -12,7 +12,9 @@ use Rattle.meaning.specs.Resolve.{Limits}
 use Rattle.packages.specs.declared.frame.Frame.{Frame}
 use Rattle.walk.specs.Found.{countOf, State}
 use Rattle.walk.specs.OpenSteps.{foundBy}
+use Rattle.walk.specs.Steps.{Marked}
 use Rattle.walk.specs.declared.walk.Census.{Census}
+use Rattle.resolve.specs.Marks.{marksIn}
 
 -- "64 × (script objects + classes + candidates) bytes"
 abbrev pub workNeeded : ℕ → Objects → List ℕ → Frame → ℕ
@@ -26,6 +28,7 @@ pub record Gathered (limit : ℕ) (c : List ℕ) (f : Frame) (s : List ℕ) (n :
   pub all : t .open ≡ true
   pub state : State c s objects n (foundBy limit objects c f) t w
   pub few : (t .rows < 2 ^ 32) × (t .size < 2 ^ 60)
+  pub marked : Marked n (marksIn c (f .«end» + 4) (f .count)) t w
 
 -- r says what the call refuses
 pub record Refused (m : Limits) (c : List ℕ) (work room r : ℕ) : Type 0 where

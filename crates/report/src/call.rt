@@ -104,6 +104,7 @@ fn finish(
         s,
         w,
         n,
+        t.rows,
         objects,
         names,
         imported,

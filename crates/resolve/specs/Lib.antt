@@ -4,6 +4,7 @@
 pub mod Classes
 pub mod Rows
 pub mod Resolving
+pub mod Marks
 -- ==== Laws
 -- parts of a buffer, lent and filled
 pub mod Lent
@@ -17,3 +18,5 @@ pub mod ChainLaws
 pub mod RowsLaws
 pub mod ResolvingLaws
 pub mod LinkLaws
+-- marks
+pub mod MarkLaws

@@ -22,8 +22,10 @@ use Rattle.resolve.specs.Classes.{classNo, SuperIn, link}
 use Rattle.resolve.specs.ClassesLaws.{seek-inside, seek-key, class-same, super-same}
 use Rattle.resolve.specs.ChainLaws.{keeps-key, keeps-look, keeps-link, keeps-none, class-room, super-keeps, seek-le}
 use Rattle.resolve.specs.Stores.{Cell, stores, stores-kept, stores-read}
-use Rattle.resolve.specs.Rows.{classNumber, Keeps, Tables, Kept as KeptRows, SomeTables, SomeClasses, superAt, ClassLinked, LinkedTo, SuperOnly}
+use Rattle.resolve.specs.Rows.{classNumber, rowAt, Keeps, Tables, Kept as KeptRows, SomeTables, SomeClasses, superAt, ClassLinked, LinkedTo, SuperOnly}
 use Rattle.resolve.specs.ResolvingLaws.{kept-drop, words-same}
+use Rattle.resolve.specs.Marks.{MarksKept}
+use Rattle.resolve.specs.MarkLaws.{marks-whole}
 
 -- tables with no row
 pub tables-kept : {s b : List ℕ} {o : Objects} {n : ℕ} {xs : List Class} {w : List ℕ} → Tables s b o n xs w → KeptRows s b o n xs [] w
@@ -229,3 +231,11 @@ module _ {n : ℕ} {xs : List Class} {k : ℕ} {u v w : List ℕ} (t : LinkedTo 
       go : (i : ℕ) → i < k + 1 → Dec (k ≡ i) → ClassLinked n xs i u w
       go i h (yes z) = rw (← z) new
       go i h (no z) = old i (omega arith)
+
+-- rows stand behind the classes, so their marks stay
+pub linked-marks : {s b : List ℕ} {o : Objects} {n rows : ℕ} {xs : List Class} {refs : List Ref} {k : ℕ} {w w′ : List ℕ} → KeptRows s b o n xs refs w
+    → length refs ≡ rows → k ≤ length xs → LinkedTo n xs k w w′ → length w′ ≡ length w → MarksKept n rows w w′
+linked-marks {n = n} {rows} {xs} {refs} {k} {w} {w′} t count h l size =
+    let d = length-drop (48 * n) w in
+    marks-whole n rows w w′ (omega (arith, t .apart, t .tables .room, d)) size
+    (λ r g. l .others (rowAt w r + 28) 4 (λ i u. inr (omega (arith, record-next (4 * n) 64 i (length xs) (omega arith), t .apart, t .tables .room, d))))

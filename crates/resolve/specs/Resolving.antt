@@ -44,8 +44,8 @@ pub record SomeRow (n r : ℕ) (w : List ℕ) : Type 0 where
   pub ref : Ref
   pub holds : RowIn corpus block objects n classes r ref w
 
--- it was resolved: only its own bytes are written, and its class and native class take `total` bytes
+-- it was resolved: only the first 20 of its bytes are written, and its class and native class take `total` bytes
 pub record RowResolved (m : Limits) (b : List ℕ) (o : Objects) (n : ℕ) (xs : List Class) (r : ℕ) (ref : Ref) (w w′ : List ℕ) (total : ℕ) : Type 0 where
-  pub change : Kept (rowAt w r) (rowAt w r + 32) w w′
+  pub change : Kept (rowAt w r) (rowAt w r + 20) w w′
   pub target : TargetIn b o xs (m .lookups) (drop (48 * n) w′) (rowAt (drop (48 * n) w′) r) ref
   pub size : total ≡ targetSize m xs o ref

@@ -134,7 +134,7 @@ module _ (at class : ℕ) (u : Object) where
       ∷ record { width = 4; from = 16; value = u .number }
       ∷ []
 
-  module _ (w : List ℕ) (room : at + 32 ≤ length w) where
+  module _ (w : List ℕ) (room : at + 20 ≤ length w) where
     first : at + 0 ≡ at
     first = omega arith
 
@@ -142,14 +142,14 @@ module _ (at class : ℕ) (u : Object) where
     unfolding stores targeted
     targeted-is = rw first
 
-    -- only the row's own bytes are written
-    pub targeted-kept : Kept at (at + 32) w (targeted at class u w)
-    targeted-kept = rw (targeted-is, first) at (stores-kept cells 0 32 at w (omega arith) room)
+    -- only the first of the row's bytes are written
+    pub targeted-kept : Kept at (at + 20) w (targeted at class u w)
+    targeted-kept = rw (targeted-is, first) at (stores-kept cells 0 20 at w (omega arith) room)
 
     -- and they read back
     column-back : (j : ℕ) → j < 5 → getD cells j noCell .value < 256 ^ getD cells j noCell .width
         → leAt (getD cells j noCell .width) (targeted at class u w) (at + getD cells j noCell .from) ≡ getD cells j noCell .value
-    column-back j h f = rw targeted-is at (stores-read cells 0 32 at w (omega arith) room j h f)
+    column-back j h f = rw targeted-is at (stores-read cells 0 20 at w (omega arith) room j h f)
 
     pub targeted-back : class < 2 ^ 32 → Small u → Back at class u (targeted at class u w)
     targeted-back h g = record {
@@ -191,32 +191,32 @@ module _ {s b : List ℕ} {o : Objects} {n : ℕ} {xs : List Class} {r : ℕ} {r
         read = t .read;
       }
 
-  module _ {w′ : List ℕ} (k : Kept (rowAt w r) (rowAt w r + 32) w w′) where
-    behind : Kept (rowAt (drop (48 * n) w) r) (rowAt (drop (48 * n) w) r + 32) (drop (48 * n) w) (drop (48 * n) w′)
+  module _ {w′ : List ℕ} (k : Kept (rowAt w r) (rowAt w r + 20) w w′) where
+    behind : Kept (rowAt (drop (48 * n) w) r) (rowAt (drop (48 * n) w) r + 20) (drop (48 * n) w) (drop (48 * n) w′)
     behind =
         let p : rowAt w r - 48 * n ≡ rowAt (drop (48 * n) w) r = omega (arith, row-place) in
-        let q : rowAt w r + 32 - 48 * n ≡ rowAt (drop (48 * n) w) r + 32 = omega (arith, row-place) in
+        let q : rowAt w r + 20 - 48 * n ≡ rowAt (drop (48 * n) w) r + 20 = omega (arith, row-place) in
         rw (p, q) at (kept-drop (48 * n) k (omega (arith, row-place)) (omega arith))
 
     -- the tables stay
     pub row-tables : Tables s b o n xs w′
     row-tables =
-        let f = kept-wider k (48 * n) (rowAt w r + 32) (omega (arith, row-place)) (omega arith) in
+        let f = kept-wider k (48 * n) (rowAt w r + 20) (omega (arith, row-place)) (omega arith) in
         record {
           bytes = t .tables .bytes;
           count = t .tables .count;
           room = rw (k .size) (t .tables .room);
           objects = rw (f .before) (t .tables .objects);
-          classes = classes-kept (rowAt (drop (48 * n) w) r) (rowAt (drop (48 * n) w) r + 32) (t .tables .classes) behind (omega (arith, t .apart));
+          classes = classes-kept (rowAt (drop (48 * n) w) r) (rowAt (drop (48 * n) w) r + 20) (t .tables .classes) behind (omega (arith, t .apart));
         }
 
   -- the row is resolved
   module _ (m : Limits) {class : ℕ} {u : Object} {w′ : List ℕ} {at : ℕ} (place : at ≡ rowAt w r) (q : w′ ≡ targeted at class u w) (bs : Bytes w)
       (c : class ≡ classNumber xs ref) (i : u ≡ columnsOf b o (objectNumber (m .lookups) xs o ref)) where
-    fits : rowAt w r + 32 ≤ length w
+    fits : rowAt w r + 20 ≤ length w
     fits = omega (arith, row-room)
 
-    change : Kept (rowAt w r) (rowAt w r + 32) w w′
+    change : Kept (rowAt w r) (rowAt w r + 20) w w′
     change = rw (q, place) (targeted-kept (rowAt w r) class u w fits)
 
     back : Back (rowAt w r) class u w′
@@ -270,9 +270,9 @@ module _ {w w′ : List ℕ} {at : ℕ} {ref : Ref} (same : (k p : ℕ) → at �
     number = same 4 (at + 16) (omega arith) (omega arith) ∙ t .number;
   }
 
--- two rows' bytes are apart
+-- a row's bytes are apart from those that are written of another
 rows-apart : (l i r : ℕ) → (r ≡ i → ⊥) → 32 * (i + 1) ≤ l → 32 * (r + 1) ≤ l → (k p : ℕ) → l - 32 * (r + 1) ≤ p → p + k ≤ l - 32 * (r + 1) + 32
-    → (p + k ≤ l - 32 * (i + 1)) ⊎ (l - 32 * (i + 1) + 32 ≤ p)
+    → (p + k ≤ l - 32 * (i + 1)) ⊎ (l - 32 * (i + 1) + 20 ≤ p)
 rows-apart l i r ne a b k p x y =
     by-cases (decLt r i)
     (λ (h : r < i). inr (omega arith))
@@ -298,7 +298,7 @@ module _ {lookups : ℕ} {s b : List ℕ} {o : Objects} {n : ℕ} {xs : List Cla
       part-row = record { tables = t .tables; apart = omega (arith, t .apart); words = t .left i (omega arith) h; read = t .read i h }
 
       module _ {objects : ℕ} {w′ : List ℕ} {x : ℕ} (c : RowResolved (limitsOf lookups objects) b o n xs i (getD refs i null) w w′ x) where
-        kept : Kept (rowAt (drop (48 * n) w) i) (rowAt (drop (48 * n) w) i + 32) (drop (48 * n) w) (drop (48 * n) w′)
+        kept : Kept (rowAt (drop (48 * n) w) i) (rowAt (drop (48 * n) w) i + 20) (drop (48 * n) w) (drop (48 * n) w′)
         kept = behind part-row (c .change)
 
         other : (r : ℕ) → r < length refs → (r ≡ i → ⊥) → (k p : ℕ) → rowAt (drop (48 * n) w) r ≤ p → p + k ≤ rowAt (drop (48 * n) w) r + 32

@@ -1,7 +1,7 @@
 -- What the end of the work buffer holds of the rows: row r has 32 bytes, from the end on. First the two words that its class index means (0, 8);
 -- once it is resolved one more than the number of its class, or 0 (0), and the columns of the script object that its chain leads to (4, 8, 12, 16),
--- all 0 where there is none; where that object's text stands, and its size (20, 24: crates/pool). Then the whole work buffer, and what linking changes
--- in it. Assumes nothing.
+-- all 0 where there is none; where that object's text stands, and its size (20, 24: crates/pool); its mark (28: Marks). Then the whole work buffer, and
+-- what linking changes in it. Assumes nothing.
 use mathlib.Core.Path.{_≡_}
 use mathlib.Core.Logic.{_⊎_}
 use mathlib.Core.List.{List}
@@ -75,9 +75,9 @@ pub record Keeps (xs : List Class) (x y : ℕ) (r : Ref) : Type 0 where
   pub super : SuperIn xs r x y
   pub read : Read r
 
--- with what its class index means
-unfoldable pub worded : ℕ → Words → List ℕ → List ℕ
-worded at m w = stored 8 (stored 8 w at (m .lo)) (at + 8) (m .hi)
+-- with what its class index means, and its mark
+unfoldable pub worded : ℕ → Words → ℕ → List ℕ → List ℕ
+worded at m mark w = stored 4 (stored 8 (stored 8 w at (m .lo)) (at + 8) (m .hi)) (at + 28) mark
 
 pub record WordsIn (w : List ℕ) (at : ℕ) (r : Ref) : Type 0 where
   pub lo : leAt 8 w at ≡ wordsOf r .lo

@@ -5,3 +5,4 @@ pub mod paths; // their paths
 pub mod chain; // where a reference leads
 pub mod links; // classes linked to their supers' classes
 pub mod rows; // rows kept, then resolved
+pub mod marks; // where a row's export stands

@@ -9,6 +9,7 @@ ghost use Rattle.meaning.specs.Report.{size, orUnknown};
 ghost use Rattle.meaning.specs.Resolve.{pathText};
 ghost use Rattle.meaning.specs.Scan.{Class};
 ghost use Rattle.resolve.specs.Rows.{rowAt, worded, columnsOf, pathBy, Tables, SomeTables, Leads, Kept, SomeKept, Resolution, limitsOf, targetSize, ledAt};
+ghost use Rattle.resolve.specs.Marks.{MarksKept};
 ghost use Rattle.resolve.specs.Resolving.{SomeTarget, targeted, RowIn, SomeRow, RowResolved};
 use super::chain::Target;
 use super::chain::target_of;
@@ -24,14 +25,15 @@ use table::words::get64;
 use table::words::set32;
 use table::words::set64;
 
-// Keeps what the class index of row r means.
-pub fn put_words(w: &mut [u8], r: usize, m: Words)
+// Keeps what the class index of row r means, and its mark.
+pub fn put_words(w: &mut [u8], r: usize, m: Words, mark: usize)
     requires { ⌜ 32 * (r + 1) ≤ length (now w) ⌝ }
-    ensures { λ _. ⌜ now (w .exit) ≡ worded (rowAt (now (w .entry)) r) m (now (w .entry)) ⌝ }
+    ensures { λ _. ⌜ now (w .exit) ≡ worded (rowAt (now (w .entry)) r) m mark (now (w .entry)) ⌝ }
 {
     let at = w.len() - 32 * (r + 1);
     set64(w, at, m.lo);
     set64(w, at + 8, m.hi);
+    set32(w, at + 28, mark);
 }
 
 // Where a resolved row leads: one more than the number of its class, or 0; the columns of its script object, all 0 where there is none; once the
@@ -151,6 +153,7 @@ pub fn resolve_all(w: &mut [u8], n: usize, rows: usize, lookups: usize, objects:
     ensures is { λ r. ⌜ ((s b : List ℕ) (o : Objects) (xs : List Class) (refs : List Ref) → Kept s b o n xs refs (now (w .entry)) → length refs ≡ rows
         → Resolution (limitsOf lookups objects) s b o n xs refs (now (w .entry)) (now (w .exit)) r) ⌝ }
     ensures few { λ r. ⌜ r ≤ 17041700 * rows ⌝ }
+    ensures marks { λ _. ⌜ MarksKept n rows (now (w .entry)) (now (w .exit)) ⌝ }
 {
     let mut total: usize = 0;
     let mut r: usize = 0;

@@ -9,3 +9,4 @@ pub mod WrittenLaws
 pub mod PieceLaws
 pub mod RefsLaws
 pub mod SectionLaws
+pub mod MarkedLaws

@@ -1,14 +1,13 @@
--- Laws of what the rows' class indices mean, export by export and package by package: a part of the rows is resolved where all are. Assumes
+-- Laws of what the rows' class indices mean, row by row and package by package: a part of the rows is resolved where all are. Assumes
 -- nothing.
 use mathlib.Core.Path.{_≡_, refl, _∙_, ap}
-use mathlib.Core.Bool.{Bool, true, false}
 use mathlib.Core.List.{List, [], _∷_, _++_, map}
 use Prim.Native.Nat.{ℕ, suc, _+_, _≤_, _<_}
 use native.Mathlib.Nat.{zero-add}
 use native.Mathlib.Omega.{arith}
 use lib.ListN.{length, take, drop, getD, length-append, length-map, List·getD-append}
 use lib.Seq.{split-at, getD-append-add}
-use Rattle.base.specs.Find.{kept, filter, flat}
+use Rattle.base.specs.Find.{flat}
 use Rattle.base.specs.LoopLaws.{flat-append, filter-fewer}
 use Rattle.zen.specs.Zen.{Read}
 use Rattle.meaning.specs.Reference.{Package, Ref, null}
@@ -19,20 +18,13 @@ use Rattle.sections.specs.Sections.{How, eachRef, refsOf, ResolvedFrom}
 
 -- ---- a package's
 
-module _ {A B : Type 0} (t : A → Bool) (f : A → B) where
-  map-filter : (l : List A) → map f (filter t l) ≡ flat (λ a. kept (t a) (f a) []) l
-  map-filter [] = refl
-  map-filter (x ∷ l) = go (t x) (map-filter l)
-    where
-      go : (b : Bool) → map f (filter t l) ≡ flat (λ a. kept (t a) (f a) []) l
-          → map f (kept b x (filter t l)) ≡ kept b (f x) [] ++ flat (λ a. kept (t a) (f a) []) l
-      go true e = ap (λ (r : List B). f x ∷ r) e
-      go false e = e
+map-flat : {A B : Type 0} (f : A → B) (l : List A) → map f l ≡ flat (λ a. f a ∷ []) l
+map-flat f [] = refl
+map-flat f (x ∷ l) = ap (λ r. f x ∷ r) (map-flat f l)
 
 -- one by one
 pub refs-each : (p : Package) → refsOf p ≡ eachRef p
-unfolding candidates
-refs-each p = map-filter (isCandidate (p .read)) (classRef p) (p .read .exports)
+refs-each p = map-flat (classRef p) (candidates (p .read))
 
 -- how many: as many as candidates, and not more than exports
 pub refs-count : (p : Package) → length (refsOf p) ≡ length (candidates (p .read))

@@ -1,25 +1,20 @@
 -- Laws of what is written: what is written of all is what is written of each, one behind another. Assumes nothing.
 use mathlib.Core.Path.{_≡_, refl, sym, _∙_, ap, subst}
-use mathlib.Core.Bool.{true, false}
 use mathlib.Core.List.{List, [], _∷_, _++_, append-assoc}
 use Prim.Native.Nat.{ℕ, suc, _+_, _-_, _*_, _≤_, _<_}
 use native.Mathlib.Nat.{add-zero}
 use native.Mathlib.Omega.{arith}
-use borrow.Author.Tests.{eq-eqb, ne-eqb}
 use lib.ListN.{length, take, drop, getD, length-append, length-drop}
 use lib.Seq.{take-length}
 use Rattle.base.specs.Find.{flat}
-use Rattle.base.specs.LoopLaws.{flat-take, flat-filter}
+use Rattle.base.specs.LoopLaws.{flat-take}
 use Rattle.base.specs.Number.{beBytes}
 use Rattle.base.specs.NumberLaws.{length-beBytes}
 use Rattle.base.specs.OutputLaws.{wrote-none, wrote-length, wrote-rest, wrote-as, next-room}
 use Rattle.scriptblock.specs.Script.{Objects}
-use Rattle.zen.specs.Zen.{Read}
-use Rattle.zen.specs.declared.tables.Export.{Export}
 use Rattle.meaning.specs.Reference.{Package, Ref}
-use Rattle.meaning.specs.Report.{rowOf, rowBytes, section, reportOf}
-use Rattle.meaning.specs.Resolve.{look}
-use Rattle.meaning.specs.Scan.{Class, candidateKind, isCandidate, candidates, table}
+use Rattle.meaning.specs.Report.{section, reportOf}
+use Rattle.meaning.specs.Scan.{Class, candidates, table}
 use Rattle.resolve.specs.Rows.{limitsOf, rowAt, ledAt}
 use Rattle.resolve.specs.declared.rows.Led.{Led}
 use Rattle.pool.specs.Pool.{TextIn}
@@ -29,14 +24,7 @@ use Rattle.sections.specs.Sections.{How, eachRow, allRows, headOf, secti
 use Rattle.sections.specs.Written.{Target}
 use Rattle.sections.specs.declared.section.Section.{Section}
 
--- ---- an export
-
-module _ (p : Read) (e : Export) where
-  pub no-candidate : candidateKind p e ≡ 0 → isCandidate p e ≡ false
-  no-candidate h = rw (eq-eqb (candidateKind p e) 0 h)
-
-  pub is-candidate : (candidateKind p e ≡ 0 → ⊥) → isCandidate p e ≡ true
-  is-candidate h = rw (ne-eqb (candidateKind p e) 0 h)
+-- ---- a row
 
 -- where a resolved row leads
 pub row-target : {c s : List ℕ} {n : ℕ} {w : List ℕ} {objects r : ℕ} {x : Ref} {h : How} → ResolvedFrom c s n w objects r (x ∷ []) h
@@ -100,10 +88,8 @@ filled-all f g l i e t = rw (e, take-length l) at t
 -- ---- a section and the report by their parts
 
 pub section-is : (objects : ℕ) (h : How) (p : Package) → sectionOf objects h p ≡ headOf p ++ allRows objects h p
-unfolding section candidates
-section-is objects h p =
-    let f : Export → List ℕ = λ e. rowBytes (rowOf (limitsOf (h .lookups) objects) (look (h .classes)) (h .objects) p e) in
-    rw (flat-filter f (isCandidate (p .read)) (p .read .exports)) (append-assoc (headOf p) (beBytes 4 (length (candidates (p .read)))) (eachRow objects h p))
+unfolding section
+section-is objects h p = append-assoc (headOf p) (beBytes 4 (length (candidates (p .read)))) (eachRow objects h p)
 
 pub report-is : (lookups objects : ℕ) (o : Objects) (xs : List Class) (ps : List Package) → xs ≡ table objects o ps
     → reportOf (limitsOf lookups objects) o ps

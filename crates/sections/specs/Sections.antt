@@ -1,10 +1,9 @@
 -- What of a report is written of an export, of a package and of some packages, and what its writers are lent. Assumes nothing.
 use mathlib.Core.Path.{_≡_}
-use mathlib.Core.Bool.{cond}
 use mathlib.Core.List.{List, [], _∷_, _++_, map}
 use Prim.Native.Nat.{ℕ, _+_, _*_, _≤_, _<_}
 use lib.ListN.{length, drop, getD}
-use Rattle.base.specs.Find.{kept, flat}
+use Rattle.base.specs.Find.{flat}
 use Rattle.text.specs.Name.{textBytes}
 use Rattle.base.specs.Number.{beBytes}
 use Rattle.base.specs.Output.{Wrote}
@@ -14,10 +13,12 @@ use Rattle.zen.specs.declared.tables.Export.{Export}
 use Rattle.meaning.specs.Reference.{Package, Ref, null}
 use Rattle.meaning.specs.Resolve.{look}
 use Rattle.meaning.specs.Report.{reportVersion, classRef, rowOf, rowBytes, section}
-use Rattle.meaning.specs.Scan.{Class, isCandidate, candidates}
-use Rattle.packages.specs.Package.{packageIn}
+use Rattle.meaning.specs.Scan.{Class, candidates}
+use Rattle.packages.specs.Package.{readIn, packageIn}
 use Rattle.packages.specs.Row.{exportNo}
 use Rattle.packages.specs.Walk.{packageAt, packagesAt}
+use Rattle.resolve.specs.MarkLaws.{Least}
+use Rattle.resolve.specs.Marks.{marksFrom, MarksIn}
 use Rattle.resolve.specs.Rows.{Tables, TargetIn, rowAt, ledAt, limitsOf}
 use Rattle.pool.specs.Pool.{TextIn}
 use Rattle.sections.specs.declared.section.Section.{Section}
@@ -30,14 +31,13 @@ pub record How : Type 0 where
 
 -- ---- what is written
 
--- of an export: its row, if it is a candidate
+-- of an export that is a candidate: its row
 abbrev pub exportRow : ℕ → How → Package → Export → List ℕ
-exportRow objects h p e =
-    cond (isCandidate (p .read) e) (rowBytes (rowOf (limitsOf (h .lookups) objects) (look (h .classes)) (h .objects) p e)) []
+exportRow objects h p e = rowBytes (rowOf (limitsOf (h .lookups) objects) (look (h .classes)) (h .objects) p e)
 
 -- of a package: its rows; with their count in front; what stands before that
 abbrev pub eachRow : ℕ → How → Package → List ℕ
-eachRow objects h p = flat (exportRow objects h p) (p .read .exports)
+eachRow objects h p = flat (exportRow objects h p) (candidates (p .read))
 
 abbrev pub allRows : ℕ → How → Package → List ℕ
 allRows objects h p = beBytes 4 (length (candidates (p .read))) ++ eachRow objects h p
@@ -58,13 +58,13 @@ frontOf size count = beBytes 4 size ++ (reportVersion ∷ []) ++ beBytes 4 count
 
 -- ---- what the rows' class indices mean
 
--- of an export: its reference, if it is a candidate
+-- of an export that is a candidate: its reference
 abbrev pub exportRefs : Package → Export → List Ref
-exportRefs p e = kept (isCandidate (p .read) e) (classRef p e) []
+exportRefs p e = classRef p e ∷ []
 
--- of a package by its exports and by its candidates, and of packages
+-- of a package, one by one and as a list, and of packages
 abbrev pub eachRef : Package → List Ref
-eachRef p = flat (exportRefs p) (p .read .exports)
+eachRef p = flat (exportRefs p) (candidates (p .read))
 
 abbrev pub refsOf : Package → List Ref
 refsOf p = map (λ e. classRef p e) (candidates (p .read))
@@ -96,10 +96,17 @@ pub record Filled (refs : List Ref) (bytes old new : List ℕ) (z : Section) : T
 abbrev pub behindOf : ℕ → Section → Section
 behindOf n z = record { size = n + z .size; rows = z .rows }
 
--- of export i of the package with this id, whose block d is; of its rows, without and with their count; of the package at a place of the corpus
-abbrev pub ExportFilled : ℕ → ℕ → List ℕ → ℕ → How → List ℕ → List ℕ → Section → Type 0
-ExportFilled objects id d i h old new z = Filled (exportRefs (packageIn id d) (exportNo d i)) (exportRow objects h (packageIn id d) (exportNo d i)) old new z
+-- the marks of the rows of a package, which are row `first` and those behind it, of `all`: its block d, whose exports start in a step; what stands behind are
+-- marks of later packages
+pub record RowsMarked (n : ℕ) (w d : List ℕ) (step first all : ℕ) : Type 0 where
+  pub before : List ℕ
+  pub after : List ℕ
+  pub marks : MarksIn (before ++ (marksFrom (readIn d) step (readIn d .exports) ++ after)) (drop (48 * n) w)
+  pub first-is : length before ≡ first
+  pub all-is : length (before ++ (marksFrom (readIn d) step (readIn d .exports) ++ after)) ≡ all
+  pub later : Least (4 * (step + length (readIn d .exports))) after
 
+-- of the rows of the package with this id, whose block d is, without and with their count; of the package at a place of the corpus
 abbrev pub EachFilled : ℕ → ℕ → List ℕ → How → List ℕ → List ℕ → Section → Type 0
 EachFilled objects id d h old new z = Filled (eachRef (packageIn id d)) (eachRow objects h (packageIn id d)) old new z
 
@@ -114,8 +121,8 @@ module _ (c s : List ℕ) (n : ℕ) (w : List ℕ) (objects : ℕ) where
   abbrev pub ExportRoom : ℕ → ℕ → List ℕ → ℕ → List ℕ → How → Type 0
   ExportRoom r id d i out h = Room c s n w objects r (exportRefs (packageIn id d) (exportNo d i)) (exportRow objects h (packageIn id d) (exportNo d i)) out h
 
-  abbrev pub ExportPut : ℕ → List ℕ → ℕ → List ℕ → List ℕ → Section → Type 0
-  ExportPut r d i old new z = (id : ℕ) (h : How) → ExportRoom r id d i old h → ExportFilled objects id d i h old new z
+  abbrev pub ExportPut : ℕ → List ℕ → ℕ → List ℕ → List ℕ → ℕ → Type 0
+  ExportPut r d i old new z = (id : ℕ) (h : How) → ExportRoom r id d i old h → Wrote old (exportRow objects h (packageIn id d) (exportNo d i)) new z
 
   abbrev pub EachRoom : ℕ → ℕ → List ℕ → List ℕ → How → Type 0
   EachRoom r id d out h = Room c s n w objects r (eachRef (packageIn id d)) (eachRow objects h (packageIn id d)) out h

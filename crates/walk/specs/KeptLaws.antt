@@ -7,6 +7,7 @@ use native.Mathlib.Decide.{ℕ-discrete}
 use native.Mathlib.Omega.{arith}
 use lib.ListN.{length, take, drop, getD, length-append, length-drop, List·getD-append}
 use lib.Seq.{getD-at}
+use Rattle.base.specs.Number.{leAt}
 use Rattle.scriptblock.specs.Script.{Objects}
 use Rattle.meaning.specs.Reference.{Ref, null}
 use Rattle.meaning.specs.Scan.{Class}
@@ -20,25 +21,39 @@ use Rattle.resolve.specs.ClassesLaws.{classes-kept}
 use Rattle.resolve.specs.Lent.{lent-part, lent-front, lent-rest, lent-length}
 use Rattle.resolve.specs.Rows.{rowAt, Read, worded, WordsIn, RowsIn, Kept}
 
--- ---- a row's words
+-- ---- a row's words and its mark
 
-module _ (at : ℕ) (m : Words) (w : List ℕ) (room : at + 16 ≤ length w) where
-  first : Changed at (at + 8) w (stored 8 w at (m .lo))
+module _ (at : ℕ) (m : Words) (mark : ℕ) (w : List ℕ) (room : at + 32 ≤ length w) where
+  abbrev lower : List ℕ
+  lower = stored 8 w at (m .lo)
+
+  abbrev both : List ℕ
+  both = stored 8 lower (at + 8) (m .hi)
+
+  first : Changed at (at + 8) w lower
   first = stored-kept 8 w at (m .lo) (omega arith)
 
-  second : Changed (at + 8) (at + 8 + 8) (stored 8 w at (m .lo)) (worded at m w)
-  unfolding worded
-  second = stored-kept 8 (stored 8 w at (m .lo)) (at + 8) (m .hi) (omega (arith, first .size))
+  second : Changed (at + 8) (at + 8 + 8) lower both
+  second = stored-kept 8 lower (at + 8) (m .hi) (omega (arith, first .size))
 
-  pub worded-kept : Changed at (at + 16) w (worded at m w)
-  worded-kept = kept-then (kept-wider first at (at + 16) (omega arith) (omega arith)) (kept-wider second at (at + 16) (omega arith) (omega arith))
-
-  worded-in : (r : Ref) → m ≡ wordsOf r → m .lo < 2 ^ 64 → m .hi < 2 ^ 64 → WordsIn (worded at m w) at r
+  third : Changed (at + 28) (at + 28 + 4) both (worded at m mark w)
   unfolding worded
+  third = stored-kept 4 both (at + 28) mark (omega (arith, first .size, second .size))
+
+  pub worded-kept : Changed at (at + 32) w (worded at m mark w)
+  worded-kept =
+      kept-then (kept-wider first at (at + 32) (omega arith) (omega arith))
+      (kept-then (kept-wider second at (at + 32) (omega arith) (omega arith)) (kept-wider third at (at + 32) (omega arith) (omega arith)))
+
+  worded-in : (r : Ref) → m ≡ wordsOf r → m .lo < 2 ^ 64 → m .hi < 2 ^ 64 → WordsIn (worded at m mark w) at r
   worded-in r e l h = record {
-    lo = kept-read second 8 at (inl (omega arith)) ∙ (stored-read 8 w at (m .lo) (omega arith) l ∙ ap (λ (x : Words). x .lo) e);
-    hi = stored-read 8 (stored 8 w at (m .lo)) (at + 8) (m .hi) (omega (arith, first .size)) h ∙ ap (λ (x : Words). x .hi) e;
+    lo = kept-read third 8 at (inl (omega arith)) ∙ (kept-read second 8 at (inl (omega arith)) ∙ (stored-read 8 w at (m .lo) (omega arith) l ∙ ap (λ (x : Words). x .lo) e));
+    hi = kept-read third 8 (at + 8) (inl (omega arith)) ∙ (stored-read 8 lower (at + 8) (m .hi) (omega (arith, first .size)) h ∙ ap (λ (x : Words). x .hi) e);
   }
+
+  pub worded-mark : mark < 2 ^ 32 → leAt 4 (worded at m mark w) (at + 28) ≡ mark
+  unfolding worded
+  worded-mark h = stored-read 4 both (at + 28) mark (omega (arith, first .size, second .size)) h
 
 -- ---- the rows
 
@@ -55,12 +70,12 @@ rows-kept {refs} {w} {w′} b e t k h = record {
 
 -- one more
 module _ {refs : List Ref} {w : List ℕ} (t : RowsIn refs w) (room : 32 * (length refs + 1) ≤ length w) (ref : Ref) (read : Read ref)
-    (m : Words) (is : m ≡ wordsOf ref) (lo : m .lo < 2 ^ 64) (hi : m .hi < 2 ^ 64) where
+    (m : Words) (is : m ≡ wordsOf ref) (lo : m .lo < 2 ^ 64) (hi : m .hi < 2 ^ 64) (mark : ℕ) where
   abbrev at : ℕ
   at = rowAt w (length refs)
 
-  change : Changed at (at + 16) w (worded at m w)
-  change = worded-kept at m w (omega arith)
+  change : Changed at (at + 32) w (worded at m mark w)
+  change = worded-kept at m mark w (omega arith)
 
   count : length (refs ++ (ref ∷ [])) ≡ length refs + 1
   count = length-append refs (ref ∷ [])
@@ -71,8 +86,8 @@ module _ {refs : List Ref} {w : List ℕ} (t : RowsIn refs w) (room : 32 * (leng
   other : (r : ℕ) → r < length refs → getD (refs ++ (ref ∷ [])) r null ≡ getD refs r null
   other r l = List·getD-append refs (ref ∷ []) null r l
 
-  words-at : (r : ℕ) → r < length (refs ++ (ref ∷ [])) → Dec (r ≡ length refs) → WordsIn (worded at m w) (rowAt w r) (getD (refs ++ (ref ∷ [])) r null)
-  words-at r l (yes e) = rw (e, own) (worded-in at m w (omega arith) ref is lo hi)
+  words-at : (r : ℕ) → r < length (refs ++ (ref ∷ [])) → Dec (r ≡ length refs) → WordsIn (worded at m mark w) (rowAt w r) (getD (refs ++ (ref ∷ [])) r null)
+  words-at r l (yes e) = rw (e, own) (worded-in at m mark w (omega arith) ref is lo hi)
   words-at r l (no e) =
       let k : r < length refs = omega (arith, count) in
       rw (other r k) (record {
@@ -84,7 +99,7 @@ module _ {refs : List Ref} {w : List ℕ} (t : RowsIn refs w) (room : 32 * (leng
   read-at r l (yes e) = rw (e, own) read
   read-at r l (no e) = let k : r < length refs = omega (arith, count) in rw (other r k) (t .read r k)
 
-  pub rows-more : RowsIn (refs ++ (ref ∷ [])) (worded at m w)
+  pub rows-more : RowsIn (refs ++ (ref ∷ [])) (worded at m mark w)
   rows-more = record {
     room = rw (change .size, count) room;
     words = λ r l. rw (change .size) (words-at r l (ℕ-discrete r (length refs)));
@@ -125,15 +140,15 @@ module _ {s b : List ℕ} {o : Objects} {n : ℕ} {xs : List Class} {refs : List
     size : length (drop (48 * n) w) ≡ length w - 48 * n
     size = length-drop (48 * n) w
 
-    pub kept-row : (ref : Ref) → Read ref → (m : Words) → m ≡ wordsOf ref → m .lo < 2 ^ 64 → m .hi < 2 ^ 64
-        → Kept s b o n xs (refs ++ (ref ∷ [])) (back (worded (rowAt (drop (48 * n) w) (length refs)) m (drop (48 * n) w)))
-    kept-row ref read m is lo hi =
+    pub kept-row : (ref : Ref) → Read ref → (m : Words) → m ≡ wordsOf ref → m .lo < 2 ^ 64 → m .hi < 2 ^ 64 → (mark : ℕ)
+        → Kept s b o n xs (refs ++ (ref ∷ [])) (back (worded (rowAt (drop (48 * n) w) (length refs)) m mark (drop (48 * n) w)))
+    kept-row ref read m is lo hi mark =
         let v = drop (48 * n) w in
-        let c = worded-kept (rowAt v (length refs)) m v (omega (arith, size)) in
+        let c = worded-kept (rowAt v (length refs)) m mark v (omega (arith, size)) in
         let l = length-append refs (ref ∷ []) in
-        kept-back xs (refs ++ (ref ∷ [])) (worded (rowAt v (length refs)) m v) (c .size)
-        (classes-kept (rowAt v (length refs)) (rowAt v (length refs) + 16) (k .tables .classes) c (omega (arith, size)))
-        (rows-more (k .rows) (omega (arith, size)) ref read m is lo hi)
+        kept-back xs (refs ++ (ref ∷ [])) (worded (rowAt v (length refs)) m mark v) (c .size)
+        (classes-kept (rowAt v (length refs)) (rowAt v (length refs) + 32) (k .tables .classes) c (omega (arith, size)))
+        (rows-more (k .rows) (omega (arith, size)) ref read m is lo hi mark)
         (omega (arith, size, l, c .size))
 
     -- a class entered

@@ -12,4 +12,5 @@ pub mod RepeatLaws
 pub mod SizeLaws
 pub mod KeptLaws
 pub mod StateLaws
+pub mod MarkedLaws
 pub mod OpenLaws

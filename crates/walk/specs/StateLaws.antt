@@ -138,7 +138,7 @@ found-next limit o s at i = rw (add-one i)
 
 -- ---- nothing more is entered
 
-open-not : {A : Type 0} {t : Bool} → t ≡ false → t ≡ true → A
+pub open-not : {A : Type 0} {t : Bool} → t ≡ false → t ≡ true → A
 open-not e h = never (cc)
 
 module _ {s b : List ℕ} {o : Objects} {n : ℕ} {f : Found} {t : Census} {w : List ℕ} (k : State s b o n f t w) where
@@ -191,18 +191,18 @@ module _ {s b : List ℕ} {o : Objects} {n : ℕ} {f : Found} {t : Census} {w : 
           rw (row-more p i f c) (state-full (omega (arith, k .entered a, length-append (f .refs) (classRef p (getD (p .read .exports) i noExport) ∷ []))) refl)
 
       pub state-row : n + t .classes + t .rows < length w / 64 → (m : Words) → m ≡ wordsOf (classRef p (getD (p .read .exports) i noExport))
-          → m .lo < 2 ^ 64 → m .hi < 2 ^ 64 → {ys : List ℕ} → ys ≡ worded (rowAt (drop (48 * n) w) (t .rows)) m (drop (48 * n) w)
+          → m .lo < 2 ^ 64 → m .hi < 2 ^ 64 → (mark : ℕ) → {ys : List ℕ} → ys ≡ worded (rowAt (drop (48 * n) w) (t .rows)) m mark (drop (48 * n) w)
           → {z : ℕ} → z ≡ t .size + baseSize p (getD (p .read .exports) i noExport)
           → State s b o n (withRow p i f) (openedAs (t .classes) (t .rows + 1) z) (put (48 * n) (length w - 48 * n) w ys)
-      state-row h m is lo hi {ys} q {z} e =
+      state-row h m is lo hi mark {ys} q {z} e =
           let x = getD (p .read .exports) i noExport in
           let (cs, rs, sz) = k .entered a in
           let l = length-append (f .refs) (classRef p x ∷ []) in
           let room : 64 * (n + (length (classesIn f) + length (f .refs)) + 1) ≤ length w = omega (arith, state-count) in
-          let made = kept-row (k .holds a) room (classRef p x) (record { home = p; index = x .class; is = refl }) m is lo hi in
+          let made = kept-row (k .holds a) room (classRef p x) (record { home = p; index = x .class; is = refl }) m is lo hi mark in
           let came : Kept s b o n (classesIn f) (f .refs ++ (classRef p x ∷ [])) (put (48 * n) (length w - 48 * n) w ys) = rw (q, rs) made in
           let v = drop (48 * n) w in
-          let size : length ys ≡ length v = rw q (worded-kept (rowAt v (t .rows)) m v (omega (arith, length-drop (48 * n) w)) .size) in
+          let size : length ys ≡ length v = rw q (worded-kept (rowAt v (t .rows)) m mark v (omega (arith, length-drop (48 * n) w)) .size) in
           let whole = lent-length (48 * n) w ys (k .holds a .tables .room) size in
           rw (row-more p i f c) (record {
             entered = λ y. (cs, omega arith, omega arith);

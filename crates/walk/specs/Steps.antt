@@ -4,7 +4,7 @@ use mathlib.Core.Path.{_≡_}
 use mathlib.Core.Bool.{true, false, cond}
 use mathlib.Core.List.{List, [], _∷_, _++_}
 use Prim.Native.Nat.{ℕ, _+_, _*_, _≤_}
-use lib.ListN.{length, getD}
+use lib.ListN.{length, drop, getD}
 use Rattle.base.specs.Find.{kept}
 use Rattle.base.specs.Number.{beAt}
 use Rattle.scriptblock.specs.Script.{Objects}
@@ -14,6 +14,7 @@ use Rattle.meaning.specs.Reference.{Package}
 use Rattle.meaning.specs.Report.{classRef}
 use Rattle.meaning.specs.Scan.{isClass, classAt, isCandidate}
 use Rattle.packages.specs.Walk.{Site}
+use Rattle.resolve.specs.Marks.{MarksIn}
 use Rattle.walk.specs.Found.{Found, State, baseSize}
 use Rattle.walk.specs.declared.walk.Census.{Census}
 use Rattle.walk.specs.declared.walk.Visit.{Visit}
@@ -75,6 +76,11 @@ pub record SomeState (b : List ℕ) (n : ℕ) (v : Visit) (d : List ℕ) (t : Ce
   pub found : Found
   pub visited : Visited corpus v d
   pub holds : State corpus b objects n found t w
+
+-- as long as all is entered, the rows have these marks, one each
+pub record Marked (n : ℕ) (marks : List ℕ) (t : Census) (w : List ℕ) : Type 0 where
+  pub count : t .open ≡ true → length marks ≡ t .rows
+  pub holds : t .open ≡ true → MarksIn marks (drop (48 * n) w)
 
 -- the most that one row takes without its class and native class, and a section without its rows
 abbrev pub rowMost : ℕ

@@ -1,6 +1,6 @@
 // One walk over the packages: each block is checked, and as long as there is room its classes and rows are entered.
 ghost use mathlib.Core.Bool.{true};
-ghost use mathlib.Core.List.{List};
+ghost use mathlib.Core.List.{List, _++_};
 ghost use mathlib.Core.Path.{_≡_};
 ghost use Prim.Native.Nat.{ℕ, _+_, _*_, _^_, _≤_, _<_};
 ghost use lib.ListN.{length, take, drop};
@@ -18,8 +18,9 @@ ghost use Rattle.packages.specs.RefBytes.{refBytes};
 ghost use Rattle.packages.specs.Row.{exportNo, namesSize, RowHolds};
 ghost use Rattle.packages.specs.Walk.{Sites, AllRead};
 ghost use Rattle.resolve.specs.Classes.{Classes};
+ghost use Rattle.resolve.specs.Marks.{exportMarks, marksFrom, marksOf, marksIn};
 ghost use Rattle.walk.specs.Found.{Found, headSize, withExport, withExports, withPackage, foundIn, Linked, State};
-ghost use Rattle.walk.specs.Steps.{withRow, withOwn, openedAs, closedAs, visitAt, Visited, SomeState, rowMost, headMost, Grown, Small};
+ghost use Rattle.walk.specs.Steps.{withRow, withOwn, openedAs, closedAs, visitAt, Visited, SomeState, Marked, rowMost, headMost, Grown, Small};
 ghost use Rattle.walk.specs.declared.walk.Census.{Census};
 ghost use Rattle.walk.specs.declared.walk.Scanned.the-variants.{Refused, All};
 use batch::notes::NOTES;
@@ -41,6 +42,8 @@ use packages::rows::names_len;
 use packages::rows::row_at;
 use resolve::classes::enter_class;
 use resolve::classes::is_class;
+use resolve::marks::mark_of;
+use resolve::marks::step_of;
 use resolve::rows::put_words;
 use table::entries::clear;
 use zen::zen::Layout;
@@ -113,7 +116,7 @@ fn closed(t: Census, repeat: u32) -> Census
     }
 }
 
-// Keeps export i if it is a candidate and there is room.
+// Keeps export i, which stands in a step of the corpus, if it is a candidate and there is room.
 fn keep_row(
     b: &[u8],
     p: Parts,
@@ -122,14 +125,16 @@ fn keep_row(
     w: &mut [u8],
     n: usize,
     id: u64,
+    step: usize,
     i: usize,
     t: Census,
 ) -> Census
     requires { ⌜ PackageIn (now b) p × Noted (now b) (p .names) (now names) × Noted (now b) (p .imported) (now imported) × (i < p .count) ⌝ }
-    requires { ⌜ (t .open ≡ true) × (64 * n ≤ length (now w)) × (t .classes < 2 ^ 32) × (t .rows < 2 ^ 32) × (t .size < 2 ^ 60) ⌝ }
+    requires { ⌜ (t .open ≡ true) × (64 * n ≤ length (now w)) × (t .classes < 2 ^ 32) × (t .rows < 2 ^ 32) × (t .size < 2 ^ 60) × (step < 2 ^ 29) ⌝ }
     ensures state { λ r. ⌜ ((c d : List ℕ) (o : Objects) (f : Found) → State c d o n f t (now (w .entry)) → State c d o n (withRow (packageIn id (now (b .entry))) i f) r (now (w .exit))) ⌝ }
     ensures grown { λ r. ⌜ (r .classes ≡ t .classes) × (r .rows ≤ t .rows + 1) × (r .size ≤ t .size + rowMost) ⌝ }
     ensures size { λ _. ⌜ length (now (w .exit)) ≡ length (now (w .entry)) ⌝ }
+    ensures marks { λ r. ⌜ ((l : List ℕ) → Marked n l t (now (w .entry)) → Marked n (l ++ exportMarks (readIn (now (b .entry))) step (exportNo (now (b .entry)) i)) r (now (w .exit))) ⌝ }
 {
     let size = 48 * n;
     let kind = candidate(b, p, names, i);
@@ -141,7 +146,7 @@ fn keep_row(
     }
     let v = row_at(b, p, names, i, kind);
     let m = meaning(b, p, imported, id, v.class);
-    put_words(&mut w[size..], t.rows, m);
+    put_words(&mut w[size..], t.rows, m, mark_of(step, kind));
     let len = row_len(b, p, names, imported, v);
     opened(t.classes, t.rows + 1, t.size + len)
 }
@@ -164,6 +169,8 @@ fn keep_class(
         → State c d o n (withOwn (v .block) (packageIn (v .id) (now (b .entry))) i f) r (now (w .exit))) ⌝ }
     ensures grown { λ r. ⌜ (r .classes ≤ t .classes + 1) × (r .rows ≡ t .rows) × (r .size ≡ t .size) ⌝ }
     ensures size { λ _. ⌜ length (now (w .exit)) ≡ length (now (w .entry)) ⌝ }
+    ensures marks { λ r. ⌜ ((c d : List ℕ) (o : Objects) (f : Found) (l : List ℕ) → Visited c v (now (b .entry)) → State c d o n f t (now (w .entry)) → Marked n l t (now (w .entry))
+        → Marked n l r (now (w .exit))) ⌝ }
 {
     let size = 48 * n;
     if w.len() / 64 <= n + t.classes + t.rows {
@@ -186,7 +193,7 @@ fn keep_class(
     closed(t, v.block)
 }
 
-// Export i: its row, if it is a candidate, and its class, if it is one; s is the script block.
+// Export i, which stands in a step of the corpus: its row, if it is a candidate, and its class, if it is one; s is the script block.
 fn scan_export(
     b: &[u8],
     p: Parts,
@@ -197,18 +204,20 @@ fn scan_export(
     n: usize,
     limit: usize,
     v: Visit,
+    step: usize,
     i: usize,
     t: Census,
 ) -> Census
     requires { ⌜ PackageIn (now b) p × Noted (now b) (p .names) (now names) × Noted (now b) (p .imported) (now imported) × (i < p .count) ⌝ }
-    requires { ⌜ (t .open ≡ true) × SomeState (now s) n v (now b) t (now w) × (t .classes + 1 < 2 ^ 32) × (t .rows < 2 ^ 32) × (t .size < 2 ^ 60) × (0 < v .block) ⌝ }
+    requires { ⌜ (t .open ≡ true) × SomeState (now s) n v (now b) t (now w) × (t .classes + 1 < 2 ^ 32) × (t .rows < 2 ^ 32) × (t .size < 2 ^ 60) × (0 < v .block) × (step < 2 ^ 29) ⌝ }
     ensures state { λ r. ⌜ ((c : List ℕ) (o : Objects) (f : Found) → Visited c v (now (b .entry)) → State c (now (s .entry)) o n f t (now (w .entry))
         → State c (now (s .entry)) o n (withExport limit o (v .block) (packageIn (v .id) (now (b .entry))) i f) r (now (w .exit))) ⌝ }
     ensures grown { λ r. ⌜ Grown 1 t r ⌝ }
     ensures size { λ _. ⌜ length (now (w .exit)) ≡ length (now (w .entry)) ⌝ }
+    ensures marks { λ r. ⌜ ((l : List ℕ) → Marked n l t (now (w .entry)) → Marked n (l ++ exportMarks (readIn (now (b .entry))) step (exportNo (now (b .entry)) i)) r (now (w .exit))) ⌝ }
 {
     let size = 48 * n;
-    let r = keep_row(b, p, names, imported, w, n, v.id, i, t);
+    let r = keep_row(b, p, names, imported, w, n, v.id, step, i, t);
     if !r.open {
         return r;
     }
@@ -219,7 +228,7 @@ fn scan_export(
     r
 }
 
-// All exports of a package, as long as there is room.
+// All exports of a package, the first of which stands in a step of the corpus, as long as there is room.
 fn scan_exports(
     b: &[u8],
     p: Parts,
@@ -230,14 +239,16 @@ fn scan_exports(
     n: usize,
     limit: usize,
     v: Visit,
+    step: usize,
     before: Census,
 ) -> Census
     requires { ⌜ PackageIn (now b) p × Noted (now b) (p .names) (now names) × Noted (now b) (p .imported) (now imported) ⌝ }
-    requires { ⌜ SomeState (now s) n v (now b) before (now w) × (before .classes + p .count < 2 ^ 32) × (before .rows + p .count < 2 ^ 32) × (before .size + rowMost * p .count < 2 ^ 60) × (0 < v .block) ⌝ }
+    requires { ⌜ SomeState (now s) n v (now b) before (now w) × (before .classes + p .count < 2 ^ 32) × (before .rows + p .count < 2 ^ 32) × (before .size + rowMost * p .count < 2 ^ 60) × (0 < v .block) × (step + p .count < 2 ^ 29) ⌝ }
     ensures state { λ r. ⌜ ((c : List ℕ) (o : Objects) (f : Found) → Visited c v (now (b .entry)) → State c (now (s .entry)) o n (withExports limit o (v .block) (packageIn (v .id) (now (b .entry))) 0 f) before (now (w .entry))
         → State c (now (s .entry)) o n (withPackage limit o (v .block) (packageIn (v .id) (now (b .entry))) f) r (now (w .exit))) ⌝ }
     ensures grown { λ r. ⌜ Grown (p .count) before r ⌝ }
     ensures size { λ _. ⌜ length (now (w .exit)) ≡ length (now (w .entry)) ⌝ }
+    ensures marks { λ r. ⌜ ((l : List ℕ) → Marked n l before (now (w .entry)) → Marked n (l ++ marksFrom (readIn (now (b .entry))) step (readIn (now (b .entry)) .exports)) r (now (w .exit))) ⌝ }
 {
     let mut t = before;
     let mut i: usize = 0;
@@ -245,7 +256,7 @@ fn scan_exports(
         if !t.open {
             return t;
         }
-        t = scan_export(b, p, names, imported, s, w, n, limit, v, i, t);
+        t = scan_export(b, p, names, imported, s, w, n, limit, v, step + i, i, t);
         i += 1;
     }
     t
@@ -270,12 +281,14 @@ fn scan_package(
         → State c (now (s .entry)) o n (withPackage limit o (v .block) (packageIn (v .id) (now (b .entry))) f) r (now (w .exit))) ⌝ }
     ensures small { λ r. ⌜ ((x : ℕ) → Small x t → Small (x + 12 + length (now (b .entry))) r) ⌝ }
     ensures size { λ _. ⌜ (length (now (w .exit)) ≡ length (now (w .entry))) × (length (now (names .exit)) ≡ noteCount) × (length (now (imported .exit)) ≡ noteCount) ⌝ }
+    ensures marks { λ r. ⌜ ((l : List ℕ) → Marked n l t (now (w .entry)) → Marked n (l ++ marksOf (v .at) (now (b .entry))) r (now (w .exit))) ⌝ }
 {
     let p = parts_of(l);
     note_names(b, p.names, names);
     note_names(b, p.imported, imported);
     let before = opened(t.classes, t.rows, t.size + head_len(b, p, names));
-    scan_exports(b, p, names, imported, s, w, n, limit, v, before)
+    let step = step_of(v.at, p.exports);
+    scan_exports(b, p, names, imported, s, w, n, limit, v, step, before)
 }
 
 // A package: its block is checked, and as long as all is entered what it holds is too.
@@ -298,6 +311,7 @@ fn scan_block(
         → State c (now (s .entry)) o n (withPackage limit o (v .block) (packageIn (v .id) (now (b .entry))) f) t′ (now (w .exit))) ⌝ }
     ensures small { λ r. ⌜ ((t′ : Census) (x : ℕ) → r ≡ All t′ → Small x t → Small (x + 12 + length (now (b .entry))) t′) ⌝ }
     ensures size { λ _. ⌜ (length (now (w .exit)) ≡ length (now (w .entry))) × (length (now (names .exit)) ≡ noteCount) × (length (now (imported .exit)) ≡ noteCount) ⌝ }
+    ensures marks { λ r. ⌜ ((t′ : Census) (l : List ℕ) → r ≡ All t′ → Marked n l t (now (w .entry)) → Marked n (l ++ marksOf (v .at) (now (b .entry))) t′ (now (w .exit))) ⌝ }
 {
     match check_package(b) {
         Package::Rejected(q) => Scanned::Refused(q, v.block),
@@ -343,6 +357,7 @@ pub fn scan_packages(
     ensures size { λ _. ⌜ length (now (w .exit)) ≡ length (now (w .entry)) ⌝ }
     ensures few { λ r. ⌜ ((t : Census) → r ≡ All t → (t .rows < 2 ^ 32) × (t .size < 2 ^ 60)) ⌝ }
     ensures notes { λ _. ⌜ (length (now (names .exit)) ≡ noteCount) × (length (now (imported .exit)) ≡ noteCount) ⌝ }
+    ensures marks { λ r. ⌜ ((t : Census) → r ≡ All t → Marked n (marksIn (now (c .entry)) at count) t (now (w .exit))) ⌝ }
 {
     let size = 48 * n;
     clear(&mut w[size..], 4 * n);

@@ -10,7 +10,7 @@ use Rattle.pool.proofs.rows.clear_slots.Statement.{statement}
 use Rattle.pool.proofs.rows.clear_slots.Tie as tie
 
 returns : tie.Need-returns
-returns c = record { kept = kept-none _ _ _; columns = λ r h. refl }
+returns c = record { kept = kept-none _ _ _; columns = λ r h. refl; marks = λ r h. refl }
 
 add-gap : tie.Need-add-gap
 add-gap c = search needs

@@ -4,8 +4,9 @@ use mathlib.Core.Path.{_≡_, refl, _∙_}
 use Prim.Native.Nat.{_+_, _*_, _-_, _≤_}
 use native.Mathlib.Omega.{arith}
 use lib.ListN.{length}
+use Rattle.resolve.specs.MarkLaws.{marks-same}
 use Rattle.pool.specs.Pool.{State}
-use Rattle.pool.specs.PoolLaws.{state-none, state-stood, state-all, pooled-none}
+use Rattle.pool.specs.PoolLaws.{state-none, state-stood, state-all, pooled-none, left-marks}
 use Rattle.pool.proofs.rows.pool_rows.Statement.{statement}
 use Rattle.pool.proofs.rows.pool_rows.Tie as tie
 
@@ -18,7 +19,7 @@ abbrev μ-loop : tie.MeasureT-loop
 μ-loop s w₀ n classes rows objects gap slots free₀ r₀ w free r = rows - r
 
 returns : tie.Need-returns Inv-loop μ-loop
-returns c = λ q o xs lookups refs t x e. pooled-none (c .before .before .before .args .objects) t (e ∙ c .if1 .taken)
+returns c = (λ q o xs lookups refs t x e. pooled-none (c .before .before .before .args .objects) t (e ∙ c .if1 .taken), marks-same _ _ _)
 
 add-gap : tie.Need-add-gap Inv-loop μ-loop
 add-gap c = omega (arith, c .before .before .before .pre .0 .room)
@@ -64,10 +65,13 @@ same-length : tie.Need-same-length Inv-loop μ-loop
 same-length c = c .before .loop .inv .1
 
 returns-2 : tie.Need-returns-2 Inv-loop μ-loop
-returns-2 c = λ q o xs lookups refs t x e.
+returns-2 c =
     let l = c .before .loop in
-    let p = c .before .before .before .before .before .before .pre .0 in
-    state-all t (omega arith) e (omega (arith, p .room)) (l .inv .4) (omega arith) (omega (arith, l .inv .3))
+    let s = c .before .before .before .before .before .before in
+    let p = s .pre .0 in (
+      λ q o xs lookups refs t x e. state-all t (omega arith) e (omega (arith, p .room)) (l .inv .4) (omega arith) (omega (arith, l .inv .3)),
+      left-marks (s .args .n) (l .inv .4 .left) (omega (arith, p .room)),
+    )
 
 pub pool-rows-spec : {M : Type 1} → statement M
 pool-rows-spec =

@@ -3,7 +3,8 @@ use mathlib.Core.Path.{refl, ap, _∙_}
 use Prim.Native.Nat.{_+_, _*_, _≤_}
 use native.Mathlib.Omega.{arith}
 use lib.ListN.{length}
-use Rattle.pool.specs.PoolLaws.{left-resolved}
+use Rattle.resolve.specs.MarkLaws.{marks-then}
+use Rattle.pool.specs.PoolLaws.{left-resolved, left-marks}
 use borrow.Author.Needs.{needs}
 use Rattle.pool.proofs.rows.pool_texts.Statement.{statement}
 use Rattle.pool.proofs.rows.pool_texts.Tie as tie
@@ -35,9 +36,13 @@ same-length c = search needs
 
 returns : tie.Need-returns
 returns c =
-    let p = c .before .before .before .before .before .before .before .before .before .before .pre .0 in
+    let s = c .before .before .before .before .before .before .before .before .before .before in
+    let p = s .pre .0 in
     let l = c .before .before .before .before .before .before .clear-slots .ensures in
-    λ q o xs lookups refs t x e. c .before .before .pool-rows .ensures q o xs lookups refs (left-resolved t (omega arith) e (omega (arith, p .room)) l) x e
+    let e = c .before .before .pool-rows .ensures in (
+      λ q o xs lookups refs t x y. e .0 q o xs lookups refs (left-resolved t (omega arith) y (omega (arith, p .room)) l) x y,
+      marks-then (left-marks (s .args .n) l (omega (arith, p .room))) (e .1),
+    )
 
 pub pool-texts-spec : {M : Type 1} → statement M
 pool-texts-spec = tie.close (tie.spec clear-slots-requires pool-rows-requires same-length returns)

@@ -1,8 +1,10 @@
 -- `report::call::finish` meets its contract.
 use native.Mathlib.Omega.{arith}
 use borrow.Author.Needs.{needs}
+use Rattle.resolve.specs.MarkLaws.{marks-then}
+use Rattle.resolve.specs.Marks.{MarksKept}
 use Rattle.walk.specs.OpenLaws.{begun-sites, begun-few}
-use Rattle.report.proofs.Finished.{gathered-classes, gathered-kept, Summed, finish-beyond, finish-outside, finish-roomy, finish-room, finish-report}
+use Rattle.report.proofs.Finished.{gathered-classes, gathered-kept, gathered-linked, gathered-marks, Summed, finish-beyond, finish-outside, finish-roomy, finish-room, finish-report}
 use Rattle.report.proofs.call.finish.Statement.{statement}
 use Rattle.report.proofs.call.finish.Tie as tie
 
@@ -24,7 +26,7 @@ resolve-all-requires c κs =
 add-size : tie.Need-add-size
 add-size c =
     let g = summed (c .before .before .before) .gathered in
-    omega (arith, g .few .0, g .few .1, c .before .before .before .resolve-all .ensures .1)
+    omega (arith, g .few .0, g .few .1, c .before .before .before .resolve-all .ensures .1 .0)
 
 returns : tie.Need-returns
 returns c = finish-beyond (summed (c .before .before .before .before .before)) (c .before .if1 .taken) (c .refuse .ensures)
@@ -40,6 +42,13 @@ pool-texts-requires c κs =
 add-put-report : tie.Need-add-put-report
 add-put-report c = omega (arith, begun-few (summed (c .before .before .before .before .before .before .before .before .before .before .before) .begun) .1)
 
+-- the rows' marks are as the walk left them
+marked : (c : tie.After-resolve-all) → let a = c .before .before .before .before .before .before .before .before .before .before .args in
+    MarksKept (a .n) (a .t .rows) (a .w .now) (c .resolve-all .last .0)
+marked c =
+    let k = c .before .before .before .before .link-classes in
+    marks-then (gathered-linked (summed c .gathered) (k .ensures .1) (k .kept .0)) (c .resolve-all .ensures .1 .1)
+
 put-report-requires : tie.Need-put-report-requires
 put-report-requires c κs =
     let p = c .before .before .before .before .before .before .before in
@@ -48,14 +57,17 @@ put-report-requires c κs =
     let z = summed r in
     let (names, imported) = r .before .before .before .before .before .before .before .before .before .before .pre .1 in (
       (begun-sites (z .begun), z .packages, omega (arith, begun-few (z .begun) .0), names, imported),
-      finish-room z (p .pool-texts .ensures) _ (e .before .if1 .left) (e .if2 .left),
+      (
+        finish-room z (p .pool-texts .ensures .0) _ (e .before .if1 .left) (e .if2 .left),
+        gathered-marks (z .gathered) (marks-then (marked r) (p .pool-texts .ensures .1)),
+      ),
     )
 
 returns-3 : tie.Need-returns-3
 returns-3 c =
     let p = c .before .before .before .before .before .before .before .before .before .before in
     let e = p .before .before in
-    finish-report (summed (e .before .before .before .before .before)) (p .pool-texts .ensures) (e .before .if1 .left) (e .if2 .left) (c .before .before .put-report .ensures)
+    finish-report (summed (e .before .before .before .before .before)) (p .pool-texts .ensures .0) (e .before .if1 .left) (e .if2 .left) (c .before .before .put-report .ensures)
 
 pub finish-spec : {M : Type 1} → statement M
 finish-spec =

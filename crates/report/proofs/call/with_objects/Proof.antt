@@ -23,6 +23,7 @@ walked c =
       state = e .1 .1 .0 _ (k .objects) t (k .holds);
       size = e .1 .1 .1 .0;
       few = e .1 .1 .1 .1 .0 _ t;
+      marked = e .1 .1 .1 .1 .1 .1 _ t;
     }
 
 add-scan-packages : tie.Need-add-scan-packages
@@ -43,7 +44,7 @@ finish-requires c κs =
     let z = walked t in
     let s = t .before .before .before .before in (
       (z .begun, z .packages, scanned-all z (i .if2 .taken), s .before .before .before .before .before .before .before .before .before .pre .3),
-      s .scan-packages .ensures .1 .1 .1 .1 .1,
+      s .scan-packages .ensures .1 .1 .1 .1 .1 .0,
     )
 
 returns-2 : tie.Need-returns-2

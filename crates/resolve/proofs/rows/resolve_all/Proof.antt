@@ -1,5 +1,5 @@
--- `rows::resolve_all` meets its contract. The loop's invariant: the first r rows are resolved, the others are as they were kept, and the total is that
--- of the first r. Assumes nothing.
+-- `rows::resolve_all` meets its contract. The loop's invariant: the first r rows are resolved, the others are as they were kept, all marks too, and the
+-- total is that of the first r. Assumes nothing.
 use mathlib.Core.List.{List}
 use mathlib.Core.Path.{_≡_, refl, _∙_, ap}
 use Prim.Native.Nat.{ℕ, _-_, _*_, _≤_, _<_}
@@ -12,13 +12,15 @@ use Rattle.scriptblock.specs.Script.{Objects}
 use Rattle.meaning.specs.Reference.{Ref, null}
 use Rattle.meaning.specs.Scan.{Class}
 use Rattle.resolve.specs.Rows.{Kept, limitsOf, targetSize}
+use Rattle.resolve.specs.Marks.{MarksKept}
+use Rattle.resolve.specs.MarkLaws.{marks-same, marks-then, part-marks}
 use Rattle.resolve.specs.ResolvingLaws.{Part, part-none, part-row, part-more, part-all}
 use Rattle.resolve.proofs.rows.resolve_all.Statement.{statement}
 use Rattle.resolve.proofs.rows.resolve_all.Tie as tie
 
 abbrev Inv-loop : tie.InvT-loop
 Inv-loop w₀ n rows lookups objects total₀ r₀ w total r =
-    (r ≤ rows) × (length w ≡ length w₀) × (total ≤ 17041700 * r)
+    (r ≤ rows) × MarksKept n rows w₀ w × (total ≤ 17041700 * r)
     × ((s b : List ℕ) (o : Objects) (xs : List Class) (refs : List Ref) → Kept s b o n xs refs w₀ → length refs ≡ rows
     → Part lookups s b o n xs refs r w × (total ≡ sum (targetSize (limitsOf lookups objects) xs o) (take r refs)))
 
@@ -26,7 +28,7 @@ abbrev μ-loop : tie.MeasureT-loop
 μ-loop w₀ n rows lookups objects total₀ r₀ w total r = rows - r
 
 loop-holds : tie.Need-loop-holds Inv-loop μ-loop
-loop-holds c = (omega arith, refl, omega arith, λ s b o xs refs t q. (part-none t, refl))
+loop-holds c = (omega arith, marks-same _ _ _, omega arith, λ s b o xs refs t q. (part-none t, refl))
 
 resolve-row-requires : tie.Need-resolve-row-requires Inv-loop μ-loop
 resolve-row-requires c κs =
@@ -57,10 +59,15 @@ loop-less c = omega arith
 loop-again : tie.Need-loop-again Inv-loop μ-loop
 loop-again c =
     let l = c .before .before .before .before .before .loop in
-    let a = c .before .before .before .before .before .before .before .args in
-    let e = c .before .before .resolve-row .ensures in (
+    let f = c .before .before .before .before .before .before .before in
+    let a = f .args in
+    let p = f .pre .0 in
+    let e = c .before .before .resolve-row .ensures in
+    let u = l .inv .3 (p .corpus) (p .block) (p .objects) (p .classes) (p .refs) (p .holds) (p .count) .0 in (
       omega arith,
-      c .before .before .resolve-row .kept .0 ∙ l .inv .1,
+      marks-then (l .inv .1)
+          (part-marks u (p .count) (omega arith)
+          (e .0 (p .corpus) (p .block) (p .objects) (p .classes) (getD (p .refs) (l .r) null) (part-row u (omega (arith, p .count))) .change)),
       omega (arith, e .1),
       λ s b o xs refs t q.
           let i = l .inv .3 s b o xs refs t q in
@@ -70,7 +77,7 @@ loop-again c =
     )
 
 same-length : tie.Need-same-length Inv-loop μ-loop
-same-length c = c .before .loop .inv .1
+same-length c = c .before .loop .inv .1 .size
 
 returns : tie.Need-returns Inv-loop μ-loop
 returns c =
@@ -80,11 +87,11 @@ returns c =
           let i = l .inv .3 s b o xs refs t q in
           let h : length refs ≤ l .r = omega arith in
           record {
-            length-is = l .inv .1;
+            length-is = l .inv .1 .size;
             holds = part-all (i .0) h;
             size = i .1 ∙ ap (sum (targetSize (limitsOf (a .lookups) (a .objects)) xs o)) (take-all (l .r) refs h);
           },
-      omega arith,
+      (omega arith, l .inv .1),
     )
 
 pub resolve-all-spec : {M : Type 1} → statement M

@@ -70,7 +70,7 @@ module _ (c : List ℕ) (at count lookups objects : ℕ) (o : Objects) where
 nine : (c : tie.After-shared-slice-known3) → 9 ≤ length (c .before .before .before .before .args .out .now)
 nine c =
     let u = c .before .before .before .before in
-    let r = u .pre .1 in
+    let r = u .pre .1 .0 in
     omega (arith, r .room, size (u .args .c .now) (u .args .at) (u .args .count) (r .lookups) (u .args .objects) (r .read))
 
 sub-put-sections : tie.Need-sub-put-sections
@@ -83,11 +83,14 @@ put-sections-requires : tie.Need-put-sections-requires
 put-sections-requires c κs =
     let u = c .before .before .before .before .before .before .before in
     let a = u .args in
-    let r = u .pre .1 in (
+    let r = u .pre .1 .0 in (
       (u .pre .0 .0, u .pre .0 .1, u .pre .0 .3, u .pre .0 .4),
       (
-        how (a .c .now) (a .at) (a .count) (r .lookups) (a .objects) (r .read),
-        room (a .c .now) (a .at) (a .count) (r .lookups) (a .objects) (r .read) (a .out .now) (r .ready) (r .room),
+        (
+          how (a .c .now) (a .at) (a .count) (r .lookups) (a .objects) (r .read),
+          room (a .c .now) (a .at) (a .count) (r .lookups) (a .objects) (r .read) (a .out .now) (r .ready) (r .room),
+        ),
+        u .pre .1 .1,
       ),
     )
 
@@ -96,7 +99,7 @@ short : (c : tie.After-put-sections) → c .put-sections .result + 5 < 2 ^ 32
 short c =
     let u = c .before .before .before .before .before .before .before .before in
     let a = u .args in
-    let r = u .pre .1 in
+    let r = u .pre .1 .0 in
     let h = how (a .c .now) (a .at) (a .count) (r .lookups) (a .objects) (r .read) in
     let v = c .put-sections .ensures h (room (a .c .now) (a .at) (a .count) (r .lookups) (a .objects) (r .read) (a .out .now) (r .ready) (r .room)) in
     omega (arith, v .size, r .small, size (a .c .now) (a .at) (a .count) (r .lookups) (a .objects) (r .read))

@@ -43,7 +43,7 @@ module _ (objects id : ℕ) (b : List ℕ) {c s : List ℕ} {n : ℕ} {w : List 
 
 -- the count's four bytes are there
 room : (c : tie.After-shared-slice-known4) → 4 ≤ length (c .before .before .before .before .before .args .out .now)
-room c = let u = c .before .before .before .before .before in omega (arith, size (u .args .objects) (u .pre .1 .0) (u .args .b .now) (u .pre .1 .2))
+room c = let u = c .before .before .before .before .before in omega (arith, size (u .args .objects) (u .pre .1 .0 .0) (u .args .b .now) (u .pre .1 .0 .2))
 
 sub-put-each : tie.Need-sub-put-each
 sub-put-each c = room c
@@ -54,16 +54,16 @@ part-put-each-start c = room c
 put-each-requires : tie.Need-put-each-requires
 put-each-requires c κs =
     let u = c .before .before .before .before .before .before in
-    ((u .pre .0 .0, u .pre .0 .1, u .pre .0 .2), (u .pre .1 .0, u .pre .1 .1, each (u .args .objects) (u .pre .1 .0) (u .args .b .now) (u .pre .1 .2)))
+    ((u .pre .0 .0, u .pre .0 .1, u .pre .0 .2), ((u .pre .1 .0 .0, u .pre .1 .0 .1, each (u .args .objects) (u .pre .1 .0 .0) (u .args .b .now) (u .pre .1 .0 .2)), u .pre .1 .1))
 
 cast-put-be32 : tie.Need-cast-put-be32
 cast-put-be32 c =
     let z = c .before .before .before .before in
     let u = z .before .before .before .before .before .before .before in
-    let a = u .pre .1 .2 in
-    let y = z .put-each .ensures (u .pre .1 .0) (u .pre .1 .1) (each (u .args .objects) (u .pre .1 .0) (u .args .b .now) a) in
+    let a = u .pre .1 .0 .2 in
+    let y = z .put-each .ensures (u .pre .1 .0 .0) (u .pre .1 .0 .1) (each (u .args .objects) (u .pre .1 .0 .0) (u .args .b .now) a) in
     record {
-      fits = omega (arith, counted (u .args .objects) (u .pre .1 .0) (u .args .b .now) a y, candidates-few (readIn (u .args .b .now)), export-count (u .pre .0 .0), u .pre .0 .3);
+      fits = omega (arith, counted (u .args .objects) (u .pre .1 .0 .0) (u .args .b .now) a y, candidates-few (readIn (u .args .b .now)), export-count (u .pre .0 .0), u .pre .0 .3);
     }
 
 put-be32-requires : tie.Need-put-be32-requires
@@ -85,7 +85,7 @@ behind-requires : tie.Need-behind-requires
 behind-requires c κs =
     let k = c .before .before in
     let u = k .before .before .before .before .before .before .before .before .before .before .before .before in
-    let (id, h, a) = u .pre .1 in
+    let (id, h, a) = u .pre .1 .0 in
     let g = u .good .0 .0 in
     omega (arith, done k id h a .wrote .fits)
 

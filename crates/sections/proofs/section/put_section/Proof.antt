@@ -1,7 +1,7 @@
 -- `section::put_section` meets its contract: the rows are written behind the head. Assumes nothing.
-use mathlib.Core.Path.{_≡_, refl, sym}
+use mathlib.Core.Path.{_≡_, sym, _∙_}
 use mathlib.Core.List.{List, _++_}
-use Prim.Native.Nat.{ℕ, zero, suc, _-_, _^_, _≤_, _<_}
+use Prim.Native.Nat.{ℕ, _-_, _≤_}
 use native.Mathlib.Omega.{arith}
 use borrow.Author.Needs.{needs}
 use lib.ListN.{length, take, drop}
@@ -11,12 +11,14 @@ use Rattle.base.specs.Output.{Wrote}
 use Rattle.base.specs.OutputLaws.{wrote-rest, wrote-as, next-room, front-fits}
 use Rattle.meaning.specs.Reference.{Package}
 use Rattle.packages.specs.Package.{readIn, packageIn, PackageIn}
-use Rattle.packages.specs.PackageLaws.{accepted-by, package-in, export-room, names-held, imported-held}
-use Rattle.packages.specs.Walk.{blockAt}
+use Rattle.packages.specs.PackageLaws.{accepted-by, package-in, names-held, imported-held}
+use Rattle.packages.specs.Walk.{blockAt, Site}
 use Rattle.packages.specs.WalkLaws.{site-small}
 use Rattle.packages.specs.declared.package.Parts.{Parts}
+use Rattle.resolve.specs.Marks.{firstStep}
+use Rattle.sections.specs.MarkedLaws.{Small, step-small, step-first}
 use Rattle.sections.specs.SectionLaws.{section-is}
-use Rattle.sections.specs.Sections.{How, behindOf, headOf, allRows, sectionOf, refsOf, Room, Filled, SectionRoom, SectionFilled}
+use Rattle.sections.specs.Sections.{How, behindOf, headOf, allRows, sectionOf, refsOf, RowsMarked, Room, Filled, SectionRoom, SectionFilled}
 use Rattle.sections.specs.declared.section.Section.{Section}
 use Rattle.sections.proofs.section.put_section.Statement.{statement}
 use Rattle.sections.proofs.section.put_section.Tie as tie
@@ -43,14 +45,11 @@ record Here (c : List ℕ) (at : ℕ) (d : List ℕ) (p : Parts) : Type 0 where
   pub block : d ≡ blockAt c at
   pub read : PackageIn d p
   pub bytes : Bytes d
-  pub few : p .count < 2 ^ 32
+  pub small : Small at p
 
-count-few : {d : List ℕ} {p : Parts} → PackageIn d p → length d < 2 ^ 32 → p .count < 2 ^ 32
-count-few {d} {p} k l = go (p .count) refl
-  where
-    go : (n : ℕ) → p .count ≡ n → p .count < 2 ^ 32
-    go zero e = omega arith
-    go (suc n) e = omega (arith, export-room k n (omega arith))
+marked-here : (c : List ℕ) (at : ℕ) {n : ℕ} {w d : List ℕ} {step first all : ℕ} → d ≡ blockAt c at → step ≡ firstStep c at
+    → RowsMarked n w (blockAt c at) (firstStep c at) first all → RowsMarked n w d step first all
+marked-here c at e f t = rw (e, f) t
 
 -- what is said of the package at a place is said of it
 module _ (c : List ℕ) (objects at id : ℕ) (d : List ℕ) (e : d ≡ blockAt c at) (f : id ≡ beAt 8 c at) (h : How) where
@@ -68,10 +67,13 @@ here c =
     let l = c .before in
     let b = l .before in
     let y = b .before .before .before in
-    let k = site-small (y .before .before .pre .0 .0) in
+    let u = y .before .before in
+    let t = u .pre .0 .0 in
+    let k = site-small t in
     let e = b .block-at .ensures in
+    let site : Site (u .args .c .now) (u .args .at) (b .block-at .result .now) = record { starts = t .starts; stops = t .stops; small = t .small; is = e } in
     let q = package-in (b .block-at .result .now) (l .layout-of .result) (c .parts-of .result) (l .layout-of .ensures) (c .parts-of .ensures) in
-    record { block = e; read = q; bytes = rw e (k .2 (λ j. y .shared-slice-known .given j .fits)); few = count-few q (rw e (k .0)) }
+    record { block = e; read = q; bytes = rw e (k .2 (λ j. y .shared-slice-known .given j .fits)); small = step-small site q }
 
 -- the section's room as the head's and the rows'
 room : (c : tie.After-id-at)
@@ -118,35 +120,45 @@ put-head-requires c κs =
     let k = here p in (
       k .read,
       c .before .before .before .before .before .note-names .ensures .0,
-      k .few,
-      head-fits (u .args .objects) (packageIn (c .id-at .result) (p .before .before .block-at .result .now)) (room c (u .pre .1 .0) (u .pre .1 .1)),
+      k .small .count,
+      head-fits (u .args .objects) (packageIn (c .id-at .result) (p .before .before .block-at .result .now)) (room c (u .pre .1 .0 .0) (u .pre .1 .0 .1)),
     )
+
+step-of-requires : tie.Need-step-of-requires
+step-of-requires c κs = here (c .before .before .before .before .before .before .before .before .before .before .before .before .before) .small .start
 
 put-rows-requires : tie.Need-put-rows-requires
 put-rows-requires c κs =
-    let x = c .before .before .before .before .before in
+    let x = c .before .before .before .before .before .before in
     let i = x .before in
     let n = i .before .before .before in
     let p = n .before .before .before .before in
     let u = p .before .before .before .before .before .before .before in
-    let k = here p in (
-      (k .read, n .before .before .note-names .ensures .0, n .note-names2 .ensures .0, k .few),
+    let k = here p in
+    let e = c .step-of .ensures in (
+      (k .read, n .before .before .note-names .ensures .0, n .note-names2 .ensures .0, k .small .count),
       (
-        i .id-at .result,
-        u .pre .1 .0,
-        rows-room (u .args .objects) (packageIn (i .id-at .result) (p .before .before .block-at .result .now)) (room i (u .pre .1 .0) (u .pre .1 .1)) (x .put-head .ensures),
+        (
+          i .id-at .result,
+          u .pre .1 .0 .0,
+          rows-room (u .args .objects) (packageIn (i .id-at .result) (p .before .before .block-at .result .now)) (room i (u .pre .1 .0 .0) (u .pre .1 .0 .1)) (x .put-head .ensures),
+        ),
+        (
+          marked-here (u .args .c .now) (u .args .at) (k .block) (e ∙ step-first (u .args .c .now) (u .args .at) (k .block) (k .read)) (u .pre .1 .1),
+          omega (arith, e, k .small .step),
+        ),
       ),
     )
 
 done : (c : tie.After-put-rows)
-    → let x = c .before .before .before .before .before .before in
+    → let x = c .before .before .before .before .before .before .before in
     let u = x .before .before .before .before .before .before .before .before .before .before .before .before .before .before .before .args in
     (h : How) → SectionRoom (u .c .now) (u .s .now) (u .n) (u .w .now) (u .objects) (u .first) (u .at) (u .out .now) h
     → SectionFilled (u .c .now) (u .objects) (u .at) h (u .out .now)
     (take (x .put-head .result) (x .put-head .last .0) ++ (c .put-rows .last .0 ++ drop (length (x .put-head .last .0) - x .put-head .result) (drop (x .put-head .result) (x .put-head .last .0))))
     (behindOf (x .put-head .result) (c .put-rows .result))
 done c h a =
-    let x = c .before .before .before .before .before .before in
+    let x = c .before .before .before .before .before .before .before in
     let i = x .before in
     let p = i .before .before .before .before .before .before .before in
     let b = p .before .before in
@@ -159,13 +171,13 @@ done c h a =
 behind-requires : tie.Need-behind-requires
 behind-requires c κs =
     let k = c .before .before in
-    let u = k .before .before .before .before .before .before .before .before .before .before .before .before .before .before .before .before .before .before .before .before .before in
+    let u = k .before .before .before .before .before .before .before .before .before .before .before .before .before .before .before .before .before .before .before .before .before .before in
     let g = u .good .0 .0 in
-    omega (arith, done k (u .pre .1 .0) (u .pre .1 .1) .wrote .fits)
+    omega (arith, done k (u .pre .1 .0 .0) (u .pre .1 .0 .1) .wrote .fits)
 
 returns : tie.Need-returns
 returns c =
-    let n = c .before .before .before .before .before .before .before .before .before .before .before .before .before in
+    let n = c .before .before .before .before .before .before .before .before .before .before .before .before .before .before in
     (λ h a. rw (c .behind .ensures) (done (c .before .before .before) h a), (n .before .before .note-names .ensures .1, n .note-names2 .ensures .1))
 
 pub put-section-spec : {M : Type 1} → statement M
@@ -182,6 +194,7 @@ put-section-spec =
     (search needs)
     (search needs)
     (search needs)
+    step-of-requires
     put-rows-requires
     behind-requires
     (search needs)

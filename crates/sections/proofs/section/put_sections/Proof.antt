@@ -1,4 +1,4 @@
--- `section::put_sections` meets its contract. The loop's invariant: the sections of the first i packages are written. Assumes nothing.
+-- `section::put_sections` meets its contract. The loop's invariant: the sections of the first i packages are written, and the rows have their marks. Assumes nothing.
 use mathlib.Core.Path.{_≡_, sym, _∙_, ap}
 use mathlib.Core.List.{List, _++_}
 use Prim.Native.Nat.{ℕ, _+_, _-_, _≤_, _<_}
@@ -11,6 +11,8 @@ use Rattle.batch.specs.Notes.{noteCount}
 use Rattle.meaning.specs.Reference.{Package}
 use Rattle.packages.specs.Walk.{placeOf, packageAt, packagesAt}
 use Rattle.packages.specs.WalkLaws.{place-none, place-next, packages-length, package-no}
+use Rattle.resolve.specs.Marks.{marksIn}
+use Rattle.sections.specs.MarkedLaws.{marks-first, marks-next, rows-marked}
 use Rattle.sections.specs.SectionLaws.{filled-none, filled-inside, item-room, item-filled, item-sums, filled-all}
 use Rattle.sections.specs.Sections.{How, sectionOf, refsOf, Filled, SectionRoom, SectionFilled, SectionsRoom}
 use Rattle.sections.specs.declared.section.Section.{Section}
@@ -23,14 +25,15 @@ Upto objects h ps i old new z = Filled (flat refsOf (take i ps)) (flat (sectionO
 record Sofar (c s : List ℕ) (n : ℕ) (w : List ℕ) (objects from count : ℕ) (old : List ℕ) (i at : ℕ) (new : List ℕ) (z : Section) : Type 0 where
   pub low : i ≤ count
   pub place : at ≡ placeOf c from i
+  pub marks : z .rows ≡ length (marksIn c from i)
   pub filled : (h : How) → SectionsRoom c s n w objects from count old h → Upto objects h (packagesAt c from count) i old new z
 
 abbrev Inv-loop : tie.InvT-loop
-Inv-loop out₀ c from count s w n objects names₀ imported₀ size₀ rows₀ at₀ counter₀ out names imported size rows at counter =
+Inv-loop out₀ c from count s w n all objects names₀ imported₀ size₀ rows₀ at₀ counter₀ out names imported size rows at counter =
     Sofar c s n w objects from count out₀ counter at out (record { size = size; rows = rows }) × (length names ≡ noteCount) × (length imported ≡ noteCount)
 
 abbrev μ-loop : tie.MeasureT-loop
-μ-loop out₀ c from count s w n objects names₀ imported₀ size₀ rows₀ at₀ counter₀ out names imported size rows at counter = count - counter
+μ-loop out₀ c from count s w n all objects names₀ imported₀ size₀ rows₀ at₀ counter₀ out names imported size rows at counter = count - counter
 
 module _ {c s : List ℕ} {n : ℕ} {w : List ℕ} {objects from count : ℕ} {old : List ℕ} {i at : ℕ} {new : List ℕ} {z : Section}
     (t : Sofar c s n w objects from count old i at new z) (inside : i < count) where
@@ -53,19 +56,23 @@ module _ {c s : List ℕ} {n : ℕ} {w : List ℕ} {objects from count : ℕ} {o
           (record { size = z .size + v .size; rows = z .rows + v .rows })
       more = item-filled refsOf (sectionOf objects h) (packagesAt c from count) i (packageAt c from) listed a (t .filled h a) item
 
+      -- each row has a mark
+      marked : z .rows + v .rows ≡ length (marksIn c from (i + 1))
+      marked = omega (arith, t .marks, y .rows, ap (λ (x : ℕ). length (refsOf (packageAt c x))) (t .place), marks-next c from i)
+
       sums : (z .size + v .size ≤ length old) × (z .rows + v .rows ≤ length w)
       sums = item-sums refsOf (sectionOf objects h) (packagesAt c from count) i (packageAt c from) listed a (t .filled h a) item
 
 -- what was written fits
 holds-size : (c : tie.At-loop Inv-loop μ-loop)
     → (c .loop .size ≤ length (c .loop .out)) × (length (c .loop .out) ≡ length (c .before .before .before .before .before .args .out .now))
-holds-size c = let u = c .before .before .before .before .before in filled-inside (c .loop .inv .0 .filled (u .pre .1 .0) (u .pre .1 .1))
+holds-size c = let u = c .before .before .before .before .before in filled-inside (c .loop .inv .0 .filled (u .pre .1 .0 .0) (u .pre .1 .0 .1))
 
 loop-holds : tie.Need-loop-holds Inv-loop μ-loop
 loop-holds c =
     let u = c .before .before .before .before in
     let z = u .args in (
-      record { low = omega arith; place = sym (place-none (z .c .now) (z .from)); filled = λ h a. filled-none (z .out .now) },
+      record { low = omega arith; place = sym (place-none (z .c .now) (z .from)); marks = sym (marks-first (z .c .now) (z .from)); filled = λ h a. filled-none (z .out .now) },
       u .pre .0 .2,
       u .pre .0 .3,
     )
@@ -91,7 +98,10 @@ put-section-requires c κs =
         l .inv .1,
         l .inv .2,
       ),
-      (u .pre .1 .0, room t (m .loop-test .taken) (u .pre .1 .0) (u .pre .1 .1)),
+      (
+        (u .pre .1 .0 .0, room t (m .loop-test .taken) (u .pre .1 .0 .0) (u .pre .1 .0 .1)),
+        rw (t .place) (rows-marked (u .args .n) (u .args .w .now) (u .pre .0 .0) (u .pre .0 .1) (u .pre .1 .1 .0) (u .pre .1 .1 .1) (l .counter) (m .loop-test .taken) (t .marks)),
+      ),
     )
 
 summed : (c : tie.After-put-section Inv-loop μ-loop)
@@ -101,7 +111,7 @@ summed : (c : tie.After-put-section Inv-loop μ-loop)
 summed c =
     let m = c .before .before .before .before in
     let t = m .before .loop .inv .0 in
-    let (h, a) = m .before .before .before .before .before .before .pre .1 in
+    let (h, a) = m .before .before .before .before .before .before .pre .1 .0 in
     sums t (m .loop-test .taken) h a (c .put-section .ensures .0 h (room t (m .loop-test .taken) h a))
 
 add-size : tie.Need-add-size Inv-loop μ-loop
@@ -136,11 +146,14 @@ loop-again c =
     let p = c .before .before .before .before .before in
     let m = p .before .before .before .before in
     let l = m .before .loop in
-    let u = m .before .before .before .before .before .before .args in
-    let t = l .inv .0 in (
+    let r = m .before .before .before .before .before .before in
+    let u = r .args in
+    let t = l .inv .0 in
+    let (h, a) = r .pre .1 .0 in (
       record {
         low = omega (arith, m .loop-test .taken);
         place = c .next-at .ensures ∙ rw (t .place) (sym (place-next (u .c .now) (u .from) (l .counter)));
+        marks = marked t (m .loop-test .taken) h a (p .put-section .ensures .0 h (room t (m .loop-test .taken) h a));
         filled = λ h a. more t (m .loop-test .taken) h a (p .put-section .ensures .0 h (room t (m .loop-test .taken) h a));
       },
       p .put-section .ensures .1 .0,

@@ -17,9 +17,10 @@ use Rattle.table.specs.Words.{put}
 use Rattle.resolve.specs.Classes.{classFrom, ClassesIn, Classes, Entered, Stands}
 use Rattle.walk.specs.Found.{Found, classesIn, State}
 use Rattle.walk.specs.KeptLaws.{back-length}
+use Rattle.walk.specs.MarkedLaws.{marked-closed, marked-class}
 use Rattle.resolve.specs.Lent.{lent-part}
 use Rattle.walk.specs.StateLaws.{state-count, state-class-full, state-class, state-twice}
-use Rattle.walk.specs.Steps.{withOwn, openedAs, closedAs, Visited}
+use Rattle.walk.specs.Steps.{withOwn, openedAs, closedAs, Visited, Marked}
 use Rattle.walk.specs.declared.walk.Census.{Census}
 use Rattle.walk.specs.declared.walk.Visit.{Visit}
 use Rattle.walk.proofs.walk.keep_class.Statement.{statement}
@@ -47,13 +48,22 @@ module _ (n : ℕ) (v : Visit) (d : List ℕ) (i : ℕ) (t : Census) (w : List �
     asked k h = (rw (lent-part (48 * n) w) k, omega arith, rw (lent-part (48 * n) w, length-drop (48 * n) w) (omega arith))
 
     module _ {r : Bool} {u : Census} where
-      entered : {ys : List ℕ} → r ≡ true
-          → (r ≡ true → (c : List ℕ) (xs : List Class) → Site c (v .at) d → v .id ≡ beAt 8 c (v .at) → ClassesIn c (4 * n) xs lent → length xs ≡ t .classes
+      module _ {ys : List ℕ} (q : r ≡ true)
+          (new : r ≡ true → (c : List ℕ) (xs : List Class) → Site c (v .at) d → v .id ≡ beAt 8 c (v .at) → ClassesIn c (4 * n) xs lent → length xs ≡ t .classes
           → Entered c (4 * n) xs (classFrom c (v .at) i) lent ys)
-          → u ≡ openedAs (t .classes + 1) (t .rows) (t .size) → Next u (put (48 * n) (length w - 48 * n) w ys)
-      entered q new g c b o f z k =
-          let x = new q c (classesIn f) (z .site) (z .id) (rw (lent-part (48 * n) w) (k .holds going .tables .classes)) (state-count k going) in
-          rw g (state-class k going (packageIn (v .id) d) i (v .block) l (rw (class-here z i, lent-part (48 * n) w) at x))
+          (g : u ≡ openedAs (t .classes + 1) (t .rows) (t .size)) where
+        came : {c b : List ℕ} {o : Objects} {f : Found} → Visited c v d → State c b o n f t w
+            → Entered c (4 * n) (classesIn f) (classAt (packageIn (v .id) d) i (exportNo d i)) (drop (48 * n) w) ys
+        came {c} {f = f} z k =
+            let x = new q c (classesIn f) (z .site) (z .id) (rw (lent-part (48 * n) w) (k .holds going .tables .classes)) (state-count k going) in
+            rw (class-here z i, lent-part (48 * n) w) at x
+
+        entered : Next u (put (48 * n) (length w - 48 * n) w ys)
+        entered c b o f z k = rw g (state-class k going (packageIn (v .id) d) i (v .block) l (came z k))
+
+        marked : (c b : List ℕ) (o : Objects) (f : Found) (m : List ℕ) → Visited c v d → State c b o n f t w → Marked n m t w
+            → Marked n m u (put (48 * n) (length w - 48 * n) w ys)
+        marked c b o f m z k h = marked-class h going l (came z k) (state-count k going) (ap (λ (x : Census). x .rows) g)
 
       stands : r ≡ false
           → (r ≡ false → (c : List ℕ) (xs : List Class) → Site c (v .at) d → v .id ≡ beAt 8 c (v .at) → ClassesIn c (4 * n) xs lent → length xs ≡ t .classes
@@ -72,7 +82,10 @@ returns c =
     let a = s .args in
     let e = c .closed .ensures in (
       no-room (a .n) (a .v) (a .b .now) (a .i) (a .t) (a .w .now) (s .pre .1 .0) (c .before .if1 .taken) e,
-      ((omega (arith, ap (λ (x : Census). x .classes) e), ap (λ (x : Census). x .rows) e, ap (λ (x : Census). x .size) e), refl),
+      (
+        (omega (arith, ap (λ (x : Census). x .classes) e), ap (λ (x : Census). x .rows) e, ap (λ (x : Census). x .size) e),
+        (refl, λ c d o f l z k m. marked-closed (ap (λ (x : Census). x .open) e)),
+      ),
     )
 
 enter-class-requires : tie.Need-enter-class-requires
@@ -92,7 +105,10 @@ returns-2 c =
       entered (a .n) (a .v) (a .b .now) (a .i) (a .t) (a .w .now) (s .pre .1 .0) (u .before .before .if1 .left) (c .before .before .if2 .taken) (u .enter-class .ensures .0) e,
       (
         (omega (arith, ap (λ (x : Census). x .classes) e), ap (λ (x : Census). x .rows) e, ap (λ (x : Census). x .size) e),
-        back-length (48 * a .n) (a .w .now) (u .enter-class .last .1 .1 .1 .1 .0) (omega (arith, s .pre .1 .1)) (u .enter-class .ensures .1 .1),
+        (
+          back-length (48 * a .n) (a .w .now) (u .enter-class .last .1 .1 .1 .1 .0) (omega (arith, s .pre .1 .1)) (u .enter-class .ensures .1 .1),
+          marked (a .n) (a .v) (a .b .now) (a .i) (a .t) (a .w .now) (s .pre .1 .0) (u .before .before .if1 .left) (c .before .before .if2 .taken) (u .enter-class .ensures .0) e,
+        ),
       ),
     )
 
@@ -105,7 +121,10 @@ returns-3 c =
       stands (a .n) (a .v) (a .b .now) (a .i) (a .t) (a .w .now) (s .pre .1 .0) (u .before .before .if1 .left) (c .before .if2 .left) (u .enter-class .ensures .1 .0) (s .pre .1 .6) e,
       (
         (omega (arith, ap (λ (x : Census). x .classes) e), ap (λ (x : Census). x .rows) e, ap (λ (x : Census). x .size) e),
-        back-length (48 * a .n) (a .w .now) (u .enter-class .last .1 .1 .1 .1 .0) (omega (arith, s .pre .1 .1)) (u .enter-class .ensures .1 .1),
+        (
+          back-length (48 * a .n) (a .w .now) (u .enter-class .last .1 .1 .1 .1 .0) (omega (arith, s .pre .1 .1)) (u .enter-class .ensures .1 .1),
+          λ c d o f l z k m. marked-closed (ap (λ (x : Census). x .open) e),
+        ),
       ),
     )
 

@@ -17,6 +17,7 @@ use Rattle.zen.specs.declared.zen.Package.the-variants.{Accepted, Rejected}
 use Rattle.packages.specs.Package.{readIn, packageIn}
 use Rattle.packages.specs.WalkLaws.{layout-package}
 use Rattle.walk.specs.Found.{Found, withPackage, State}
+use Rattle.walk.specs.MarkedLaws.{marked-closed}
 use Rattle.walk.specs.StateLaws.{package-behind, state-closed}
 use Rattle.walk.specs.Steps.{Small}
 use Rattle.walk.specs.declared.walk.Census.{Census}
@@ -54,7 +55,7 @@ scan-package-requires c κs =
     )
 
 same-length : tie.Need-same-length
-same-length c = c .before .before .scan-package .ensures .1 .1 .0
+same-length c = c .before .before .scan-package .ensures .1 .1 .0 .0
 
 returns : tie.Need-returns
 returns c =
@@ -66,7 +67,7 @@ returns c =
         λ t z. read (a .b .now) (l .before .before .check-package .ensures) (l .l .given .1),
         (
           λ t c o f z v k. rw (← all-same z) (e .0 c o f v k),
-          (λ t x z h. rw (← all-same z) (e .1 .0 x h), e .1 .1),
+          (λ t x z h. rw (← all-same z) (e .1 .0 x h), (e .1 .1 .0, λ t l z m. rw (← all-same z) (e .1 .1 .1 l m))),
         ),
       ),
     )
@@ -75,7 +76,7 @@ returns-2 : tie.Need-returns-2
 returns-2 c =
     let s = c .before .before .before .before .before .before .before in (
       λ q j z. rejected (s .args .b .now) (c .before .before .before .check-package .ensures) (c .before .q .given .1) z,
-      (λ t z. not-all z, (λ t c o f z v k. not-all z, (λ t x z h. not-all z, (refl, s .pre .0 .0, s .pre .0 .1)))),
+      (λ t z. not-all z, (λ t c o f z v k. not-all z, (λ t x z h. not-all z, ((refl, s .pre .0 .0, s .pre .0 .1), λ t l z m. not-all z)))),
     )
 
 returns-3 : tie.Need-returns-3
@@ -88,7 +89,10 @@ returns-3 c =
         λ t z. read (a .b .now) (l .before .before .check-package .ensures) (l .l .given .1),
         (
           λ t k o f z v x. rw (← all-same z) (shut (a .b .now) (a .s .now) (a .n) (a .limit) (a .v) (c .if1 .left) x),
-          (λ t x z h. rw (← all-same z) (small-more (length (a .b .now)) h), (refl, s .pre .0 .0, s .pre .0 .1)),
+          (
+            λ t x z h. rw (← all-same z) (small-more (length (a .b .now)) h),
+            ((refl, s .pre .0 .0, s .pre .0 .1), λ t l z m. rw (← all-same z) (marked-closed (c .if1 .left))),
+          ),
         ),
       ),
     )

@@ -87,13 +87,13 @@ keep-row-requires : tie.Need-keep-row-requires
 keep-row-requires c κs =
     let s = c .before .before .before .before in
     let q = s .pre .1 in
-    (s .pre .0, (q .0, room-is (q .1) (q .0), omega (arith, q .2), q .3, q .4))
+    (s .pre .0, (q .0, room-is (q .1) (q .0), omega (arith, q .2), q .3, q .4, q .6))
 
 export-at-requires : tie.Need-export-at-requires
 export-at-requires c κs = search needs
 
 same-length : tie.Need-same-length
-same-length c = c .before .before .before .before .keep-row .ensures .1 .1
+same-length c = c .before .before .before .before .keep-row .ensures .1 .1 .0
 
 returns : tie.Need-returns
 returns c =
@@ -107,14 +107,14 @@ returns c =
 slice-reshare-prefix-is-class : tie.Need-slice-reshare-prefix-is-class
 slice-reshare-prefix-is-class c =
     let q = c .before .before .before .before .before .before .before .before .before .before .pre .1 in
-    omega (arith, room-is (q .1) (q .0), c .before .before .before .before .before .keep-row .ensures .1 .1)
+    omega (arith, room-is (q .1) (q .0), c .before .before .before .before .before .keep-row .ensures .1 .1 .0)
 
 slice-aggregate-is-class : tie.Need-slice-aggregate-is-class
 slice-aggregate-is-class c =
     let r = c .before .before .before .before .before .before .keep-row in
     let s = c .before .before .before .before .before .before .before .before .before .before .before in
     let q = s .pre .1 in
-    sym (length-take-le (48 * s .args .n) (r .last .1 .1 .1 .1 .0) (omega (arith, room-is (q .1) (q .0), r .ensures .1 .1)))
+    sym (length-take-le (48 * s .args .n) (r .last .1 .1 .1 .1 .0) (omega (arith, room-is (q .1) (q .0), r .ensures .1 .1 .0)))
 
 is-class-requires : tie.Need-is-class-requires
 is-class-requires c κs =
@@ -135,11 +135,11 @@ keep-class-requires c κs =
     let o = not-false _ (x .before .if1 .left) in
     let k = asked (a .n) (a .limit) (a .v) (a .i) (a .b .now) (a .s .now) (r .ensures .0) o (x .export-at .ensures) (c .before .before .is-class .ensures) (c .before .if2 .taken) (q .1) in (
       (p .0, p .1, p .2, p .3, k .0),
-      (o, omega (arith, room-is (q .1) (q .0), g .1), k .1, k .2, omega (arith, g .0 .0, q .2), omega (arith, g .0 .1, q .3), q .5),
+      (o, omega (arith, room-is (q .1) (q .0), g .1 .0), k .1, k .2, omega (arith, g .0 .0, q .2), omega (arith, g .0 .1, q .3), q .5),
     )
 
 same-length-2 : tie.Need-same-length-2
-same-length-2 c = c .before .before .keep-class .ensures .1 .1 ∙ c .before .before .before .before .before .before .before .before .before .before .before .before .keep-row .ensures .1 .1
+same-length-2 c = c .before .before .keep-class .ensures .1 .1 .0 ∙ c .before .before .before .before .before .before .before .before .before .before .before .before .keep-row .ensures .1 .1 .0
 
 returns-2 : tie.Need-returns-2
 returns-2 c =
@@ -147,18 +147,20 @@ returns-2 c =
     let y = c .before .before .before .before in
     let x = y .before .before .before in
     let r = x .before .before .before .before .before .keep-row in
-    let a = x .before .before .before .before .before .before .before .before .before .before .args in
+    let s = x .before .before .before .before .before .before .before .before .before .before in
+    let a = s .args in
     let g = r .ensures .1 .0 in
-    let h = k .ensures .1 .0 in (
+    let h = k .ensures .1 .0 in
+    let p = some-row (a .n) (a .limit) (a .v) (a .i) (a .b .now) (a .s .now) (r .ensures .0) (not-false _ (x .before .if1 .left)) (s .pre .1 .1) in (
       a-class (a .n) (a .limit) (a .v) (a .i) (a .b .now) (a .s .now) (r .ensures .0) (not-false _ (x .before .if1 .left)) (x .export-at .ensures) (y .before .is-class .ensures) (y .if2 .taken) (k .ensures .0),
       (
         record { classes = omega (arith, g .0, h .0); rows = omega (arith, g .1, h .1); size = omega (arith, g .2, h .2) },
-        k .ensures .1 .1 ∙ r .ensures .1 .1,
+        (k .ensures .1 .1 .0 ∙ r .ensures .1 .1 .0, λ l m. k .ensures .1 .1 .1 (p .corpus) (a .s .now) (p .objects) (p .found) _ (p .visited) (p .holds) (r .ensures .1 .1 .1 l m)),
       ),
     )
 
 same-length-3 : tie.Need-same-length-3
-same-length-3 c = c .before .before .before .before .before .before .before .before .keep-row .ensures .1 .1
+same-length-3 c = c .before .before .before .before .before .before .before .before .keep-row .ensures .1 .1 .0
 
 returns-3 : tie.Need-returns-3
 returns-3 c =

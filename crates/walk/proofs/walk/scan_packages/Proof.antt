@@ -1,6 +1,6 @@
--- `walk::scan_packages` meets its contract. The loop's invariant: the first i packages are accepted, and the state is theirs. Assumes nothing.
+-- `walk::scan_packages` meets its contract. The loop's invariant: the first i packages are accepted, and the state and the marks are theirs. Assumes nothing.
 use mathlib.Core.Path.{_≡_, refl, sym, _∙_, ap, ap₂, subst}
-use mathlib.Core.List.{List}
+use mathlib.Core.List.{List, _++_}
 use Prim.Native.Nat.{ℕ, _+_, _*_, _-_, _^_, _≤_, _<_}
 use native.Mathlib.Omega.{arith}
 use borrow.Author.Needs.{needs}
@@ -18,24 +18,21 @@ use Rattle.objects.specs.Work.{ObjectsIn}
 use Rattle.packages.specs.Framing.{nextAt, partsAt}
 use Rattle.packages.specs.Package.{readIn, packageIn}
 use Rattle.packages.specs.Walk.{blockAt, packageAt, Site, placeOf, Sites, AllRead}
-use Rattle.packages.specs.WalkLaws.{place-none, place-next, site-length, all-none, all-more, read-refused}
+use Rattle.packages.specs.WalkLaws.{place-none, place-next, all-none, all-more, read-refused}
 use Rattle.table.specs.Table.{cleared}
 use Rattle.table.specs.Words.{put}
 use Rattle.walk.specs.Found.{Found, withPackage, foundIn, Linked, State}
 use Rattle.walk.specs.KeptLaws.{back-length}
 use Rattle.resolve.specs.Lent.{lent-part, lent-front}
+use Rattle.resolve.specs.Marks.{marksOf, marksAt, marksIn}
+use Rattle.walk.specs.MarkedLaws.{marked-none, marks-next}
 use Rattle.walk.specs.StateLaws.{found-next, state-none}
-use Rattle.walk.specs.Steps.{openedAs, visitAt, Visited, SomeState, Small}
+use Rattle.walk.specs.Steps.{openedAs, visitAt, Visited, SomeState, Marked, Small}
 use Rattle.walk.specs.declared.walk.Census.{Census}
 use Rattle.walk.specs.declared.walk.Visit.{Visit}
-use Rattle.walk.proofs.Scans.{all-same, not-refused, not-all}
+use Rattle.walk.proofs.Scans.{all-same, not-refused, not-all, site-end}
 use Rattle.walk.proofs.walk.scan_packages.Statement.{statement}
 use Rattle.walk.proofs.walk.scan_packages.Tie as tie
-
--- where the package at a site ends
-site-end : {s : List ℕ} {at : ℕ} {b : List ℕ} → Site s at b → nextAt s at ≡ at + 12 + length b
-unfolding nextAt
-site-end k = omega (arith, site-length k)
 
 -- i packages of the corpus s from a place on are passed, and the walk is at `here`; b: the script block, with n objects in front of w₀
 record Passed (s : List ℕ) (at : ℕ) (b : List ℕ) (n limit : ℕ) (w₀ : List ℕ) (i here : ℕ) (t : Census) (w : List ℕ) : Type 0 where
@@ -48,6 +45,7 @@ record Passed (s : List ℕ) (at : ℕ) (b : List ℕ) (n limit : ℕ) (w₀ : L
   pub objects : Objects
   pub linked : ObjectsIn b objects (take (48 * n) w₀)
   pub state : (o : Objects) → ObjectsIn b o (take (48 * n) w₀) → State s b o n (foundIn limit o s at i) t w
+  pub marks : Marked n (marksIn s at i) t w
 
 module _ (s : List ℕ) (at : ℕ) (b : List ℕ) (n limit : ℕ) where
   -- at the start: the script objects are linked, and there is a table with no class
@@ -83,6 +81,7 @@ module _ (s : List ℕ) (at : ℕ) (b : List ℕ) (n limit : ℕ) where
             objects = l .objects;
             linked = front (l .holds);
             state = λ o k. state-none limit s at w y small (omega (arith, (rw same at k) .all .entered .size, length-take-le (48 * n) w low-room)) (l .room) (rw same at k) (rw (lent-part (48 * n) w) at e);
+            marks = marked-none n s at w₀;
           })
 
   -- at the next package
@@ -113,9 +112,13 @@ module _ (s : List ℕ) (at : ℕ) (b : List ℕ) (n limit : ℕ) where
         package-is : packageIn (v .id) d ≡ packageAt s (placeOf s at i)
         package-is = rw e (ap₂ packageIn (ap (beAt 8 s) (k .here-is)) (is ∙ ap (blockAt s) (k .here-is)))
 
+        marks-are : marksOf (v .at) d ≡ marksAt s (placeOf s at i)
+        marks-are = ap₂ marksOf (ap (λ (x : Visit). x .at) e ∙ k .here-is) (is ∙ ap (blockAt s) (k .here-is))
+
         module _ {t′ : Census} {w′ : List ℕ} (read : runBlock packageBlock d ≡ gives (readIn d))
             (state : (c : List ℕ) (o : Objects) (f : Found) → Visited c v d → State c b o n f t w → State c b o n (withPackage limit o (v .block) (packageIn (v .id) d) f) t′ w′)
-            (small : (x : ℕ) → Small x t → Small (x + 12 + length d) t′) (size : length w′ ≡ length w) where
+            (small : (x : ℕ) → Small x t → Small (x + 12 + length d) t′) (size : length w′ ≡ length w)
+            (marks : (l : List ℕ) → Marked n l t w → Marked n (l ++ marksOf (v .at) d) t′ w′) where
           next : {here′ : ℕ} → here′ ≡ nextAt s here → Passed s at b n limit w₀ (i + 1) here′ t′ w′
           next {here′} q =
               let x : here - at + 12 + length d ≡ here′ - at = omega (arith, site-end own, k .low) in
@@ -133,6 +136,7 @@ module _ (s : List ℕ) (at : ℕ) (b : List ℕ) (n limit : ℕ) where
                     (subst (λ (p : Package). State s b o n (withPackage limit o (i + 2) p (foundIn limit o s at i)) t′ w′) package-is
                     (subst (λ (j : ℕ). State s b o n (withPackage limit o j (packageIn (v .id) d) (foundIn limit o s at i)) t′ w′) (ap (λ (x : Visit). x .block) e)
                     (state s o (foundIn limit o s at i) visited (k .state o l))));
+                marks = rw (marks-next s at i) (subst (λ (x : List ℕ). Marked n (marksIn s at i ++ x) t′ w′) marks-are (marks (marksIn s at i) (k .marks)));
               }
 
 few : {x m : ℕ} {t : Census} → Small x t → x ≤ m → m < 2 ^ 32 + 4 → (t .rows < 2 ^ 32) × (t .size < 2 ^ 60)
@@ -202,7 +206,7 @@ same-length c =
     let u = l .before .before .before .before in
     let s = u .before .before .before .before .before in
     let a = s .args in
-    c .before .before .before .before .before .scan-block .ensures .1 .1 .1 .1 .0
+    c .before .before .before .before .before .scan-block .ensures .1 .1 .1 .1 .0 .0
     ∙ (l .loop .inv .3 .size ∙ whole (a .c .now) (a .at) (a .s .now) (a .n) (a .limit) (a .w .now) (s .pre .1 .0) (u .clear .last .0) (u .clear .kept .0))
 
 returns : tie.Need-returns Inv-loop μ-loop
@@ -220,8 +224,8 @@ returns c =
         (
           λ t o z k. not-all z,
           (
-            e .1 .1 .1 .1 .0 ∙ (l .loop .inv .3 .size ∙ whole (a .c .now) (a .at) (a .s .now) (a .n) (a .limit) (a .w .now) (s .pre .1 .0) (u .clear .last .0) (u .clear .kept .0)),
-            (λ t z. not-all z, (e .1 .1 .1 .1 .1, e .1 .1 .1 .1 .2)),
+            e .1 .1 .1 .1 .0 .0 ∙ (l .loop .inv .3 .size ∙ whole (a .c .now) (a .at) (a .s .now) (a .n) (a .limit) (a .w .now) (s .pre .1 .0) (u .clear .last .0) (u .clear .kept .0)),
+            (λ t z. not-all z, ((e .1 .1 .1 .1 .0 .1, e .1 .1 .1 .1 .0 .2), λ t z. not-all z)),
           ),
         ),
       ),
@@ -251,10 +255,10 @@ loop-again c =
     let a = s .args in
     let h : l .i < a .count = omega (arith, x .before .before .loop-test) in (
       omega arith,
-      e .1 .1 .1 .1 .1,
-      e .1 .1 .1 .1 .2,
+      e .1 .1 .1 .1 .0 .1,
+      e .1 .1 .1 .1 .0 .2,
       next (a .c .now) (a .at) (a .s .now) (a .n) (a .limit) (l .inv .3) (s .pre .0 .0) h (x .block-at .ensures) (x .before .visit-at .ensures) (e .1 .0 _ m)
-          (λ c o f z k. e .1 .1 .0 _ c o f m z k) (λ y k. e .1 .1 .1 .0 _ y m k) (e .1 .1 .1 .1 .0) (c .next-at .ensures),
+          (λ c o f z k. e .1 .1 .0 _ c o f m z k) (λ y k. e .1 .1 .1 .0 _ y m k) (e .1 .1 .1 .1 .0 .0) (λ y k. e .1 .1 .1 .1 .1 _ y m k) (c .next-at .ensures),
     )
 
 same-length-2 : tie.Need-same-length-2 Inv-loop μ-loop
@@ -279,7 +283,7 @@ returns-2 c =
           λ t o z h. rw (← all-same z, ← n) (k .state o (front (a .c .now) (a .at) (a .s .now) (a .n) (a .limit) (a .w .now) (s .pre .1 .0) (u .clear .last .0) h)),
           (
             k .size ∙ whole (a .c .now) (a .at) (a .s .now) (a .n) (a .limit) (a .w .now) (s .pre .1 .0) (u .clear .last .0) (u .clear .kept .0),
-            (λ t z. rw (← all-same z) (few (k .small) (k .high) (s .pre .0 .2)), (l .inv .1, l .inv .2)),
+            (λ t z. rw (← all-same z) (few (k .small) (k .high) (s .pre .0 .2)), ((l .inv .1, l .inv .2), λ t z. rw (← all-same z, ← n) (k .marks))),
           ),
         ),
       ),
