@@ -1,13 +1,14 @@
 -- Lemmas for the id of a name: its units one by one, their bytes as they are written, and the turns of the hash over them. Assumes nothing.
 use mathlib.Core.Path.{_≡_, refl, sym, _∙_, ap}
-use mathlib.Core.Bool.{Bool, true, false}
+use mathlib.Core.Bool.{Bool, true, false, not, _&&_, and-eq-true-iff}
 use mathlib.Core.List.{List, [], _∷_, _++_, append-assoc, append-nil}
 use mathlib.Core.Logic.{_⊎_, inl, inr, by-cases}
 use Prim.Native.Nat.{ℕ, zero, suc, _+_, _*_, _-_, _/_, _%_, _≤_, _<_}
 use native.Mathlib.Numerals.{add-one}
 use native.Mathlib.Decide.{decLt}
 use native.Mathlib.Omega.{arith}
-use lib.Dec.{lit≤}
+use borrow.Author.Tests.{leb-true, not-true}
+use lib.Dec.{lit≤, leb, ltb}
 use lib.ListN.{length, set, getD, take, drop, length-append, length-take, length-drop, drop-of-length-le}
 use lib.Seq.{take-suc, take-all, take-add, take-append-le, take-append-add, drop-drop, drop-append-le, drop-append-add, getD-drop}
 use Rattle.base.specs.Number.{leAt}
@@ -16,7 +17,8 @@ use Rattle.base.specs.Output.{over, Wrote}
 use Rattle.base.specs.OutputLaws.{wrote-byte, wrote-as, wrote-count, wrote-taken, wrote-rest}
 use Rattle.text.specs.Utf16.{isWell, encode16, unitBytes}
 use Rattle.text.specs.Utf16Cases.{High, Low}
-use Rattle.text.specs.Name.{decoded, base}
+use Rattle.text.specs.Name.{decoded, base, rendered}
+use Rattle.text.specs.NameLaws.{suffix-none}
 use Rattle.lower.specs.Lower.{lowered}
 use Rattle.ids.specs.LowerLaws.{lowered-units, lowered-unit, narrow-units}
 use Rattle.city.specs.City.{turn, turns, start, finish, cityHash64}
@@ -25,7 +27,8 @@ use Rattle.city.specs.declared.city.State.{State}
 use Rattle.text.specs.Units.{unitsOf}
 use Rattle.ids.specs.LoweredUnits.{loweredUnit, nameUnits}
 use Rattle.text.specs.UnitsLaws.{base-units, unitsOf-narrow}
-use Rattle.ids.specs.IdLaws.{unitBytes-length, unitBytes-append, unitBytes-take, unitBytes-drop}
+use Rattle.ids.specs.Id.{idOf}
+use Rattle.ids.specs.IdLaws.{name-units, unitBytes-length, unitBytes-append, unitBytes-take, unitBytes-drop}
 
 module _ (wide : Bool) (part : List ℕ) (b : Bytes part) (w : isWell (decoded wide part) ≡ true) where
   -- lowering keeps the number of units
@@ -54,6 +57,26 @@ narrow-name e part b suffix = ap (λ (s : List ℕ). s ++ suffix) (narrow-is e p
 
 pub narrow-count : {wide : Bool} → wide ≡ false → (part : List ℕ) → length (unitsOf wide part) ≡ length part
 narrow-count {wide} e part = rw (e, unitsOf-narrow part)
+
+-- one letter and no suffix
+single : (part : List ℕ) → length part ≡ 1 → lowered part ≡ lowered (getD part 0 0 ∷ [])
+single [] e = absurd (omega arith)
+single (b ∷ []) e = refl
+single (b ∷ d ∷ part) e = absurd (omega arith)
+
+pub one-name : {wide : Bool} {number : ℕ} → wide ≡ false → number ≡ 0 → (part : List ℕ) → Bytes part → length part ≡ 1
+    → idOf (rendered wide part number) ≡ cityHash64 (unitBytes (lowered (getD part 0 0 ∷ [])))
+unfolding idOf
+one-name {wide} {number} w z part b l =
+    let e : lowered part ++ [] ≡ lowered (getD part 0 0 ∷ []) = rw append-nil (single part l) in
+    ap (λ (s : List ℕ). cityHash64 (unitBytes s))
+    (name-units (base wide part) number ∙ ap (nameUnits (base wide part)) (suffix-none z) ∙ narrow-name w part b [] ∙ e)
+
+-- what the test for a name that is put as a whole says
+pub middle-is : (wide : Bool) (count n : ℕ) → (not wide && (leb n 64 && ltb count n)) ≡ true → (wide ≡ false) × (n ≤ 64)
+middle-is wide count n e =
+    let p = and-eq-true-iff (not wide) (leb n 64 && ltb count n) .0 e in
+    (not-true wide (p .0), leb-true n 64 (and-eq-true-iff (leb n 64) (ltb count n) .0 (p .1) .0))
 
 -- the other of two numbers that it may be
 pub other : {r n m : ℕ} → (r ≡ n) ⊎ (r ≡ m) → r < n → r ≡ m

@@ -8,7 +8,7 @@ use native.Mathlib.Omega.{arith}
 use lib.ListN.{length, set, getD, take, drop, replicate, length-append, take-append-drop, List·getD-append}
 use lib.Seq.{length-take-le, getD-append-add, getD-drop}
 use Rattle.base.specs.Number.{leAt}
-use Rattle.base.specs.NumberLaws.{Bytes, leAt-part}
+use Rattle.base.specs.NumberLaws.{Bytes, leAt-part, leAt-add}
 use Rattle.base.specs.Output.{over, Wrote}
 use Rattle.base.specs.OutputLaws.{wrote-count}
 use Rattle.text.specs.Utf16.{unitBytes}
@@ -112,43 +112,58 @@ module _ (us : List ℕ) (i : ℕ) where
         no-word (unitBytes us) (2 * suc (suc (suc (suc i)))),
       ))
 
--- ---- the hash of the first n units
+  -- a word is two half words
+  pub word-halves : (j k : ℕ) → j ≡ i + 2 → k ≡ 2 * i → i + 4 ≤ length us
+      → leAt 8 (unitBytes us) k ≡ leAt 4 (unitBytes us) (2 * i) + leAt 4 (unitBytes us) (2 * j) * 2 ^ 32
+  word-halves j k e f h =
+      let d : 2 * (i + 2) ≡ 2 * i + 4 = omega arith in
+      rw (e, f, d) (omega (arith, leAt-add 4 4 (unitBytes us) (2 * i) (omega (arith, unitBytes-length us))))
 
-first-units : (us : List ℕ) → 1 ≤ length us → unitBytes (take 1 us) ≡ getD us 0 0 % 256 ∷ getD us 0 0 / 256 ∷ []
-first-units [] h = absurd (omega arith)
-first-units (u ∷ us) h = refl
+-- ---- the hash of n units
+
+one-is : (us : List ℕ) → 1 ≡ length us
+    → cityHash64 (unitBytes us) ≡ hashBytes 2 (getD us 0 0 % 256) (getD us 0 0 / 256) (getD us 0 0 / 256)
+one-is [] h = absurd (omega arith)
+one-is (u ∷ []) h = bytes-is (u % 256 ∷ u / 256 ∷ []) 2 refl (omega arith) (omega arith)
+one-is (u ∷ v ∷ us) h = absurd (omega arith)
+
+module _ (us : List ℕ) (n : ℕ) (h : n ≡ length us) where
+  size : length (unitBytes us) ≡ 2 * n
+  size = unitBytes-length us ∙ ap (λ (k : ℕ). 2 * k) (sym h)
+
+  pub units-none : n ≡ 0 → cityHash64 (unitBytes us) ≡ k2
+  units-none e = none-is (unitBytes us) (2 * n) size (omega arith)
+
+  pub units-one : n ≡ 1 → cityHash64 (unitBytes us) ≡ hashBytes 2 (getD us 0 0 % 256) (getD us 0 0 / 256) (getD us 0 0 / 256)
+  units-one e = one-is us (sym e ∙ h)
+
+  pub units-halves : 2 ≤ n → n < 4 → cityHash64 (unitBytes us) ≡ hashHalves (2 * n) (leAt 4 (unitBytes us) 0) (leAt 4 (unitBytes us) (2 * (n - 2)))
+  units-halves a b =
+      let e : 2 * n - 4 ≡ 2 * (n - 2) = omega arith in
+      halves-is (unitBytes us) (2 * n) size (omega arith) (omega arith) ∙ rw e
+
+  pub units-two : 4 ≤ n → n ≤ 8
+      → cityHash64 (unitBytes us)
+      ≡ hashTwo (2 * n) (leAt 4 (unitBytes us) 0 + leAt 4 (unitBytes us) 4 * 2 ^ 32) (leAt 4 (unitBytes us) (2 * (n - 4)) + leAt 4 (unitBytes us) (2 * (n - 2)) * 2 ^ 32)
+  units-two a b =
+      two-is (unitBytes us) (2 * n) size (omega arith) (omega arith)
+      ∙ rw (word-halves us 0 2 0 refl refl (omega arith), word-halves us (n - 4) (n - 2) (2 * n - 8) (omega arith) (omega arith) (omega arith))
+
+-- ---- the hash of the first n of some units
 
 module _ (us : List ℕ) (n : ℕ) (h : n ≤ length us) where
-  size : length (unitBytes (take n us)) ≡ 2 * n
-  size = unitBytes-length (take n us) ∙ ap (λ (k : ℕ). 2 * k) (length-take-le n us h)
+  size-first : length (unitBytes (take n us)) ≡ 2 * n
+  size-first = unitBytes-length (take n us) ∙ ap (λ (k : ℕ). 2 * k) (length-take-le n us h)
 
   -- a number that stands in their bytes
   front : (k i j : ℕ) → j ≡ 2 * i → 2 * i + k ≤ 2 * n → leAt k (unitBytes (take n us)) j ≡ leAt k (unitBytes us) (2 * i)
   front k i j e l = rw (e, unitBytes-take n us) (leAt-part k 0 (2 * n) (unitBytes us) (2 * i) l ∙ ap (leAt k (unitBytes us)) (zero-add (2 * i)))
 
-  pub units-none : n ≡ 0 → cityHash64 (unitBytes (take n us)) ≡ k2
-  units-none e = none-is (unitBytes (take n us)) (2 * n) size (omega arith)
-
-  pub units-one : n ≡ 1 → cityHash64 (unitBytes (take n us)) ≡ hashBytes 2 (getD us 0 0 % 256) (getD us 0 0 / 256) (getD us 0 0 / 256)
-  units-one e = rw (e, first-units us (omega arith)) (bytes-is (getD us 0 0 % 256 ∷ getD us 0 0 / 256 ∷ []) 2 refl (omega arith) (omega arith))
-
-  pub units-halves : 2 ≤ n → n < 4
-      → cityHash64 (unitBytes (take n us)) ≡ hashHalves (2 * n) (leAt 4 (unitBytes us) 0) (leAt 4 (unitBytes us) (2 * (n - 2)))
-  units-halves a b =
-      halves-is (unitBytes (take n us)) (2 * n) size (omega arith) (omega arith)
-      ∙ rw (front 4 0 0 refl (omega arith), front 4 (n - 2) (2 * n - 4) (omega arith) (omega arith))
-
-  pub units-two : 4 ≤ n → n ≤ 8
-      → cityHash64 (unitBytes (take n us)) ≡ hashTwo (2 * n) (leAt 8 (unitBytes us) 0) (leAt 8 (unitBytes us) (2 * (n - 4)))
-  units-two a b =
-      two-is (unitBytes (take n us)) (2 * n) size (omega arith) (omega arith)
-      ∙ rw (front 8 0 0 refl (omega arith), front 8 (n - 4) (2 * n - 8) (omega arith) (omega arith))
-
   pub units-four : 8 < n → n ≤ 16
       → cityHash64 (unitBytes (take n us))
       ≡ hashFour (2 * n) (leAt 8 (unitBytes us) 0) (leAt 8 (unitBytes us) 8) (leAt 8 (unitBytes us) (2 * (n - 4))) (leAt 8 (unitBytes us) (2 * (n - 8)))
   units-four a b =
-      four-is (unitBytes (take n us)) (2 * n) size (omega arith) (omega arith)
+      four-is (unitBytes (take n us)) (2 * n) size-first (omega arith) (omega arith)
       ∙ rw (
         front 8 0 0 refl (omega arith),
         front 8 4 8 refl (omega arith),

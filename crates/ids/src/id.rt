@@ -1,10 +1,11 @@
-// The id of a name: CityHash64 of its lowered UTF-16LE form. The text stands nowhere in one piece: its units are read
+// The id of a name: CityHash64 of its lowered UTF-16LE form. A long text stands nowhere in one piece: its units are read
 // from the block and the suffix as the hash asks for them, 64 bytes at a time.
 ghost use mathlib.Core.Path.{_≡_};
-ghost use mathlib.Core.Bool.{true};
+ghost use mathlib.Core.Bool.{true, not, _&&_};
 ghost use mathlib.Core.List.{_++_};
 ghost use mathlib.Core.Logic.{_⊎_};
 ghost use Prim.Native.Nat.{_+_, _-_, _*_, _^_, _≤_, _<_};
+ghost use lib.Dec.{leb, ltb};
 ghost use lib.ListN.{length, take, drop};
 ghost use Rattle.lower.specs.Lower.{lowered};
 ghost use Rattle.base.specs.Number.{leAt};
@@ -15,6 +16,7 @@ ghost use Rattle.city.specs.City.{cityHash64};
 ghost use Rattle.text.specs.Units.{unitsOf};
 ghost use Rattle.ids.specs.LoweredUnits.{nameUnits};
 ghost use Rattle.ids.specs.Id.{idOf};
+use super::short::one_hash;
 use super::short::one_unit;
 use super::short::short_hash;
 use super::wide::put_wide;
@@ -186,7 +188,7 @@ fn put_end(out: &mut [u8], part: &[u8], suffix: &[u8], from: usize, n: usize)
     }
 }
 
-// Whether a name of one-byte text is hashed by words: where it has few units, or a base of four to seven, which has no eight to lower at once.
+// Whether a name of one-byte text is hashed by words: where it has few units, or up to 16 and a base that has no eight to lower at once.
 fn by_words(count: usize, n: usize) -> bool
     ensures { λ r. ⌜ (r ≡ true → n ≤ 16) ⌝ }
 {
@@ -196,7 +198,7 @@ fn by_words(count: usize, n: usize) -> bool
     if 16 < n {
         return false;
     }
-    (4 <= count) & (count < 8)
+    count < 8
 }
 
 // CityHash64 of a lowered name of one-byte text that has up to 32 units. Eights of its base are lowered at once.
@@ -218,6 +220,20 @@ fn narrow_hash(part: &[u8], suffix: &[u8], n: usize) -> u64
     hash_len33up(&chunk[..size])
 }
 
+// CityHash64 of a lowered name of one-byte text that has 33 to 64 units, put once and as a whole: `long_hash` would put the end of a name with a
+// number twice.
+fn middle_hash(part: &[u8], suffix: &[u8], n: usize) -> u64
+    requires { ⌜ (n ≡ length (now part) + length (now suffix)) × (32 < n) × (n ≤ 64) ⌝ }
+    ensures { λ r. ⌜ r ≡ cityHash64 (unitBytes (lowered (now (part .entry)) ++ now (suffix .entry))) ⌝ }
+{
+    let mut chunk = [0u8; 128];
+    let k = part.len() / 8 * 8;
+    put_narrow(&mut chunk, part, 0, k);
+    put_end(&mut chunk, part, suffix, k, n);
+    let size = 2 * n;
+    hash_len33up(&chunk[..size])
+}
+
 // CityHash64 of a lowered name of wide text that has up to 32 units.
 fn wide_hash(part: &[u8], suffix: &[u8], n: usize) -> u64
     requires { ⌜ (isWell (decoded true (now part)) ≡ true) × (n ≡ length (nameUnits (base true (now part)) (now suffix))) × (n ≤ 32) ⌝ }
@@ -231,26 +247,46 @@ fn wide_hash(part: &[u8], suffix: &[u8], n: usize) -> u64
     hash_len33up(&chunk[..size])
 }
 
+// Whether a name of more than 32 units is put as a whole: one-byte text with a number, up to 64 units of it.
+fn is_middle(count: usize, wide: bool, n: usize) -> bool
+    ensures { λ r. ⌜ r ≡ (not wide && (leb n 64 && ltb count n)) ⌝ }
+{
+    let narrow = !wide;
+    let fits = n <= 64;
+    let more = count < n;
+    narrow & (fits & more)
+}
+
 // CityHash64 of a lowered name.
 fn units_hash(part: &[u8], wide: bool, suffix: &[u8]) -> u64
     requires { ⌜ (isWell (decoded wide (now part)) ≡ true) × (length (now part) < 2 ^ 32) × (length (now suffix) < 2 ^ 32) ⌝ }
     ensures { λ r. ⌜ r ≡ cityHash64 (unitBytes (nameUnits (base wide (now (part .entry))) (now (suffix .entry)))) ⌝ }
 {
     let n = unit_count(part, wide) + suffix.len();
-    if 32 < n {
-        return long_hash(part, wide, suffix, n);
+    if n <= 32 {
+        if wide {
+            return wide_hash(part, suffix, n);
+        }
+        return narrow_hash(part, suffix, n);
     }
-    if wide {
-        return wide_hash(part, suffix, n);
+    if is_middle(part.len(), wide, n) {
+        return middle_hash(part, suffix, n);
     }
-    narrow_hash(part, suffix, n)
+    long_hash(part, wide, suffix, n)
 }
 
-// The id of a name.
+// The id of a name. One letter is hashed before anything is laid out for more.
 pub fn name_id(part: &[u8], wide: bool, number: u32) -> u64
     requires { ⌜ (isWell (decoded wide (now part)) ≡ true) × (length (now part) < 2 ^ 32) ⌝ }
     ensures { λ r. ⌜ r ≡ idOf (rendered wide (now (part .entry)) number) ⌝ }
 {
+    if part.len() == 1 {
+        if !wide {
+            if number == 0 {
+                return one_hash(part[0]);
+            }
+        }
+    }
     let mut suffix = [0u8; 24];
     let n = put_suffix(&mut suffix, number);
     units_hash(part, wide, &suffix[..n])

@@ -1,4 +1,4 @@
--- `id::units_hash`: more than 32 units are hashed by `long_hash`, fewer by the width of the text. Assumes nothing.
+-- `id::units_hash`: up to 32 units are hashed by the width of the text, more as a whole or by `long_hash`. Assumes nothing.
 use mathlib.Core.Path.{_≡_, sym, _∙_, ap}
 use mathlib.Core.List.{List}
 use Prim.Native.Nat.{ℕ, _+_}
@@ -11,7 +11,7 @@ use Rattle.text.specs.Name.{base}
 use Rattle.text.specs.Units.{unitsOf}
 use Rattle.ids.specs.LoweredUnits.{nameUnits}
 use Rattle.text.specs.UnitsLaws.{unitsOf-bound}
-use Rattle.ids.proofs.NameUnits.{name-length, narrow-name, narrow-count}
+use Rattle.ids.proofs.NameUnits.{name-length, narrow-name, narrow-count, middle-is}
 use Rattle.ids.proofs.id.units_hash.Statement.{statement}
 use Rattle.ids.proofs.id.units_hash.Tie as tie
 
@@ -33,16 +33,6 @@ add-n c =
     let k = c .before .before in
     omega (arith, count k, unitsOf-bound (k .before .args .wide) (k .before .args .part .now))
 
-long-hash-requires : tie.Need-long-hash-requires
-long-hash-requires c κs =
-    let k = c .before .before .before in
-    let n = count k in
-    let l = unitsOf-bound (k .before .args .wide) (k .before .args .part .now) in
-    (search needs, omega arith, omega arith, omega arith)
-
-returns : tie.Need-returns
-returns c = search needs
-
 wide-hash-requires : tie.Need-wide-hash-requires
 wide-hash-requires c κs =
     let k = c .before .before .before .before in
@@ -50,18 +40,48 @@ wide-hash-requires c κs =
     let t = c .if2 .taken in
     (rw t at (k .before .pre .0), rw t at e, search needs)
 
-returns-2 : tie.Need-returns-2
-returns-2 c = rw (c .before .if2 .taken) (c .wide-hash .ensures)
+returns : tie.Need-returns
+returns c = rw (c .before .if2 .taken) (c .wide-hash .ensures)
 
 narrow-hash-requires : tie.Need-narrow-hash-requires
 narrow-hash-requires c κs = (omega (arith, narrow-count (c .if2 .left) (c .before .before .before .before .before .args .part .now)), search needs)
 
-returns-3 : tie.Need-returns-3
-returns-3 c =
+returns-2 : tie.Need-returns-2
+returns-2 c =
     let k = c .before .before .before .before .before in
     c .narrow-hash .ensures
     ∙ ap (λ (s : List ℕ). cityHash64 (unitBytes s))
     (sym (narrow-name (c .before .if2 .left) (k .before .args .part .now) (λ j. k .shared-slice-known .given j .fits) (k .before .args .suffix .now)))
+
+is-middle-requires : tie.Need-is-middle-requires
+is-middle-requires c κs = search needs
+
+middle-hash-requires : tie.Need-middle-hash-requires
+middle-hash-requires c κs =
+    let a = c .before .before .before .before .before .before .args in
+    let n = c .before .before .before .unit-count .result + length (a .suffix .now) in
+    let m = middle-is (a .wide) (length (a .part .now)) n (sym (c .before .is-middle .ensures) ∙ c .if3 .taken) in
+    (omega (arith, narrow-count (m .0) (a .part .now)), search needs, m .1)
+
+returns-3 : tie.Need-returns-3
+returns-3 c =
+    let k = c .before .before .before .before .before .before in
+    let a = k .before .args in
+    let n = c .before .before .before .before .unit-count .result + length (a .suffix .now) in
+    let m = middle-is (a .wide) (length (a .part .now)) n (sym (c .before .before .is-middle .ensures) ∙ c .before .if3 .taken) in
+    c .middle-hash .ensures
+    ∙ ap (λ (s : List ℕ). cityHash64 (unitBytes s))
+    (sym (narrow-name (m .0) (a .part .now) (λ j. k .shared-slice-known .given j .fits) (a .suffix .now)))
+
+long-hash-requires : tie.Need-long-hash-requires
+long-hash-requires c κs =
+    let k = c .before .before .before .before .before in
+    let n = count k in
+    let l = unitsOf-bound (k .before .args .wide) (k .before .args .part .now) in
+    (search needs, omega arith, omega arith, omega arith)
+
+returns-4 : tie.Need-returns-4
+returns-4 c = search needs
 
 pub units-hash-spec : {M : Type 1} → statement M
 units-hash-spec =
@@ -69,9 +89,12 @@ units-hash-spec =
     (tie.spec
     unit-count-requires
     add-n
-    long-hash-requires
-    returns
     wide-hash-requires
-    returns-2
+    returns
     narrow-hash-requires
-    returns-3)
+    returns-2
+    is-middle-requires
+    middle-hash-requires
+    returns-3
+    long-hash-requires
+    returns-4)

@@ -1,8 +1,10 @@
 -- `short::tiny_hash`: no unit, one by its bytes, or two or three by their first and last two. Assumes nothing.
 use mathlib.Core.Path.{sym, _∙_}
+use mathlib.Core.List.{_++_}
 use native.Mathlib.Omega.{arith}
 use borrow.Author.Needs.{needs}
-use Rattle.ids.proofs.ShortUnits.{units-none, units-one, units-halves}
+use Rattle.lower.specs.Lower.{lowered}
+use Rattle.ids.proofs.ShortUnits.{narrow-length, units-none, units-one, units-halves}
 use Rattle.ids.proofs.short.tiny_hash.Statement.{statement}
 use Rattle.ids.proofs.short.tiny_hash.Tie as tie
 
@@ -11,14 +13,16 @@ hash-len0-requires c κs = search needs
 
 returns : tie.Need-returns
 returns c =
-    let s = c .before .before .before in
-    c .hash-len0 .ensures ∙ sym (units-none (s .args .units .now) (s .args .n) (s .pre .1) (c .before .if1 .taken))
+    let s = c .before .before .before .before in
+    let us = lowered (s .args .part .now) ++ s .args .suffix .now in
+    let h = s .pre .0 ∙ sym (narrow-length (s .args .part .now) (s .args .suffix .now)) in
+    c .hash-len0 .ensures ∙ sym (units-none us (s .args .n) h (c .before .if1 .taken))
 
-shared-slice-read-u : tie.Need-shared-slice-read-u
-shared-slice-read-u c = search needs
+one-unit-requires : tie.Need-one-unit-requires
+one-unit-requires c κs = search needs
 
 cast-high : tie.Need-cast-high
-cast-high c = omega (arith, c .before .before .before .before .pre .2 0)
+cast-high c = search needs
 
 cast-hash-bytes : tie.Need-cast-hash-bytes
 cast-hash-bytes c = search needs
@@ -28,29 +32,33 @@ hash-bytes-requires c κs = search needs
 
 returns-2 : tie.Need-returns-2
 returns-2 c =
-    let s = c .before .before .before .before .before in
-    c .hash-bytes .ensures ∙ sym (units-one (s .args .units .now) (s .args .n) (s .pre .1) (c .before .before .if2 .taken))
+    let s = c .before .before .before .before .before .before in
+    let us = lowered (s .args .part .now) ++ s .args .suffix .now in
+    let h = s .pre .0 ∙ sym (narrow-length (s .args .part .now) (s .args .suffix .now)) in
+    rw (c .hash-bytes .ensures, c .before .one-unit .ensures .0) (sym (units-one us (s .args .n) h (c .before .before .if2 .taken)))
 
 mul-hash-halves : tie.Need-mul-hash-halves
 mul-hash-halves c = search needs
 
-pair-in-requires : tie.Need-pair-in-requires
-pair-in-requires c κs = search needs
+pair-at-requires : tie.Need-pair-at-requires
+pair-at-requires c κs = search needs
 
-sub-pair-in : tie.Need-sub-pair-in
-sub-pair-in c = search needs
+sub-pair-at : tie.Need-sub-pair-at
+sub-pair-at c = search needs
 
-pair-in-requires-2 : tie.Need-pair-in-requires-2
-pair-in-requires-2 c κs = search needs
+pair-at-requires-2 : tie.Need-pair-at-requires-2
+pair-at-requires-2 c κs = search needs
 
 hash-halves-requires : tie.Need-hash-halves-requires
 hash-halves-requires c κs = search needs
 
 returns-3 : tie.Need-returns-3
 returns-3 c =
-    let s = c .before .before .before .before .before .before in
-    rw (c .hash-halves .ensures, c .before .before .pair-in .ensures, c .before .pair-in2 .ensures)
-    (sym (units-halves (s .args .units .now) (s .args .n) (s .pre .1) (omega arith) (s .pre .0)))
+    let s = c .before .before .before .before .before .before .before in
+    let us = lowered (s .args .part .now) ++ s .args .suffix .now in
+    let h = s .pre .0 ∙ sym (narrow-length (s .args .part .now) (s .args .suffix .now)) in
+    rw (c .hash-halves .ensures, c .before .before .pair-at .ensures, c .before .pair-at2 .ensures)
+    (sym (units-halves us (s .args .n) h (omega arith) (s .pre .1)))
 
 pub tiny-hash-spec : {M : Type 1} → statement M
 tiny-hash-spec =
@@ -58,14 +66,14 @@ tiny-hash-spec =
     (tie.spec
     hash-len0-requires
     returns
-    shared-slice-read-u
+    one-unit-requires
     cast-high
     cast-hash-bytes
     hash-bytes-requires
     returns-2
     mul-hash-halves
-    pair-in-requires
-    sub-pair-in
-    pair-in-requires-2
+    pair-at-requires
+    sub-pair-at
+    pair-at-requires-2
     hash-halves-requires
     returns-3)
