@@ -17,6 +17,11 @@ abbrev pub allRight : ℕ → List ℕ → Bool
 allRight z [] = true
 allRight z (b ∷ s) = not (wrong z b) && allRight b s
 
+-- the last byte, or the one before all
+abbrev pub lastByte : ℕ → List ℕ → ℕ
+lastByte before [] = before
+lastByte before (b ∷ s) = lastByte b s
+
 -- how many bytes end a character, of one byte or two
 abbrev pub ends : List ℕ → ℕ
 ends [] = 0

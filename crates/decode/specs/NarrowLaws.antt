@@ -29,8 +29,7 @@ use Rattle.decode.specs.LatinLaws.{low-append}
 use Rattle.decode.specs.Step.{added}
 use Rattle.decode.specs.StepLaws.{added-more}
 use Rattle.decode.specs.PlainLaws.{plain-measured}
-use Rattle.decode.specs.Narrow.{wrong, allRight, ends, Window}
-use Rattle.decode.specs.Tails.{lastByte}
+use Rattle.decode.specs.Narrow.{wrong, allRight, ends, Window, lastByte}
 
 -- two tests that both fail
 pub neither : (t u : Bool) → (t || u) ≡ false → (t ≡ false) × (u ≡ false)

@@ -1,42 +1,33 @@
--- Laws of text that fits Latin-1, by its bytes alone: the bytes that are kept are the text, and loops that store each byte and move on behind
--- those that are kept write them. Assumes nothing.
+-- Laws of text that fits Latin-1, by its bytes alone: the bytes that are kept are the text, and loops that store bytes, kept or not, and move on
+-- behind those that are write them. Assumes nothing.
 use mathlib.Core.Path.{_≡_, refl, sym, ap, _∙_}
-use mathlib.Core.Bool.{Bool, true, false, _&&_, and-eq-true-iff}
-use mathlib.Core.List.{List, [], _∷_, _++_, map, map-append, append-assoc, append-nil}
+use mathlib.Core.Bool.{Bool, true, false, cond, and-eq-true-iff}
+use mathlib.Core.List.{List, [], _∷_, _++_, append-assoc, append-nil}
 use mathlib.Core.Logic.{⊎-elim}
-use Prim.Native.Nat.{ℕ, suc, _+_, _/_, _%_, _≤_, _<_}
+use Prim.Native.Nat.{ℕ, _+_, _-_, _/_, _%_, _≤_, _<_}
+use native.Mathlib.Nat.{zero-add}
 use native.Mathlib.Numerals.{add-one}
 use native.Mathlib.Omega.{arith}
-use borrow.Author.Tests.{lt-ltb, le-ltb, ltb-true, ltb-false, eq-eqb, ne-eqb, eqb-true}
+use borrow.Author.Tests.{lt-ltb, le-ltb, ltb-true, ltb-false, eq-eqb, ne-eqb}
 use mir.Val.{boolByte}
-use lib.Bits.{bitAnd, bitOr, and-high, or-disjoint, or-zero-r}
+use lib.Bits.{bitOr, and-high, or-disjoint}
 use lib.Dec.{ltb}
-use lib.ListN.{length, set, take, drop, getD, length-append, length-set, length-map, drop-of-length-le}
-use lib.Seq.{take-suc, drop-cons, set-set, set-getD, set-at, getD-at, length-take-le}
+use lib.ListN.{length, set, take, drop, getD, length-set, take-append-drop, drop-of-length-le}
+use lib.Seq.{take-suc, drop-cons, take-set-le, drop-set-lt, getD-set-same, getD-set-other}
 use Rattle.base.specs.Choose.{lt-or-le}
 use Rattle.base.specs.Output.{over, Wrote}
-use Rattle.base.specs.OutputLaws.{wrote-none, wrote-as, wrote-byte, wrote-length, wrote-taken, drop-over}
 use Rattle.text.specs.Utf16.{isWell}
 use Rattle.text.specs.Utf8.{utf8One, utf8, fromUtf8}
 use Rattle.text.specs.Utf8Laws.{utf8-1, utf8-2, utf8-3, utf8-4, Sized, one, two, three, four, sized}
 use Rattle.decode.specs.ReadLaws.{utf8-encode}
 use Rattle.decode.specs.Chars.{Range}
 use Rattle.decode.specs.Measure.{textOf, fitsLatin1}
-use Rattle.decode.specs.Latin.{every}
-use Rattle.decode.specs.Tails.{kept, lastByte, raised, itself, lifted, accented}
+use Rattle.decode.specs.Tails.{raised, kept, Tailed, Filling, picked, ran, Paired}
 
 -- ---- the bits of a byte
 
 tail-raised : (b : ℕ) → Range 0x80 0xBF b → bitOr b 0x40 ≡ b + 0x40
 tail-raised b h = let e : b / 64 ≡ 2 = omega arith in or-disjoint b 0x40 (and-high b 1 6 ∙ rw e)
-
-lifted-ascii : (b : ℕ) → b < 0x80 → lifted b ≡ b
-unfolding lifted
-lifted-ascii b h = let e : b / 2 / 64 ≡ 0 = omega arith in rw (and-high (b / 2) 1 6, e) (or-zero-r b)
-
-lifted-tail : (b : ℕ) → Range 0x80 0xBF b → lifted b ≡ b + 0x40
-unfolding lifted
-lifted-tail b h = let e : b / 2 / 64 ≡ 1 = omega arith in rw (and-high (b / 2) 1 6, e) (tail-raised b h)
 
 raised-not : (before b : ℕ) → before < 0xC3 → raised before b ≡ b
 unfolding raised
@@ -53,206 +44,268 @@ raised-two c l h =
 
 -- ---- the bytes that are kept
 
-module _ (f : ℕ → ℕ → ℕ) where
-  kept-low : (before b : ℕ) (s : List ℕ) → b < 0xC0 → kept f before (b ∷ s) ≡ f before b ∷ kept f b s
-  kept-low before b s h = rw (lt-ltb b 0xC0 h)
+kept-low : (before b : ℕ) (s : List ℕ) → b < 0xC0 → kept before (b ∷ s) ≡ raised before b ∷ kept b s
+kept-low before b s h = rw (lt-ltb b 0xC0 h)
 
-  kept-high : (before b : ℕ) (s : List ℕ) → 0xC0 ≤ b → kept f before (b ∷ s) ≡ kept f b s
-  kept-high before b s h = rw (le-ltb b 0xC0 h)
+kept-high : (before b : ℕ) (s : List ℕ) → 0xC0 ≤ b → kept before (b ∷ s) ≡ kept b s
+kept-high before b s h = rw (le-ltb b 0xC0 h)
 
-  -- where the last one is kept some are
-  kept-some : (before b : ℕ) (s : List ℕ) → lastByte b s < 0xC0 → 1 ≤ length (kept f before (b ∷ s))
-  kept-some before b [] h = rw (kept-low before b [] h) (omega arith)
-  kept-some before b (x ∷ s) h =
-      ⊎-elim (λ (l : b < 0xC0). rw (kept-low before b (x ∷ s) l) (omega arith))
-      (λ (l : 0xC0 ≤ b). rw (kept-high before b (x ∷ s) l) (kept-some b x s h)) (lt-or-le b 0xC0)
+-- where bytes are left some are kept, and where three are left, two
+kept-some : (before b : ℕ) (s : List ℕ) → Tailed before (b ∷ s) → 1 ≤ length (kept before (b ∷ s))
+kept-some before b [] h = rw (kept-low before b [] (h .1)) (omega arith)
+kept-some before b (x ∷ s) h =
+    ⊎-elim (λ (l : b < 0xC0). rw (kept-low before b (x ∷ s) l) (omega arith))
+    (λ (l : 0xC0 ≤ b). rw (kept-high before b (x ∷ s) l) (kept-some b x s (h .1))) (lt-or-le b 0xC0)
 
--- ---- loops that store each byte
+kept-two : (before b c d : ℕ) (s : List ℕ) → Tailed before (b ∷ c ∷ d ∷ s) → 2 ≤ length (kept before (b ∷ c ∷ d ∷ s))
+kept-two before b c d s h =
+    ⊎-elim (λ (l : b < 0xC0). rw (kept-low before b (c ∷ d ∷ s) l) (omega (arith, kept-some b c (d ∷ s) (h .1))))
+    (λ (l : 0xC0 ≤ b). rw (kept-high before b (c ∷ d ∷ s) l, kept-low b c (d ∷ s) (h .1 .0 l)) (omega (arith, kept-some c d s (h .1 .1)))) (lt-or-le b 0xC0)
 
--- the buffer old is now o: of the bytes of s that are kept, the n before place i are written to its front; where the byte before i is not kept,
--- a stray one stands behind them
-pub record Keeping (f : ℕ → ℕ → ℕ) (old s o : List ℕ) (i n before : ℕ) : Type 0 where
-  pub done : List ℕ
-  pub clean : List ℕ
-  pub stray : ℕ
-  pub wrote : Wrote old done clean n
-  pub is : done ++ kept f before (drop i s) ≡ kept f 0 s
-  pub ends : lastByte before (drop i s) < 0xC0
-  pub stored : o ≡ set clean n stray
-  pub alone : before < 0xC0 → o ≡ clean
+-- ---- loops that store bytes
 
-pub keeping-none : (f : ℕ → ℕ → ℕ) (old s : List ℕ) → lastByte 0 s < 0xC0 → Keeping f old s old 0 0 0
-keeping-none f old s h = record {
-  done = [];
-  clean = old;
-  stray = getD old 0 0;
-  wrote = wrote-none old;
-  is = refl;
-  ends = h;
-  stored = sym (set-getD old 0 0);
-  alone = λ l. refl;
+pub filling-none : (old s : List ℕ) → Tailed 0 s → length (kept 0 s) ≤ length old → Filling old s old 0 0 0
+filling-none old s h r = record { is = refl; size = omega arith; room = r; same = refl; rest = refl; ends = h }
+
+-- from there on as a beginning of its own, and what follows put behind it
+pub filling-here : {old s o : List ℕ} {i n before : ℕ} → Filling old s o i n before → Filling o s o i n before
+filling-here k = record { is = k .is; size = k .size; room = omega (arith, k .room, k .same); same = refl; rest = refl; ends = k .ends }
+
+pub filling-then : {old s o p : List ℕ} {i n before j m last : ℕ} → Filling old s o i n before → Filling o s p j m last → Filling old s p j m last
+filling-then k l = record { is = l .is; size = l .size; room = k .room; same = l .same ∙ k .same; rest = l .rest ∙ k .rest; ends = l .ends }
+
+pub filling-wrote : {old s o p : List ℕ} {i n before m : ℕ} → Filling old s o i n before → Wrote o (kept 0 s) p m → Wrote old (kept 0 s) p m
+unfolding over
+filling-wrote k w = record { size = w .size; fits = omega (arith, w .size, k .room); is = w .is ∙ rw (k .rest) }
+
+pub filling-all : {old s o : List ℕ} {i n before : ℕ} → Filling old s o i n before → length s ≤ i → Wrote old (kept 0 s) o n
+unfolding over
+filling-all {old} {s} {o} {i} {n} k h =
+    let d = drop-of-length-le s h in
+    let t : take n o ≡ kept 0 s = sym (append-nil (take n o)) ∙ rw d at (k .is) in
+    let z : n + 0 ≡ length (kept 0 s) = rw d at (k .size) in
+    let e : n ≡ length (kept 0 s) = omega arith in
+    record {
+      size = e;
+      fits = omega (arith, k .room);
+      is = sym (take-append-drop n o) ∙ rw (t, e, k .rest);
+    }
+
+-- a byte is stored where what stands there doesn't matter
+filling-store : {old s o : List ℕ} {i n before : ℕ} → Filling old s o i n before → (m v : ℕ) → n ≤ m → m < length (kept 0 s)
+    → Filling old s (set o m v) i n before
+filling-store {old} {s} {o} {i} {n} k m v h l = record {
+  is = rw (take-set-le n o m v h) (k .is);
+  size = k .size;
+  room = k .room;
+  same = length-set o m v ∙ k .same;
+  rest = drop-set-lt (length (kept 0 s)) o m v l ∙ k .rest;
+  ends = k .ends;
 }
 
-pub keeping-length : {f : ℕ → ℕ → ℕ} {old s o : List ℕ} {i n before : ℕ} → Keeping f old s o i n before → length o ≡ length old
-keeping-length {n = n} k = ap length (k .stored) ∙ length-set (k .clean) n (k .stray) ∙ wrote-length (k .wrote)
-
-pub keeping-all : {f : ℕ → ℕ → ℕ} {old s o : List ℕ} {i n before : ℕ} → Keeping f old s o i n before → length s ≤ i → Wrote old (kept f 0 s) o n
-keeping-all {s = s} k h =
-    let d = drop-of-length-le s h in
-    rw (k .alone (rw d at (k .ends))) (wrote-as (k .wrote) (sym (append-nil (k .done)) ∙ rw d at (k .is)))
-
-module _ {f : ℕ → ℕ → ℕ} {old s o : List ℕ} {i n before : ℕ} (k : Keeping f old s o i n before) (h : i < length s) where
+module _ {old s o : List ℕ} {i n before : ℕ} (k : Filling old s o i n before) (h : i < length s) where
   here : drop i s ≡ getD s i 0 ∷ drop (i + 1) s
   here = rw (add-one i) (drop-cons s i 0 h)
 
-  left : k .done ++ kept f before (getD s i 0 ∷ drop (i + 1) s) ≡ kept f 0 s
+  left : take n o ++ kept before (getD s i 0 ∷ drop (i + 1) s) ≡ kept 0 s
   left = rw here at (k .is)
 
-  ending : lastByte (getD s i 0) (drop (i + 1) s) < 0xC0
+  count : n + length (kept before (getD s i 0 ∷ drop (i + 1) s)) ≡ length (kept 0 s)
+  count = rw here at (k .size)
+
+  ending : Tailed before (getD s i 0 ∷ drop (i + 1) s)
   ending = rw here at (k .ends)
 
   -- there is room for each byte, kept or not
-  pub keeping-room : length (kept f 0 s) ≤ length old → n < length old
-  keeping-room room =
+  pub filling-room : n < length (kept 0 s)
+  filling-room = omega (arith, kept-some before (getD s i 0) (drop (i + 1) s) ending, count)
+
+  -- past a byte that is kept, where it is stored, and past one that is not
+  filling-low : getD s i 0 < 0xC0 → getD o n 0 ≡ raised before (getD s i 0) → Filling old s o (i + 1) (n + 1) (getD s i 0)
+  filling-low l e =
+      let b = getD s i 0 in
+      let r = drop (i + 1) s in
+      let g = kept-low before b r l in
+      let z : n + length (raised before b ∷ kept b r) ≡ length (kept 0 s) = rw g at count in
+      let f : n < length o = omega (arith, filling-room, k .room, k .same) in
+      record {
+        is = rw (add-one n, take-suc o n 0 f, e) (append-assoc (take n o) (raised before b ∷ []) (kept b r) ∙ rw g at left);
+        size = omega (arith, z);
+        room = k .room;
+        same = k .same;
+        rest = k .rest;
+        ends = ending .1;
+      }
+
+  filling-high : 0xC0 ≤ getD s i 0 → Filling old s o (i + 1) n (getD s i 0)
+  filling-high l =
+      let g = kept-high before (getD s i 0) (drop (i + 1) s) l in
+      record { is = rw g at left; size = rw g at count; room = k .room; same = k .same; rest = k .rest; ends = ending .1 }
+
+-- a byte is stored, and passed
+module _ {old s o : List ℕ} {i n before : ℕ} (k : Filling old s o i n before) (h : i < length s) where
+  pub filling-byte : Filling old s (set o n (raised before (getD s i 0))) (i + 1) (n + boolByte (ltb (getD s i 0) 0xC0)) (getD s i 0)
+  filling-byte = go (ltb (getD s i 0) 0xC0) refl
+    where
+      v : ℕ
+      v = raised before (getD s i 0)
+
+      f : Filling old s (set o n v) i n before
+      f = filling-store k n v (omega arith) (filling-room k h)
+
+      go : (t : Bool) → ltb (getD s i 0) 0xC0 ≡ t → Filling old s (set o n v) (i + 1) (n + boolByte t) (getD s i 0)
+      go true e =
+          let l : n < length o = omega (arith, filling-room k h, k .room, k .same) in
+          filling-low f h (ltb-true (getD s i 0) 0xC0 e) (getD-set-same o n v 0 l)
+      go false e = let z : n + 0 ≡ n = omega arith in rw z (filling-high f h (ltb-false (getD s i 0) 0xC0 e))
+
+-- the first of all
+filling-first : (old s : List ℕ) → Tailed 0 s → length (kept 0 s) ≤ length old → 0 < length s
+    → Filling old s (set old 0 (getD s 0 0)) 1 (boolByte (ltb (getD s 0 0) 0xC0)) (getD s 0 0)
+filling-first old s t r h =
+    rw (zero-add (boolByte (ltb (getD s 0 0) 0xC0)), raised-not 0 (getD s 0 0) (omega arith)) at (filling-byte (filling-none old s t r) h)
+
+-- two bytes are stored, and passed
+module _ {old s o : List ℕ} {i n before : ℕ} (k : Filling old s o i n before) (h : i + 2 < length s) where
+  next-three : drop i s ≡ getD s i 0 ∷ getD s (i + 1) 0 ∷ getD s (i + 2) 0 ∷ drop (i + 3) s
+  next-three =
+      let e : i + 1 + 1 ≡ i + 2 = omega arith in
+      let f : i + 2 + 1 ≡ i + 3 = omega arith in
+      let p : drop i s ≡ getD s i 0 ∷ drop (i + 1) s = rw (add-one i) (drop-cons s i 0 (omega arith)) in
+      let q : drop (i + 1) s ≡ getD s (i + 1) 0 ∷ drop (i + 2) s = rw (← e, add-one (i + 1)) (drop-cons s (i + 1) 0 (omega arith)) in
+      let r : drop (i + 2) s ≡ getD s (i + 2) 0 ∷ drop (i + 3) s = rw (← f, add-one (i + 2)) (drop-cons s (i + 2) 0 (omega arith)) in
+      rw (p, q, r)
+
+  pub filling-room-two : n + 1 < length (kept 0 s)
+  filling-room-two =
       omega (
         arith,
-        kept-some f before (getD s i 0) (drop (i + 1) s) ending,
-        length-append (k .done) (kept f before (getD s i 0 ∷ drop (i + 1) s)),
-        ap length left,
-        k .wrote .size,
+        kept-two before (getD s i 0) (getD s (i + 1) 0) (getD s (i + 2) 0) (drop (i + 3) s) (rw next-three at (k .ends)),
+        rw next-three at (k .size),
       )
 
-  stored-over : (v : ℕ) → set o n v ≡ set (k .clean) n v
-  stored-over v = rw (k .stored) (set-set (k .clean) n (k .stray) v)
+  pub filling-pair : (x y : ℕ) → x ≡ picked before (getD s i 0) (getD s (i + 1) 0) → y ≡ picked (getD s i 0) (getD s (i + 1) 0) (getD s (i + 2) 0)
+      → Filling old s (set (set o n x) (n + 1) y) (i + 2) (n + ran (getD s i 0) (getD s (i + 1) 0)) (getD s (i + 1) 0)
+  unfolding picked ran
+  filling-pair x y p q = let w : i + 1 + 1 ≡ i + 2 = omega arith in rw w at (go (ltb (getD s i 0) 0xC0) (ltb (getD s (i + 1) 0) 0xC0) refl refl)
+    where
+      b : ℕ
+      b = getD s i 0
 
-  module _ (room : length (kept f 0 s) ≤ length old) where
-    next-low : getD s i 0 < 0xC0 → Keeping f old s (set o n (f before (getD s i 0))) (i + 1) (n + 1) (getD s i 0)
-    next-low l =
-        let v = f before (getD s i 0) in
-        record {
-          done = k .done ++ v ∷ [];
-          clean = set (k .clean) n v;
-          stray = getD (set (k .clean) n v) (n + 1) 0;
-          wrote = wrote-byte (k .wrote) (keeping-room room) v;
-          is = append-assoc (k .done) (v ∷ []) (kept f (getD s i 0) (drop (i + 1) s)) ∙ rw (kept-low f before (getD s i 0) (drop (i + 1) s) l) at left;
-          ends = ending;
-          stored = stored-over v ∙ sym (set-getD (set (k .clean) n v) (n + 1) 0);
-          alone = λ m. stored-over v;
-        }
+      c : ℕ
+      c = getD s (i + 1) 0
 
-    next-high : 0xC0 ≤ getD s i 0 → Keeping f old s (set o n (f before (getD s i 0))) (i + 1) n (getD s i 0)
-    next-high l = record {
-      done = k .done;
-      clean = k .clean;
-      stray = f before (getD s i 0);
-      wrote = k .wrote;
-      is = rw (kept-high f before (getD s i 0) (drop (i + 1) s) l) at left;
-      ends = ending;
-      stored = stored-over (f before (getD s i 0));
-      alone = λ (m : getD s i 0 < 0xC0). absurd (omega arith);
-    }
+      z : List ℕ
+      z = set (set o n x) (n + 1) y
 
-    pub keeping-next : Keeping f old s (set o n (f before (getD s i 0))) (i + 1) (n + boolByte (ltb (getD s i 0) 0xC0)) (getD s i 0)
-    keeping-next = go (ltb (getD s i 0) 0xC0) refl
-      where
-        go : (t : Bool) → ltb (getD s i 0) 0xC0 ≡ t → Keeping f old s (set o n (f before (getD s i 0))) (i + 1) (n + boolByte t) (getD s i 0)
-        go true e = next-low (ltb-true (getD s i 0) 0xC0 e)
-        go false e = let z : n + 0 ≡ n = omega arith in rw z (next-high (ltb-false (getD s i 0) 0xC0 e))
+      l : n + 1 < length o
+      l = omega (arith, filling-room-two, k .room, k .same)
+
+      f : Filling old s z i n before
+      f = filling-store (filling-store k n x (omega arith) (omega (arith, filling-room-two))) (n + 1) y (omega arith) filling-room-two
+
+      gx : getD z n 0 ≡ x
+      gx = getD-set-other (set o n x) (n + 1) n y 0 (λ (e : n ≡ n + 1). omega arith) ∙ getD-set-same o n x 0 (omega (arith, l))
+
+      gy : getD z (n + 1) 0 ≡ y
+      gy = getD-set-same (set o n x) (n + 1) y 0 (rw (length-set o n x) l)
+
+      low : b < 0xC0 → x ≡ raised before b → Filling old s z (i + 1) (n + 1) b
+      low m g = filling-low f (omega (arith, h)) m (gx ∙ g)
+
+      go : (t u : Bool) → ltb b 0xC0 ≡ t → ltb c 0xC0 ≡ u → Filling old s z (i + 1 + 1) (n + (cond t 1 0 + cond u 1 0)) c
+      go true true d e =
+          let m : n + 1 + 1 ≡ n + 2 = omega arith in
+          rw m at (filling-low (low (ltb-true b 0xC0 d) (p ∙ rw d)) (omega (arith, h)) (ltb-true c 0xC0 e) (gy ∙ q ∙ rw e))
+      go true false d e = filling-high (low (ltb-true b 0xC0 d) (p ∙ rw d)) (omega (arith, h)) (ltb-false c 0xC0 e)
+      go false true d e = filling-low (filling-high f (omega (arith, h)) (ltb-false b 0xC0 d)) (omega (arith, h)) (ltb-true c 0xC0 e) (gx ∙ p ∙ rw d)
+      go false false d e =
+          let m : c < 0xC0 = (rw next-three at (k .ends)) .1 .0 (ltb-false b 0xC0 d) in
+          absurd (omega (arith, ltb-false c 0xC0 e))
+
+-- ---- what pairs of bytes mean, looked up byte by byte
+
+pub paired-none : (s : List ℕ) (i : ℕ) (x y : List ℕ) → Paired s i 0 x y
+paired-none s i x y = record { byte = λ k (h : k < 0). absurd (omega arith); size = λ k (h : k < 0). absurd (omega arith) }
+
+pub paired-next : {s x y : List ℕ} {i k : ℕ} → Paired s i k x y → k < length x → k < length y
+    → Paired s i (k + 1) (set x k (picked (getD s (i + k - 1) 0) (getD s (i + k) 0) (getD s (i + k + 1) 0)))
+    (set y k (ran (getD s (i + k) 0) (getD s (i + k + 1) 0)))
+paired-next {s} {x} {y} {i} {k} p h l = record {
+  byte = λ (j : ℕ) (b : j < k + 1).
+      ⊎-elim (λ (m : j < k). getD-set-other x k j _ 0 (λ (e : j ≡ k). omega arith) ∙ p .byte j m)
+      (λ (m : k ≤ j). let e : j ≡ k = omega arith in rw e (getD-set-same x k _ 0 h)) (lt-or-le j k);
+  size = λ (j : ℕ) (b : j < k + 1).
+      ⊎-elim (λ (m : j < k). getD-set-other y k j _ 0 (λ (e : j ≡ k). omega arith) ∙ p .size j m)
+      (λ (m : k ≤ j). let e : j ≡ k = omega arith in rw e (getD-set-same y k _ 0 l)) (lt-or-le j k);
+}
+
+pub paired-small : {s x y : List ℕ} {i m : ℕ} → Paired s i m x y → (k : ℕ) → k < m → getD y k 0 ≤ 2
+unfolding ran
+paired-small {s} {i = i} p k h =
+    rw (p .size k h) (go (ltb (getD s (i + k) 0) 0xC0) (ltb (getD s (i + k + 1) 0) 0xC0))
+  where
+    go : (t u : Bool) → cond {A = ℕ} t 1 0 + cond {A = ℕ} u 1 0 ≤ 2
+    go true true = omega arith
+    go true false = omega arith
+    go false true = omega arith
+    go false false = omega arith
+
+-- a pair of bytes is stored as it was looked up
+pub filling-paired : {old s o x y : List ℕ} {i m n : ℕ} (k : ℕ) → Filling old s o (i + k) n (getD s (i + k - 1) 0) → Paired s i m x y → k + 1 < m
+    → i + m < length s → Filling old s (set (set o n (getD x k 0)) (n + 1) (getD x (k + 1) 0)) (i + k + 2) (n + getD y k 0) (getD s (i + k + 1) 0)
+filling-paired {s = s} {x = x} {i = i} k f p h l =
+    let u : i + (k + 1) - 1 ≡ i + k = omega arith in
+    let v : i + (k + 1) ≡ i + k + 1 = omega arith in
+    let w : i + k + 1 + 1 ≡ i + k + 2 = omega arith in
+    let next : getD x (k + 1) 0 ≡ picked (getD s (i + k) 0) (getD s (i + k + 1) 0) (getD s (i + k + 2) 0) = rw (u, v, w) at (p .byte (k + 1) h) in
+    rw (p .size k (omega arith)) (filling-pair f (omega arith) _ _ (p .byte k (omega arith)) next)
 
 -- ---- the bytes of a text
 
-one-ends : (c : ℕ) (s : List ℕ) → Sized c → ((b : ℕ) → b < 0xC0 → lastByte b s < 0xC0) → (before : ℕ) → lastByte before (utf8One c ++ s) < 0xC0
-one-ends c s (one h) ih before = rw (utf8-1 h) (ih c (omega arith))
-one-ends c s (two l h) ih before = rw (utf8-2 l h) (ih (128 + c % 64) (omega arith))
-one-ends c s (three l h) ih before = rw (utf8-3 l h) (ih (128 + c % 64) (omega arith))
-one-ends c s (four l) ih before = rw (utf8-4 l) (ih (128 + c % 64) (omega arith))
+one-tailed : (c : ℕ) (s : List ℕ) → Sized c → ((b : ℕ) → b < 0xC0 → Tailed b s) → (before : ℕ) → before < 0xC0 → Tailed before (utf8One c ++ s)
+one-tailed c s (one h) ih before m = rw (utf8-1 h) ((λ k. omega arith), ih c (omega arith))
+one-tailed c s (two l h) ih before m = rw (utf8-2 l h) ((λ k. absurd (omega arith)), ((λ k. omega arith), ih (128 + c % 64) (omega arith)))
+one-tailed c s (three l h) ih before m =
+    rw (utf8-3 l h) ((λ k. absurd (omega arith)), ((λ k. omega arith), ((λ k. omega arith), ih (128 + c % 64) (omega arith))))
+one-tailed c s (four l) ih before m =
+    rw (utf8-4 l) ((λ k. absurd (omega arith)), ((λ k. omega arith), ((λ k. omega arith), ((λ k. omega arith), ih (128 + c % 64) (omega arith)))))
 
-text-ends : (t : List ℕ) (before : ℕ) → before < 0xC0 → lastByte before (utf8 t) < 0xC0
-text-ends [] before h = h
-text-ends (c ∷ t) before h = one-ends c (utf8 t) (sized c) (text-ends t) before
+text-tailed : (t : List ℕ) (before : ℕ) → before < 0xC0 → Tailed before (utf8 t)
+text-tailed [] before h = h
+text-tailed (c ∷ t) before h = one-tailed c (utf8 t) (sized c) (text-tailed t) before h
 
-one-raised : (c : ℕ) (s t : List ℕ) → Sized c → c < 0x100 → ((b : ℕ) → b < 0xC0 → kept raised b s ≡ t) → (before : ℕ) → before < 0xC0
-    → kept raised before (utf8One c ++ s) ≡ c ∷ t
-one-raised c s t (one h) l ih before m =
-    rw (utf8-1 h) (kept-low raised before c s (omega arith) ∙ rw (raised-not before c (omega arith), ih c (omega arith)))
-one-raised c s t (two k h) l ih before m =
+one-kept : (c : ℕ) (s t : List ℕ) → Sized c → c < 0x100 → ((b : ℕ) → b < 0xC0 → kept b s ≡ t) → (before : ℕ) → before < 0xC0
+    → kept before (utf8One c ++ s) ≡ c ∷ t
+one-kept c s t (one h) l ih before m =
+    rw (utf8-1 h) (kept-low before c s (omega arith) ∙ rw (raised-not before c (omega arith), ih c (omega arith)))
+one-kept c s t (two k h) l ih before m =
     let a = 192 + c / 64 in
     let b = 128 + c % 64 in
-    rw (utf8-2 k h)
-    (kept-high raised before a (b ∷ s) (omega arith) ∙ kept-low raised a b s (omega arith) ∙ rw (raised-two c k l, ih b (omega arith)))
-one-raised c s t (three k h) l ih before m = absurd (omega arith)
-one-raised c s t (four k) l ih before m = absurd (omega arith)
+    rw (utf8-2 k h) (kept-high before a (b ∷ s) (omega arith) ∙ kept-low a b s (omega arith) ∙ rw (raised-two c k l, ih b (omega arith)))
+one-kept c s t (three k h) l ih before m = absurd (omega arith)
+one-kept c s t (four k) l ih before m = absurd (omega arith)
 
-text-raised : (t : List ℕ) → fitsLatin1 t ≡ true → (before : ℕ) → before < 0xC0 → kept raised before (utf8 t) ≡ t
-text-raised [] e before h = refl
-text-raised (c ∷ t) e before h =
+text-kept : (t : List ℕ) → fitsLatin1 t ≡ true → (before : ℕ) → before < 0xC0 → kept before (utf8 t) ≡ t
+text-kept [] e before h = refl
+text-kept (c ∷ t) e before h =
     let p = and-eq-true-iff (ltb c 0x100) (fitsLatin1 t) .0 e in
-    one-raised c (utf8 t) t (sized c) (ltb-true c 0x100 (p .0)) (text-raised t (p .1)) before h
-
--- ---- where no byte leads but C3
-
-one-lifted : (c : ℕ) (s t : List ℕ) → Sized c → c < 0x100 → every accented (utf8One c ++ s) ≡ true
-    → (every accented s ≡ true → (b : ℕ) → map lifted (kept itself b s) ≡ t) → (before : ℕ) → map lifted (kept itself before (utf8One c ++ s)) ≡ c ∷ t
-one-lifted c s t (one h) l e ih before =
-    let p = and-eq-true-iff (accented c) (every accented s) .0 (rw (utf8-1 h) at e) in
-    rw (utf8-1 h, kept-low itself before c s (omega arith), lifted-ascii c h, ih (p .1) c)
-one-lifted c s t (two k h) l e ih before =
-    let a = 192 + c / 64 in
-    let b = 128 + c % 64 in
-    let p = and-eq-true-iff (accented a) (accented b && every accented s) .0 (rw (utf8-2 k h) at e) in
-    let q = and-eq-true-iff (accented b) (every accented s) .0 (p .1) in
-    let z : a ≡ 0xC3 = eqb-true a 0xC3 (rw (le-ltb a 0xC0 (omega arith)) at (p .0)) in
-    let v : b + 0x40 ≡ c = omega arith in
-    rw (utf8-2 k h, kept-high itself before a (b ∷ s) (omega arith), kept-low itself a b s (omega arith), lifted-tail b (omega arith, omega arith), v, ih (q .1) b)
-one-lifted c s t (three k h) l e ih before = absurd (omega arith)
-one-lifted c s t (four k) l e ih before = absurd (omega arith)
-
-text-lifted : (t : List ℕ) → fitsLatin1 t ≡ true → every accented (utf8 t) ≡ true → (before : ℕ) → map lifted (kept itself before (utf8 t)) ≡ t
-text-lifted [] e a before = refl
-text-lifted (c ∷ t) e a before =
-    let p = and-eq-true-iff (ltb c 0x100) (fitsLatin1 t) .0 e in
-    one-lifted c (utf8 t) t (sized c) (ltb-true c 0x100 (p .0)) a (text-lifted t (p .1)) before
+    one-kept c (utf8 t) t (sized c) (ltb-true c 0x100 (p .0)) (text-kept t (p .1)) before h
 
 -- ---- both, of bytes that are well-formed
 
 module _ (s : List ℕ) (ok : isWell (fromUtf8 s) ≡ true) where
-  pub bytes-end : lastByte 0 s < 0xC0
-  bytes-end = rw (utf8-encode s ok .0) at (text-ends (textOf s) 0 (omega arith))
+  pub bytes-tailed : Tailed 0 s
+  bytes-tailed = rw (utf8-encode s ok .0) at (text-tailed (textOf s) 0 (omega arith))
 
-  pub bytes-raised : fitsLatin1 (textOf s) ≡ true → kept raised 0 s ≡ textOf s
-  bytes-raised e = ap (kept raised 0) (sym (utf8-encode s ok .0)) ∙ text-raised (textOf s) e 0 (omega arith)
-
-  pub bytes-lifted : fitsLatin1 (textOf s) ≡ true → every accented s ≡ true → map lifted (kept itself 0 s) ≡ textOf s
-  bytes-lifted e a =
-      ap (λ (l : List ℕ). map lifted (kept itself 0 l)) (sym (utf8-encode s ok .0))
-      ∙ text-lifted (textOf s) e (ap (every accented) (utf8-encode s ok .0) ∙ a) 0
+  pub bytes-kept : fitsLatin1 (textOf s) ≡ true → kept 0 s ≡ textOf s
+  bytes-kept e = ap (kept 0) (sym (utf8-encode s ok .0)) ∙ text-kept (textOf s) e 0 (omega arith)
 
   -- so they have room where the text has
-  pub raised-room : fitsLatin1 (textOf s) ≡ true → (m : ℕ) → length (textOf s) ≤ m → length (kept raised 0 s) ≤ m
-  raised-room e m h = omega (arith, ap length (bytes-raised e))
+  pub kept-room : fitsLatin1 (textOf s) ≡ true → (m : ℕ) → length (textOf s) ≤ m → length (kept 0 s) ≤ m
+  kept-room e m h = omega (arith, ap length (bytes-kept e))
 
-  pub squeezed-room : fitsLatin1 (textOf s) ≡ true → every accented s ≡ true → (m : ℕ) → length (textOf s) ≤ m → length (kept itself 0 s) ≤ m
-  squeezed-room e a m h = omega (arith, length-map (kept itself 0 s) lifted, ap length (bytes-lifted e a))
-
--- ---- bytes lifted where they stand
-
--- the first i bytes of old are lifted in o
-abbrev pub Lifted : List ℕ → List ℕ → ℕ → Type 0
-Lifted old o i = o ≡ map lifted (take i old) ++ drop i old
-
-pub lifted-next : (old o : List ℕ) (i : ℕ) → i < length old → Lifted old o i → Lifted old (set o i (lifted (getD o i 0))) (i + 1)
-lifted-next old o i h e =
-    let p = map lifted (take i old) in
-    let x = getD old i 0 in
-    let r = drop (suc i) old in
-    let n : length p ≡ i = length-map (take i old) lifted ∙ length-take-le i old (omega arith) in
-    let f : o ≡ p ++ x ∷ r = e ∙ rw (drop-cons old i 0 h) in
-    let g : getD o i 0 ≡ x = rw f (getD-at p x r 0 i n) in
-    rw (g, f, set-at p x r (lifted x) i n, add-one i, take-suc old i 0 h, map-append lifted (take i old) (x ∷ [])) (sym (append-assoc p (lifted x ∷ []) r))
-
-pub lifted-wrote : {old a now o : List ℕ} {n : ℕ} → Wrote old a now n → Lifted now o n → Wrote old (map lifted a) o n
-unfolding over
-lifted-wrote {old} {a} {now} {o} {n} w e =
-    let m = length-map a lifted in
-    let d : drop n now ≡ drop n old = ap (drop n) (w .is) ∙ drop-over old a n (sym (w .size)) in
-    record { size = w .size ∙ sym m; fits = w .fits; is = e ∙ rw (wrote-taken w, d, m, ← w .size) }
+  -- the first byte is stored
+  pub bytes-first : (old : List ℕ) → fitsLatin1 (textOf s) ≡ true → length (textOf s) ≤ length old → 0 < length s
+      → Filling old s (set old 0 (getD s 0 0)) 1 (boolByte (ltb (getD s 0 0) 0xC0)) (getD s 0 0)
+  bytes-first old e r h = filling-first old s bytes-tailed (kept-room e (length old) r) h

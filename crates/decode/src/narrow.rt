@@ -19,7 +19,7 @@ pub struct Seen {
 }
 
 // A bool as a number.
-fn bit(b: bool) -> u8
+pub fn bit(b: bool) -> u8
     ensures { λ r. ⌜ (r ≡ cond b 1 0) × (r ≤ 1) ⌝ }
 {
     b as u8

@@ -1,15 +1,13 @@
 // Text that fits Latin-1, written byte by byte without a branch: each byte is stored, and the place moves on only behind one that ends a
-// character, so that a leading byte is written over. Each function that writes returns how many bytes it wrote.
+// character, so that a leading byte is written over.
 ghost use mathlib.Core.Path.{_≡_};
-ghost use mathlib.Core.List.{_++_, map};
-ghost use Prim.Native.Nat.{_≤_, _<_};
-ghost use lib.ListN.{length, take, drop};
+ghost use Prim.Native.Nat.{_+_, _-_, _≤_, _<_};
+ghost use lib.ListN.{length, getD};
 ghost use Rattle.base.specs.Output.{Wrote};
-ghost use Rattle.decode.specs.Latin.{every};
-ghost use Rattle.decode.specs.Tails.{kept, lastByte, raised, itself, lifted, accented};
+ghost use Rattle.decode.specs.Tails.{kept, raised, Tailed, Filling};
 
 // What a byte below C0 means after another: C3 adds 40 to a tail.
-fn raised(before: u8, b: u8) -> u8
+pub fn raised(before: u8, b: u8) -> u8
     ensures { λ r. ⌜ r ≡ raised before b ⌝ }
 {
     if before == 0xC3 {
@@ -18,10 +16,10 @@ fn raised(before: u8, b: u8) -> u8
     b
 }
 
-// Any such text.
+// Any such text. Returns how many bytes were written.
 pub fn put_each(out: &mut [u8], s: &[u8]) -> usize
-    requires { ⌜ (lastByte 0 (now s) < 0xC0) × (length (kept raised 0 (now s)) ≤ length (now out)) ⌝ }
-    ensures { λ r. ⌜ Wrote (now (out .entry)) (kept raised 0 (now (s .entry))) (now (out .exit)) r ⌝ }
+    requires { ⌜ Tailed 0 (now s) × (length (kept 0 (now s)) ≤ length (now out)) ⌝ }
+    ensures { λ r. ⌜ Wrote (now (out .entry)) (kept 0 (now (s .entry))) (now (out .exit)) r ⌝ }
 {
     let mut n: usize = 0;
     let mut before: u8 = 0;
@@ -36,44 +34,18 @@ pub fn put_each(out: &mut [u8], s: &[u8]) -> usize
     n
 }
 
-// Whether no byte leads but C3.
-pub fn is_accented(s: &[u8]) -> bool
-    ensures { λ r. ⌜ r ≡ every accented (now (s .entry)) ⌝ }
+// The last byte or two, from a place on, behind so many bytes that are written already. Returns how many there are then.
+pub fn put_last(out: &mut [u8], wrote: usize, s: &[u8], i: usize) -> usize
+    requires { ⌜ (0 < i) × (i < length (now s)) × (length (now s) ≤ i + 2) × Filling (now out) (now s) (now out) i wrote (getD (now s) (i - 1) 0) ⌝ }
+    ensures { λ r. ⌜ Wrote (now (out .entry)) (kept 0 (now (s .entry))) (now (out .exit)) r ⌝ }
 {
-    let mut all = true;
-    let mut i = 0;
-    while i < s.len() {
-        all = all & ((s[i] < 0xC0) | (s[i] == 0xC3));
-        i += 1;
+    let b = s[i];
+    out[wrote] = raised(s[i - 1], b);
+    let n = wrote + (b < 0xC0) as usize;
+    if s.len() - i < 2 {
+        return n;
     }
-    all
-}
-
-// The bytes that end a character, as they stand.
-pub fn squeeze(out: &mut [u8], s: &[u8]) -> usize
-    requires { ⌜ (lastByte 0 (now s) < 0xC0) × (length (kept itself 0 (now s)) ≤ length (now out)) ⌝ }
-    ensures { λ r. ⌜ Wrote (now (out .entry)) (kept itself 0 (now (s .entry))) (now (out .exit)) r ⌝ }
-{
-    let mut n: usize = 0;
-    let mut i: usize = 0;
-    while i < s.len() {
-        let b = s[i];
-        out[n] = b;
-        n += (b < 0xC0) as usize;
-        i += 1;
-    }
-    n
-}
-
-// The first n bytes, 40 added to each tail.
-pub fn lift(out: &mut [u8], n: usize)
-    requires { ⌜ n ≤ length (now out) ⌝ }
-    ensures { λ _. ⌜ now (out .exit) ≡ map lifted (take n (now (out .entry))) ++ drop n (now (out .entry)) ⌝ }
-{
-    let mut i = 0;
-    while i < n {
-        let b = out[i];
-        out[i] = b | ((b >> 1) & 0x40);
-        i += 1;
-    }
+    let c = s[i + 1];
+    out[n] = raised(b, c);
+    n + (c < 0xC0) as usize
 }

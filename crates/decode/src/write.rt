@@ -12,27 +12,31 @@ use super::chars::Char;
 use super::chars::known_char;
 use super::eight::put_eight;
 use super::eight::starts_eight;
+use super::pairs::pairs_of;
+use super::pairs::put_pairs;
 use super::run::is_run;
 use super::run::put_run;
-use super::tails::is_accented;
-use super::tails::lift;
 use super::tails::put_each;
-use super::tails::squeeze;
+use super::tails::put_last;
 
-// The text as Latin-1. Where it is long and no byte leads but C3, its bytes are squeezed first and then lifted many at once.
+// The text as Latin-1: short text byte by byte, other text many pairs of bytes at once behind its first byte, and its last byte or two alone.
 pub fn put_latin1(out: &mut [u8], s: &[u8]) -> usize
     requires { ⌜ (isWell (fromUtf8 (now s)) ≡ true) × (fitsLatin1 (textOf (now s)) ≡ true) × (length (textOf (now s)) ≤ length (now out)) ⌝ }
     ensures { λ r. ⌜ Wrote (now (out .entry)) (textOf (now (s .entry))) (now (out .exit)) r ⌝ }
 {
-    if s.len() < 64 {
+    if s.len() < 16 {
         return put_each(out, s);
     }
-    if is_accented(s) {
-        let n = squeeze(out, s);
-        lift(out, n);
-        return n;
+    let a = s[0];
+    out[0] = a;
+    let mut n = (a < 0xC0) as usize;
+    let mut i = 1;
+    while 3 <= s.len() - i {
+        let pairs = pairs_of(s.len() - i);
+        n = put_pairs(out, n, s, i, pairs);
+        i += 2 * pairs;
     }
-    put_each(out, s)
+    put_last(out, n, s, i)
 }
 
 // The units of a scalar value, each in two bytes, the low one first.

@@ -2,19 +2,19 @@
 use Prim.Native.Nat.{_-_, _≤_}
 use native.Mathlib.Omega.{arith}
 use lib.ListN.{length}
-use Rattle.decode.specs.Tails.{raised}
-use Rattle.decode.specs.TailsLaws.{Keeping, keeping-none, keeping-length, keeping-room, keeping-next, keeping-all}
+use Rattle.decode.specs.Tails.{Filling}
+use Rattle.decode.specs.TailsLaws.{filling-none, filling-room, filling-byte, filling-all}
 use Rattle.decode.proofs.tails.put_each.Statement.{statement}
 use Rattle.decode.proofs.tails.put_each.Tie as tie
 
 abbrev Inv-loop : tie.InvT-loop
-Inv-loop out₀ s n₀ before₀ i₀ out n before i = (i ≤ length s) × Keeping raised out₀ s out i n before
+Inv-loop out₀ s n₀ before₀ i₀ out n before i = (i ≤ length s) × Filling out₀ s out i n before
 
 abbrev μ-loop : tie.MeasureT-loop
 μ-loop out₀ s n₀ before₀ i₀ out n before i = length s - i
 
 loop-holds : tie.Need-loop-holds Inv-loop μ-loop
-loop-holds c = (omega arith, keeping-none raised _ _ (c .before .before .pre .0))
+loop-holds c = (omega arith, filling-none _ _ (c .before .before .pre .0) (c .before .before .pre .1))
 
 shared-slice-read-b : tie.Need-shared-slice-read-b Inv-loop μ-loop
 shared-slice-read-b c = omega arith
@@ -25,10 +25,10 @@ raised-requires c κs = tt
 slice-write-out : tie.Need-slice-write-out Inv-loop μ-loop
 slice-write-out c =
     let k = c .before .before .before .loop .inv .1 in
-    omega (arith, keeping-room k (c .before .before .loop-test .taken) (c .before .before .before .before .before .before .pre .1), keeping-length k)
+    omega (arith, filling-room k (c .before .before .loop-test .taken), k .room, k .same)
 
 add-n : tie.Need-add-n Inv-loop μ-loop
-add-n c = omega (arith, keeping-next (c .before .before .before .loop .inv .1) (c .before .before .loop-test .taken) (c .before .before .before .before .before .before .pre .1) .wrote .fits)
+add-n c = let k = filling-byte (c .before .before .before .loop .inv .1) (c .before .before .loop-test .taken) in omega (arith, k .size, k .room)
 
 add-i : tie.Need-add-i Inv-loop μ-loop
 add-i c = omega arith
@@ -37,13 +37,13 @@ loop-less : tie.Need-loop-less Inv-loop μ-loop
 loop-less c = omega arith
 
 loop-again : tie.Need-loop-again Inv-loop μ-loop
-loop-again c = (omega arith, rw (c .raised .ensures) (keeping-next (c .before .before .before .loop .inv .1) (c .before .before .loop-test .taken) (c .before .before .before .before .before .before .pre .1)))
+loop-again c = (omega arith, rw (c .raised .ensures) (filling-byte (c .before .before .before .loop .inv .1) (c .before .before .loop-test .taken)))
 
 same-length : tie.Need-same-length Inv-loop μ-loop
-same-length c = keeping-length (c .before .loop .inv .1)
+same-length c = c .before .loop .inv .1 .same
 
 returns : tie.Need-returns Inv-loop μ-loop
-returns c = keeping-all (c .before .loop .inv .1) (c .loop-test .left)
+returns c = filling-all (c .before .loop .inv .1) (c .loop-test .left)
 
 pub put-each-spec : {M : Type 1} → statement M
 put-each-spec =
