@@ -18,15 +18,6 @@ module _ {A B : Type 0} (f : A → List B) where
   pub flat-take : (l : List A) (i : ℕ) (d : A) → i < length l → flat f (take (i + 1) l) ≡ flat f (take i l) ++ f (getD l i d)
   flat-take l i d h = rw (add-one i, take-suc l i d h, flat-append (take i l) (getD l i d ∷ []), append-nil (f (getD l i d)))
 
-  -- of those that pass a test, as one
-  pub flat-filter : (t : A → Bool) (l : List A) → flat f (filter t l) ≡ flat (λ a. cond (t a) (f a) []) l
-  flat-filter t [] = refl
-  flat-filter t (x ∷ l) = go (t x) (flat-filter t l)
-    where
-      go : (b : Bool) → flat f (filter t l) ≡ flat (λ a. cond (t a) (f a) []) l → flat f (kept b x (filter t l)) ≡ cond b (f x) [] ++ flat (λ a. cond (t a) (f a) []) l
-      go true e = rw e
-      go false e = e
-
 module _ {A : Type 0} (f : A → ℕ) where
   pub sum-append : (l m : List A) → sum f (l ++ m) ≡ sum f l + sum f m
   sum-append [] m = omega arith
