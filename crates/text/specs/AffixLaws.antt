@@ -176,7 +176,7 @@ abbrev pub unitSize : Bool → ℕ
 unitSize false = 1
 unitSize true = 2
 
-units-take : (k : ℕ) (s : List ℕ) → units (take k s) ≡ take (k / 2) (units s)
+pub units-take : (k : ℕ) (s : List ℕ) → units (take k s) ≡ take (k / 2) (units s)
 unfolding units
 units-take zero s = refl
 units-take (suc zero) [] = refl

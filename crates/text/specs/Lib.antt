@@ -17,6 +17,9 @@ pub mod NameLaws
 pub mod NameLength
 pub mod Affix
 pub mod AffixLaws
+pub mod Plain
 pub mod PlainLaws
+pub mod Front
+pub mod FrontLaws
 -- ---- All of it computed at its edges
 pub mod Examples

@@ -10,7 +10,9 @@ use lib.Bits.{bitAnd, bitOr, or-lt, or-add-and, and-le-r, and-le-l, and-block, a
 use lib.Dec.{eqb, ltb}
 use lib.ListN.{length, take, drop, getD, length-append, length-drop, take-append-drop}
 use lib.Seq.{take-suc, take-add, take-all, drop-drop, length-take-le}
+use Rattle.base.specs.Never.{never}
 use Rattle.text.specs.Affix.{allAscii}
+use Rattle.text.specs.Plain.{isCopy, Copied}
 use Rattle.base.specs.Number.{le, leAt}
 use Rattle.base.specs.NumberLaws.{Bytes, bytes-part, leAt-is}
 use Rattle.base.specs.Output.{over, Wrote}
@@ -155,7 +157,7 @@ unfolding decoded
 plain-room part = utf8-some part
 
 -- what is written over something shorter is as if that had not been written
-beyond : (s a : List ℕ) (n : ℕ) → length a ≤ n → drop n (over s a) ≡ drop n s
+pub beyond : (s a : List ℕ) (n : ℕ) → length a ≤ n → drop n (over s a) ≡ drop n s
 beyond s a n h =
     let e : length a + (n - length a) ≡ n = omega arith in
     rw (← e, ← drop-drop (n - length a) (length a) (over s a), ← drop-drop (n - length a) (length a) s, drop-over s a (length a) refl)
@@ -177,8 +179,25 @@ module _ {wide : Bool} (part : List ℕ) (n : wide ≡ false) where
     pub plain-length : length part ≡ length (utf8 (base wide part))
     plain-length = rw (n, plain-bytes part (sym e ∙ y))
 
-    pub plain-wrote : {s o : List ℕ} {k : ℕ} → Wrote s part o k → Wrote s (utf8 (base wide part)) o k
-    plain-wrote w = rw (n, plain-bytes part (sym e ∙ y)) w
+-- nothing is copied of wide text, and one-byte text as it stands
+pub copied-none : {wide : Bool} (part : List ℕ) {s : List ℕ} → wide ≡ true → Copied wide part s s false
+copied-none {wide} part {s} y = record { is = rw y; kept = λ _. refl; wrote = λ n. never (cc) }
 
-  pub plain-then : {s m o : List ℕ} {j k : ℕ} → Wrote s part m j → Wrote m (utf8 (base wide part)) o k → Wrote s (utf8 (base wide part)) o k
-  plain-then v w = wrote-over v w (rw n (plain-room part))
+pub copied-some : {wide : Bool} (part : List ℕ) {s m : List ℕ} {r : Bool} → wide ≡ false → r ≡ allAscii part → Wrote s part m (length part) → Copied wide part s m r
+copied-some {wide} part {s} {m} {r} n e w = record { is = rw n e; kept = λ y. never (cc); wrote = λ _. w }
+
+-- what is its own UTF-8 is the base, and over what was copied the base, or more, is as if it had not been
+module _ {wide : Bool} (part : List ℕ) {s m : List ℕ} {r : Bool} (c : Copied wide part s m r) where
+  pub copied-base : r ≡ true → Wrote s (utf8 (base wide part)) m (length part)
+  copied-base y = go wide refl (sym (c .is) ∙ y)
+    where
+      go : (w : Bool) → wide ≡ w → isCopy w part ≡ true → Wrote s (utf8 (base wide part)) m (length part)
+      go false n e = rw (n, plain-bytes part e) (c .wrote n)
+      go true n e = never (cc)
+
+  pub copied-then : {b o : List ℕ} {k : ℕ} → Wrote m b o k → length (utf8 (base wide part)) ≤ length b → Wrote s b o k
+  copied-then {b} {o} {k} w h = go wide refl
+    where
+      go : (v : Bool) → wide ≡ v → Wrote s b o k
+      go false n = wrote-over (c .wrote n) w (omega (arith, plain-room part, rw n at h))
+      go true n = rw (c .kept n) at w

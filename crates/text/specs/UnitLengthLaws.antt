@@ -107,6 +107,21 @@ base-bytes wide part b e =
     let q = decoded-units wide part b in
     rw q (measure (cases (unitsOf wide part)) (unitsOf-words wide part b) (rw q at e))
 
+-- at least a byte for each unit
+unit-least : (a b c : Bool) → 1 ≤ cond a 1 (cond b 2 (cond c 3 2))
+unit-least true b c = omega arith
+unit-least false true c = omega arith
+unit-least false false true = omega arith
+unit-least false false false = omega arith
+
+units-many : (us : List ℕ) → length us ≤ unitsLength us
+unfolding unitLength
+units-many [] = omega arith
+units-many (u ∷ us) = omega (arith, unit-least (ltb u 0x80) (ltb u 0x800) (isSingle u), units-many us)
+
+pub units-least : (us : List ℕ) → Words us → isWell (utf16 us) ≡ true → length us ≤ length (utf8 (scalars (utf16 us)))
+units-least us w e = omega (arith, measure (cases us) w e, units-many us)
+
 -- ---- the units from a place on, one by one
 
 pub single-from : (us : List ℕ) (i : ℕ) (all : Bool) → i < length us

@@ -6,6 +6,7 @@ ghost use lib.ListN.{length, take, drop};
 ghost use lib.Seq.{paste};
 ghost use Rattle.text.specs.Affix.{allAscii};
 ghost use Rattle.base.specs.Output.{Wrote};
+ghost use Rattle.text.specs.Plain.{Copied};
 ghost use Rattle.text.specs.Utf16.{isWell};
 ghost use Rattle.text.specs.Utf8.{utf8};
 ghost use Rattle.text.specs.Name.{decoded, base, rendered, textBytes};
@@ -181,15 +182,23 @@ pub fn base_len(part: &[u8], wide: bool) -> usize
     name::base_len(part, wide)
 }
 
+// The bytes of one-byte text, and whether they are the base: not for wide text, of which none are written.
+fn put_copy(out: &mut [u8], part: &[u8], wide: bool) -> bool
+    requires { ⌜ length (utf8 (base wide (now part))) ≤ length (now out) ⌝ }
+    ensures { λ r. ⌜ Copied wide (now (part .entry)) (now (out .entry)) (now (out .exit)) r ⌝ }
+{
+    if wide {
+        return false;
+    }
+    put_plain(out, part)
+}
+
 // The base.
 pub fn put_base(out: &mut [u8], part: &[u8], wide: bool) -> usize
     requires { ⌜ (isWell (decoded wide (now part)) ≡ true) × (length (utf8 (base wide (now part))) ≤ length (now out)) ⌝ }
     ensures { λ r. ⌜ Wrote (now (out .entry)) (utf8 (base wide (now (part .entry)))) (now (out .exit)) r ⌝ }
 {
-    if wide {
-        return name::put_base(out, part, wide);
-    }
-    if put_plain(out, part) {
+    if put_copy(out, part, wide) {
         return part.len();
     }
     name::put_base(out, part, wide)
@@ -203,13 +212,17 @@ pub fn name_len(part: &[u8], wide: bool, number: u32) -> usize
     base_len(part, wide) + suffix_len(number)
 }
 
-// The rendered name.
+// The rendered name. What is not copied is written by `name` whole, suffix and all, here and below: `name::put_name` so has two callers, and
+// the compiler keeps it apart, which leaves little code where names are copied.
 pub fn put_name(out: &mut [u8], part: &[u8], wide: bool, number: u32) -> usize
     requires { ⌜ (isWell (decoded wide (now part)) ≡ true) × (length (utf8 (rendered wide (now part) number)) ≤ length (now out)) ⌝ }
     ensures { λ r. ⌜ Wrote (now (out .entry)) (utf8 (rendered wide (now (part .entry)) number)) (now (out .exit)) r ⌝ }
 {
-    let at = put_base(out, part, wide);
-    at + put_suffix(&mut out[at..], number)
+    if put_copy(out, part, wide) {
+        let n = part.len();
+        return n + put_suffix(&mut out[n..], number);
+    }
+    name::put_name(out, part, wide, number)
 }
 
 // The rendered name as a text: its length in 4 bytes, then its bytes.
@@ -217,6 +230,9 @@ pub fn put_name_text(out: &mut [u8], part: &[u8], wide: bool, number: u32) -> us
     requires { ⌜ (isWell (decoded wide (now part)) ≡ true) × (length (textBytes (rendered wide (now part) number)) ≤ length (now out)) × (length (utf8 (rendered wide (now part) number)) < 2 ^ 32) ⌝ }
     ensures { λ r. ⌜ Wrote (now (out .entry)) (textBytes (rendered wide (now (part .entry)) number)) (now (out .exit)) r ⌝ }
 {
+    if wide {
+        return name::put_name_text(out, part, wide, number);
+    }
     let n = put_name(&mut out[4..], part, wide, number);
     put_be32(out, n as u32) + n
 }

@@ -1,49 +1,27 @@
 -- `text::name::put_base` meets its contract. The loop's invariant: what of the base is not written yet are the bytes of the units
 -- from i on, which are well-formed. The measure is the units left. Assumes nothing.
-use mathlib.Core.Path.{_≡_, sym, _∙_}
+use mathlib.Core.Path.{_≡_, sym}
 use mathlib.Core.Bool.{true}
-use mathlib.Core.List.{List}
-use Prim.Native.Nat.{ℕ, _-_, _≤_}
+use Prim.Native.Nat.{_-_, _≤_}
 use native.Mathlib.Omega.{arith}
 use lib.ListN.{length}
 use borrow.Author.Needs.{needs}
 use Rattle.base.specs.NumberLaws.{Bytes}
-use Rattle.base.specs.OutputLaws.{wrote-length}
 use Rattle.text.specs.Utf8.{utf8}
 use Rattle.text.specs.Name.{base}
 use Rattle.text.specs.Units.{unitsOf}
-use Rattle.text.specs.UnitsLaws.{Words, unitsOf-words, unitsOf-bound}
-use Rattle.text.proofs.NameLoop.{bytesFrom, wellFrom, Turn, turn-one, turn-two, turn-ill, first-well, first-bytes, last-bytes, Written, written-none, written-all, turn-fits, written-turn}
+use Rattle.text.specs.Front.{bytesFrom, wellFrom, Held}
+use Rattle.text.proofs.NameLoop.{first-well, first-bytes, held-none, held-room, held-rest, held-wrote, held-all}
 use Rattle.text.proofs.name.put_base.Statement.{statement}
 use Rattle.text.proofs.name.put_base.Tie as tie
 
 abbrev Inv-loop : tie.InvT-loop
 Inv-loop out₀ part wide n at₀ i₀ out at i =
     (i ≤ length (unitsOf wide part)) × (length out ≡ length out₀) × (wellFrom (unitsOf wide part) i ≡ true)
-    × Written out₀ (utf8 (base wide part)) out (bytesFrom (unitsOf wide part) i) at
+    × Held out₀ (utf8 (base wide part)) out (bytesFrom (unitsOf wide part) i) at
 
 abbrev μ-loop : tie.MeasureT-loop
 μ-loop out₀ part wide n at₀ i₀ out at i = length (unitsOf wide part) - i
-
--- the units, and what each turn passes
-abbrev us : tie.At-loop Inv-loop μ-loop → List ℕ
-us c = unitsOf (c .before .before .before .before .args .wide) (c .before .before .before .before .args .part .now)
-
-words : (c : tie.At-loop Inv-loop μ-loop) → Words (us c)
-words c = unitsOf-words _ _ (λ j. c .before .before .shared-slice-known .given j .fits)
-
-one : (c : tie.After-c Inv-loop μ-loop) → Turn (us (c .before .before .before .before)) (c .before .before .before .before .loop .i) 1 (c .c .given .0 .0)
-one c =
-    let l = c .before .before .before .before in
-    turn-one _ _ (words l) (l .loop .inv .2) (sym (c .before .before .scalar-at .ensures) ∙ c .c .given .1)
-
-two : (c : tie.After-c2 Inv-loop μ-loop) → Turn (us (c .before .before .before .before)) (c .before .before .before .before .loop .i) 2 (c .c2 .given .0 .0)
-two c =
-    let l = c .before .before .before .before in
-    turn-two _ _ (words l) (l .loop .inv .2) (sym (c .before .before .scalar-at .ensures) ∙ c .c2 .given .1)
-
-few : (c : tie.At-loop Inv-loop μ-loop) → length (us c) ≤ length (c .before .before .before .before .args .part .now)
-few c = unitsOf-bound _ _
 
 unit-count-requires : tie.Need-unit-count-requires Inv-loop μ-loop
 unit-count-requires c κs = search needs
@@ -55,110 +33,63 @@ loop-holds c =
       omega arith,
       omega arith,
       first-well (a .wide) (a .part .now) b (c .before .before .before .pre .0),
-      written-none (sym (first-bytes (a .wide) (a .part .now) b)),
+      held-none (sym (first-bytes (a .wide) (a .part .now) b)),
     )
 
-scalar-at-requires : tie.Need-scalar-at-requires Inv-loop μ-loop
-scalar-at-requires c κs = omega arith
+sub-loop : tie.Need-sub-loop Inv-loop μ-loop
+sub-loop c = omega arith
 
-enum-known-c : tie.Need-enum-known-c Inv-loop μ-loop
-enum-known-c c = search needs
+sub-put-turn : tie.Need-sub-put-turn Inv-loop μ-loop
+sub-put-turn c = omega arith
 
-sub-put-utf8 : tie.Need-sub-put-utf8 Inv-loop μ-loop
-sub-put-utf8 c = omega arith
+part-put-turn-start : tie.Need-part-put-turn-start Inv-loop μ-loop
+part-put-turn-start c = omega arith
 
-part-put-utf8-start : tie.Need-part-put-utf8-start Inv-loop μ-loop
-part-put-utf8-start c = omega arith
+part-put-turn-end : tie.Need-part-put-turn-end Inv-loop μ-loop
+part-put-turn-end c = omega arith
 
-part-put-utf8-end : tie.Need-part-put-utf8-end Inv-loop μ-loop
-part-put-utf8-end c = omega arith
-
-put-utf8-requires : tie.Need-put-utf8-requires Inv-loop μ-loop
-put-utf8-requires c κs =
-    let t = one (c .before .before) in (
-      t .small,
-      turn-fits (c .before .before .before .before .before .before .loop .inv .3) t
-          (c .before .before .before .before .before .before .before .before .before .before .pre .1),
-    )
+put-turn-requires : tie.Need-put-turn-requires Inv-loop μ-loop
+put-turn-requires c κs =
+    let l = c .before .before .loop in
+    (omega arith, l .inv .2, held-room (l .inv .3) (c .before .before .before .before .before .before .pre .1))
 
 add-at : tie.Need-add-at Inv-loop μ-loop
-add-at c =
-    omega (
-      arith,
-      written-turn (c .before .before .before .before .before .before .before .before .before .loop .inv .3)
-          (one (c .before .before .before .before .before)) (c .before .before .put-utf8 .ensures) .wrote .fits,
-    )
-
-add-i : tie.Need-add-i Inv-loop μ-loop
-add-i c =
-    let t = one (c .before .before .before .before .before) in omega (arith, few (c .before .before .before .before .before .before .before .before .before))
+add-at c = omega (arith, held-rest (c .before .before .before .before .before .before .loop .inv .3) (c .before .before .before .before .before .before .before .before .before .before .pre .1) (c .before .before .before .put-turn .ensures .held) .fits)
 
 loop-less : tie.Need-loop-less Inv-loop μ-loop
-loop-less c = let t = one (c .before .before .before .before .before) in omega arith
+loop-less c = omega (arith, c .before .before .before .put-turn .ensures .moves, c .before .before .before .put-turn .ensures .within)
 
 loop-again : tie.Need-loop-again Inv-loop μ-loop
 loop-again c =
-    let t = one (c .before .before .before .before .before) in
-    let w = written-turn (c .before .before .before .before .before .before .before .before .before .loop .inv .3) t (c .before .before .put-utf8 .ensures) in
-    (t .within, wrote-length (w .wrote), t .well, w)
+    let t = c .before .before .before .put-turn .ensures in
+    let w = held-rest (c .before .before .before .before .before .before .loop .inv .3) (c .before .before .before .before .before .before .before .before .before .before .pre .1) (t .held) in
+    (t .within, w .size, t .well, w)
 
-enum-known-c-2 : tie.Need-enum-known-c-2 Inv-loop μ-loop
-enum-known-c-2 c = search needs
+sub-put-rest : tie.Need-sub-put-rest Inv-loop μ-loop
+sub-put-rest c = omega arith
 
-sub-put-utf8-2 : tie.Need-sub-put-utf8-2 Inv-loop μ-loop
-sub-put-utf8-2 c = omega arith
+part-put-rest-start : tie.Need-part-put-rest-start Inv-loop μ-loop
+part-put-rest-start c = omega arith
 
-part-put-utf8-start-2 : tie.Need-part-put-utf8-start-2 Inv-loop μ-loop
-part-put-utf8-start-2 c = omega arith
+part-put-rest-end : tie.Need-part-put-rest-end Inv-loop μ-loop
+part-put-rest-end c = omega arith
 
-part-put-utf8-end-2 : tie.Need-part-put-utf8-end-2 Inv-loop μ-loop
-part-put-utf8-end-2 c = omega arith
+put-rest-requires : tie.Need-put-rest-requires Inv-loop μ-loop
+put-rest-requires c κs =
+    let l = c .before .before .loop in
+    (l .inv .0, l .inv .2, held-room (l .inv .3) (c .before .before .before .before .before .before .pre .1))
 
-put-utf8-requires-2 : tie.Need-put-utf8-requires-2 Inv-loop μ-loop
-put-utf8-requires-2 c κs =
-    let t = two (c .before .before) in (
-      t .small,
-      turn-fits (c .before .before .before .before .before .before .loop .inv .3) t
-          (c .before .before .before .before .before .before .before .before .before .before .pre .1),
-    )
-
-add-at-2 : tie.Need-add-at-2 Inv-loop μ-loop
-add-at-2 c =
-    omega (
-      arith,
-      written-turn (c .before .before .before .before .before .before .before .before .before .loop .inv .3)
-          (two (c .before .before .before .before .before)) (c .before .before .put-utf82 .ensures) .wrote .fits,
-    )
-
-add-i-2 : tie.Need-add-i-2 Inv-loop μ-loop
-add-i-2 c =
-    let t = two (c .before .before .before .before .before) in omega (arith, few (c .before .before .before .before .before .before .before .before .before))
-
-loop-less-2 : tie.Need-loop-less-2 Inv-loop μ-loop
-loop-less-2 c = let t = two (c .before .before .before .before .before) in omega arith
-
-loop-again-2 : tie.Need-loop-again-2 Inv-loop μ-loop
-loop-again-2 c =
-    let t = two (c .before .before .before .before .before) in
-    let w = written-turn (c .before .before .before .before .before .before .before .before .before .loop .inv .3) t (c .before .before .put-utf82 .ensures) in
-    (t .within, wrote-length (w .wrote), t .well, w)
-
-enum-told : tie.Need-enum-told Inv-loop μ-loop
-enum-told c = search needs
+add-result : tie.Need-add-result Inv-loop μ-loop
+add-result c =
+    omega (arith, held-rest (c .before .before .before .before .before .loop .inv .3) (c .before .before .before .before .before .before .before .before .before .pre .1) (held-wrote (c .before .before .put-rest .ensures)) .fits)
 
 same-length : tie.Need-same-length Inv-loop μ-loop
-same-length c = omega arith
+same-length c = held-rest (c .before .before .before .before .before .loop .inv .3) (c .before .before .before .before .before .before .before .before .before .pre .1) (held-wrote (c .before .before .put-rest .ensures)) .size
 
 returns : tie.Need-returns Inv-loop μ-loop
 returns c =
-    let l = c .before .before .before .before in
-    absurd (turn-ill (us l) (l .loop .i) (l .loop .inv .2) (omega arith) (sym (c .before .before .scalar-at .ensures) ∙ c .enum-told .given .1))
-
-same-length-2 : tie.Need-same-length-2 Inv-loop μ-loop
-same-length-2 c = omega arith
-
-returns-2 : tie.Need-returns-2 Inv-loop μ-loop
-returns-2 c = written-all (c .before .loop .inv .3) (last-bytes (us (c .before)) (c .before .loop .i) (omega arith))
+    let h = c .before .before .before .before .before .before .before .before .before .pre .1 in
+    held-all (held-rest (c .before .before .before .before .before .loop .inv .3) h (held-wrote (c .before .before .put-rest .ensures))) h
 
 pub put-base-spec : {M : Type 1} → statement M
 put-base-spec =
@@ -168,27 +99,18 @@ put-base-spec =
     μ-loop
     unit-count-requires
     loop-holds
-    scalar-at-requires
-    enum-known-c
-    sub-put-utf8
-    part-put-utf8-start
-    part-put-utf8-end
-    put-utf8-requires
+    sub-loop
+    sub-put-turn
+    part-put-turn-start
+    part-put-turn-end
+    put-turn-requires
     add-at
-    add-i
     loop-less
     loop-again
-    enum-known-c-2
-    sub-put-utf8-2
-    part-put-utf8-start-2
-    part-put-utf8-end-2
-    put-utf8-requires-2
-    add-at-2
-    add-i-2
-    loop-less-2
-    loop-again-2
-    enum-told
+    sub-put-rest
+    part-put-rest-start
+    part-put-rest-end
+    put-rest-requires
+    add-result
     same-length
-    returns
-    same-length-2
-    returns-2)
+    returns)
