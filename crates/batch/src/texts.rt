@@ -1,4 +1,4 @@
-// The text at a place of a block, and the name that it makes with an instance number: written, measured, compared, its id. A caller says
+// The text at a place of a block, and the name that it makes with an instance number: written, measured, compared. A caller says
 // what stands there (`Holds`) and never cuts the block itself.
 ghost use mathlib.Core.Path.{_≡_};
 ghost use mathlib.Core.Bool.{true};
@@ -6,7 +6,6 @@ ghost use Prim.Native.Nat.{_+_, _*_, _≤_};
 ghost use lib.ListN.{length};
 ghost use Rattle.text.specs.Affix.{startsWith, endsWith, allAscii};
 ghost use Rattle.text.specs.AffixLaws.{unitSize};
-ghost use Rattle.ids.specs.Id.{idOf};
 ghost use Rattle.text.specs.Name.{textBytes};
 ghost use Rattle.base.specs.Output.{Wrote};
 ghost use Rattle.text.specs.Utf8.{utf8};
@@ -46,14 +45,6 @@ pub fn put_place_text(out: &mut [u8], b: &[u8], p: Place, number: u32) -> usize
     ensures { λ r. ⌜ Wrote (now (out .entry)) (textBytes (nameAt (now (b .entry)) p number)) (now (out .exit)) r ⌝ }
 {
     text::plain::put_name_text(out, part_of(b, p), p.wide, number)
-}
-
-// The id of the name.
-pub fn place_id(b: &[u8], p: Place, number: u32) -> u64
-    requires { ⌜ Holds (now b) p (textAt (now b) p) ⌝ }
-    ensures { λ r. ⌜ r ≡ idOf (nameAt (now (b .entry)) p number) ⌝ }
-{
-    ids::id::name_id(part_of(b, p), p.wide, number)
 }
 
 // Whether the text starts with an ASCII text.

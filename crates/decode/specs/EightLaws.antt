@@ -11,7 +11,7 @@ use lib.ListN.{length, take, drop, getD, set, length-take, length-drop}
 use lib.Seq.{take-suc, getD-drop}
 use Rattle.base.specs.Output.{Wrote}
 use Rattle.base.specs.OutputLaws.{wrote-as, wrote-byte, wrote-count}
-use Rattle.ids.specs.IdLaws.{unitBytes-length, unitBytes-append}
+use Rattle.text.specs.UnitBytesLaws.{unitBytes-length, unitBytes-append}
 use Rattle.text.specs.Utf16.{isWell, unitBytes, utf16le}
 use Rattle.decode.specs.KnownLaws.{first-1}
 use Rattle.decode.specs.Latin.{every, ascii}

@@ -9,7 +9,7 @@ use lib.Dec.{ltb}
 use lib.ListN.{length, length-append}
 use Rattle.base.specs.Never.{never}
 use Rattle.text.specs.Utf16.{Decoded, well, ill, isWell, scalars, encodeOne, encode16, utf16le}
-use Rattle.ids.specs.IdLaws.{unitBytes-length}
+use Rattle.text.specs.UnitBytesLaws.{unitBytes-length}
 use Rattle.text.specs.Utf8.{utf8One, utf8, fromUtf8}
 use Rattle.decode.specs.declared.measure.Measured.the-variants.{Text, NoText}
 use Rattle.decode.specs.ReadLaws.{utf8-encode}

@@ -8,7 +8,7 @@ use borrow.Author.Tests.{le-ltb}
 use lib.ListN.{length, take, drop, length-append}
 use Rattle.base.specs.Output.{Wrote}
 use Rattle.base.specs.OutputLaws.{wrote-none, wrote-as, wrote-rest, wrote-room}
-use Rattle.ids.specs.IdLaws.{unitBytes-append}
+use Rattle.text.specs.UnitBytesLaws.{unitBytes-append}
 use Rattle.text.specs.Utf16.{isWell, encodeOne, encode16, unitBytes, utf16le}
 use Rattle.decode.specs.TurnLaws.{Turn, from, textFrom, one-unit, text-next, last-turn}
 

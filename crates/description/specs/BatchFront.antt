@@ -11,7 +11,7 @@ use lib.ListN.{length, getD, replicate, length-append, length-replicate}
 use Rattle.base.specs.Choose.{choose}
 use Rattle.base.specs.Find.{flat}
 use Rattle.base.specs.FindLaws.{length-each}
-use Rattle.ids.specs.IdLaws.{unitBytes-length}
+use Rattle.text.specs.UnitBytesLaws.{unitBytes-length}
 use Rattle.text.specs.Name.{decoded, base}
 use Rattle.base.specs.Number.{beBytes}
 use Rattle.base.specs.NumberLaws.{length-beBytes, length-leBytes}

@@ -9,7 +9,7 @@ use native.Mathlib.Numerals.{sub-one}
 use native.Mathlib.Omega.{arith}
 use lib.ListN.{length, getD, take, drop, length-append, length-take, length-drop, length-map, take-append-drop, drop-of-length-le}
 use lib.Seq.{take-length, drop-length, take-all, take-at, drop-at, take-add, drop-drop, length-take-le}
-use Rattle.ids.specs.IdLaws.{unitBytes-length, unitBytes-append}
+use Rattle.text.specs.UnitBytesLaws.{unitBytes-length, unitBytes-append}
 use Rattle.ids.specs.LowerLaws.{lowered-units}
 use Rattle.text.specs.Name.{decoded, base, suffix}
 use Rattle.base.specs.NumberLaws.{Bytes, bytes-part}

@@ -17,7 +17,7 @@ use Rattle.lower.specs.LowerLaws.{lower-is}
 use Rattle.lower.specs.AsciiLaws.{ascii-below}
 use Rattle.rules.specs.LatinLaws.{lower-ascii}
 use Rattle.lower.specs.SearchLaws.{every, second-every}
-use Rattle.ids.specs.IdLaws.{unitBytes-length}
+use Rattle.text.specs.UnitBytesLaws.{unitBytes-length}
 use Rattle.text.specs.Name.{suffix}
 use Rattle.base.specs.Output.{over, Wrote}
 use Rattle.ids.specs.LoweredUnits.{nameUnits}

@@ -8,7 +8,7 @@ use lib.ListN.{length, take, drop}
 use lib.Seq.{drop-drop, take-take}
 use Rattle.city.specs.City.{turn, turns, start, finish, cityHash64}
 use Rattle.city.specs.CityLaws.{turn-front, long-is}
-use Rattle.ids.specs.IdLaws.{unitBytes-length, unitBytes-take, unitBytes-drop}
+use Rattle.text.specs.UnitBytesLaws.{unitBytes-length, unitBytes-take, unitBytes-drop}
 use Rattle.base.specs.Number.{leAt}
 use Rattle.base.specs.NumberLaws.{drop-take, leAt-part}
 use Rattle.text.specs.Utf16.{unitBytes}

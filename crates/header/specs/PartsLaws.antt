@@ -15,7 +15,7 @@ use Rattle.base.specs.Number.{beAt}
 use Rattle.base.specs.ReadingRows.{cells}
 use Rattle.text.specs.Utf16.{isWell, encode16, utf16le}
 use Rattle.text.specs.Utf8.{fromUtf8}
-use Rattle.ids.specs.IdLaws.{unitBytes-length}
+use Rattle.text.specs.UnitBytesLaws.{unitBytes-length}
 use Rattle.decode.specs.declared.measure.Measured.{Measured}
 use Rattle.decode.specs.declared.measure.Measured.the-variants.{Text, NoText}
 use Rattle.decode.specs.Measure.{textOf, fitsLatin1, measured}

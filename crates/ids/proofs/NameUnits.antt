@@ -28,7 +28,8 @@ use Rattle.text.specs.Units.{unitsOf}
 use Rattle.ids.specs.LoweredUnits.{loweredUnit, nameUnits}
 use Rattle.text.specs.UnitsLaws.{base-units, unitsOf-narrow}
 use Rattle.ids.specs.Id.{idOf}
-use Rattle.ids.specs.IdLaws.{name-units, unitBytes-length, unitBytes-append, unitBytes-take, unitBytes-drop}
+use Rattle.ids.specs.IdLaws.{name-units}
+use Rattle.text.specs.UnitBytesLaws.{unitBytes-length, unitBytes-append, unitBytes-take, unitBytes-drop}
 
 module _ (wide : Bool) (part : List ℕ) (b : Bytes part) (w : isWell (decoded wide part) ≡ true) where
   -- lowering keeps the number of units

@@ -18,7 +18,7 @@ use Rattle.lower.specs.LowerLaws.{lower-single}
 use Rattle.city.specs.City.{k2, hashBytes, hashHalves, hashTwo, hashFour, cityHash64}
 use Rattle.city.specs.CityLaws.{none-is, bytes-is, halves-is, two-is, four-is}
 use Rattle.ids.specs.LowerLaws.{lowered-at, lowered-length}
-use Rattle.ids.specs.IdLaws.{twice, unitBytes-length, unitBytes-take}
+use Rattle.text.specs.UnitBytesLaws.{twice, unitBytes-length, unitBytes-take}
 use Rattle.ids.proofs.NameUnits.{wrote-unit}
 
 -- ---- units of one-byte text

@@ -1,13 +1,12 @@
--- Laws of the id of a name: the units that are hashed, and the bytes of units, in parts. Assumes nothing.
+-- Laws of the id of a name: the units that are hashed. Assumes nothing.
 use mathlib.Core.Path.{_≡_, refl, _∙_}
-use mathlib.Core.List.{List, [], _∷_, _++_}
+use mathlib.Core.List.{List, _++_}
 use mathlib.Core.Logic.{by-cases}
-use Prim.Native.Nat.{ℕ, zero, suc, _+_, _*_, _-_, _%_, _/_, _<_}
+use Prim.Native.Nat.{ℕ, zero, suc, _+_, _%_, _/_, _<_}
 use native.Mathlib.Decide.{decLt}
 use native.Mathlib.Omega.{arith}
-use lib.ListN.{length, take, drop}
 use borrow.Author.Tests.{lt-ltb, le-ltb}
-use Rattle.text.specs.Utf16.{encode16, unitBytes}
+use Rattle.text.specs.Utf16.{encode16}
 use Rattle.text.specs.Utf16Laws.{encode-append, encode-ascii}
 use Rattle.text.specs.Digits.{digits, decimal}
 use Rattle.text.specs.Name.{suffix}
@@ -17,8 +16,6 @@ use Rattle.lower.specs.AsciiLaws.{ascii-below, ascii-above}
 use Rattle.rules.specs.LatinLaws.{lower-ascii}
 use Rattle.ids.specs.LowerLaws.{lowered-append}
 use Rattle.ids.specs.LoweredUnits.{nameUnits}
-
--- ---- names
 
 -- an instance number has no letter
 lower-plain : (c : ℕ) → c < 65 → lower c ≡ c
@@ -41,26 +38,3 @@ suffix-lowered (suc n) = rw (lower-ascii 95 (omega arith), ascii-above 95 (omega
 pub name-units : (base : List ℕ) (number : ℕ) → encode16 (lowered (base ++ suffix number)) ≡ nameUnits base (suffix number)
 unfolding nameUnits
 name-units base number = rw (lowered-append, suffix-lowered, encode-append, encode-ascii (suffix number) (suffix-ascii number))
-
--- ---- the bytes of units
-
-pub twice : (n : ℕ) → 2 * suc n ≡ suc (suc (2 * n))
-twice n = omega arith
-
-pub unitBytes-length : (us : List ℕ) → length (unitBytes us) ≡ 2 * length us
-unitBytes-length [] = refl
-unitBytes-length (u ∷ us) = rw (unitBytes-length us, twice)
-
-pub unitBytes-append : (us vs : List ℕ) → unitBytes (us ++ vs) ≡ unitBytes us ++ unitBytes vs
-unitBytes-append [] vs = refl
-unitBytes-append (u ∷ us) vs = rw (unitBytes-append us vs)
-
-pub unitBytes-take : (n : ℕ) (us : List ℕ) → unitBytes (take n us) ≡ take (2 * n) (unitBytes us)
-unitBytes-take zero us = refl
-unitBytes-take (suc n) [] = rw twice
-unitBytes-take (suc n) (u ∷ us) = rw (twice, unitBytes-take n us)
-
-pub unitBytes-drop : (n : ℕ) (us : List ℕ) → unitBytes (drop n us) ≡ drop (2 * n) (unitBytes us)
-unitBytes-drop zero us = refl
-unitBytes-drop (suc n) [] = rw twice
-unitBytes-drop (suc n) (u ∷ us) = rw (twice, unitBytes-drop n us)

@@ -24,7 +24,7 @@ use batch::notes::NOTES;
 use batch::notes::place_at;
 use batch::places::Place;
 use batch::reader::u30_le;
-use batch::texts::place_id;
+use zen::id::place_id;
 use zen::tables::Export;
 use zen::zen::Layout;
 

@@ -4,6 +4,7 @@
 pub mod Utf16
 pub mod Utf16Cases
 pub mod Utf16Laws
+pub mod UnitBytesLaws
 pub mod Units
 pub mod UnitsLaws
 pub mod Utf8

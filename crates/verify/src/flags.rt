@@ -17,13 +17,13 @@ use batch::names::read_head;
 use batch::places::Place;
 use batch::places::name_start;
 use batch::reader::u30_le;
-use batch::texts::place_id;
 use packages::frame::block_at;
 use packages::frame::id_at;
 use packages::frame::next_at;
 use packages::names::Name;
 use packages::package::Parts;
 use packages::package::parts_of;
+use zen::id::place_id;
 use zen::layout::layout_of;
 
 // Where a package's name is, and its number, by passing over the names before it: it is the only name that is asked for.

@@ -9,6 +9,7 @@ ghost use Rattle.batch.specs.Notes.{noteCount, Noted};
 ghost use Rattle.zen.specs.Zen.{noExport, packageBlock};
 ghost use Rattle.zen.specs.Answers.{answer, exportsOf, hashesOf, numbersOf, importedNameOf, exportCount, hashCount};
 ghost use Rattle.zen.specs.declared.zen.Package.the-variants.{Accepted};
+use super::id::place_id;
 use super::tables::Export;
 use super::tables::export_in;
 use super::zen::Layout;
@@ -17,7 +18,6 @@ use batch::notes::note_names;
 use batch::notes::place_at;
 use batch::places::Place;
 use batch::reader;
-use batch::texts::place_id;
 
 // The public hash of number i of an accepted package.
 pub fn hash_at(b: &[u8], l: Layout, i: usize) -> u64

@@ -5,7 +5,7 @@ use Prim.Native.Nat.{ℕ, _+_, _-_, _≤_, _<_}
 use native.Mathlib.Omega.{arith}
 use borrow.Author.Needs.{needs}
 use lib.ListN.{length, take, drop, length-take, length-drop}
-use Rattle.ids.specs.IdLaws.{unitBytes-length}
+use Rattle.text.specs.UnitBytesLaws.{unitBytes-length}
 use Rattle.base.specs.OutputLaws.{wrote-length}
 use Rattle.text.specs.Utf16.{unitBytes}
 use Rattle.hashes.specs.Chain.{pieces}

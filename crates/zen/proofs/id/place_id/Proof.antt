@@ -2,8 +2,8 @@
 use native.Mathlib.Omega.{arith}
 use lib.ListN.{length-take}
 use borrow.Author.Needs.{needs}
-use Rattle.batch.proofs.texts.place_id.Statement.{statement}
-use Rattle.batch.proofs.texts.place_id.Tie as tie
+use Rattle.zen.proofs.id.place_id.Statement.{statement}
+use Rattle.zen.proofs.id.place_id.Tie as tie
 
 part-of-requires : tie.Need-part-of-requires
 part-of-requires c κs = search needs
