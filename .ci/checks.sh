@@ -80,6 +80,9 @@ written_by() { # crate, label
     done < <(sed -n 's/^file: //p' "crates/$1/must-fail/$2.edit" | LC_ALL=C sort -u)
 }
 
+# The mistakes of an edit that holds several, as lines 'NAME AT': `mistake: NAME, refused in AT` stands before each.
+mistakes_of() { sed -n 's/^mistake: \([a-z0-9_]*\), refused in \(.*\)$/\1 \2/p' -- "$1"; }
+
 # Each edit was tried and refused by a proof that fails, not by the parser or for a name that is not there (.ci/edits.awk).
 edits_reach_the_prover() {
     local edit crate label log why status=0
@@ -89,9 +92,11 @@ edits_reach_the_prover() {
         log=target/must-fail/$crate/$label/.log
         if [ "$(cat -- "target/must-fail/$crate/$label.res" 2>/dev/null)" != refused ]; then
             why='it was not tried, or not refused'
+        elif [ "$(grep -c '^mistake' -- "$edit")" -ne "$(mistakes_of "$edit" | cut -d ' ' -f 2- | sort -u | wc -l)" ]; then
+            why='two mistakes have one place, or a mistake none'
         else
-            why=$(PLACE=$root/target/must-fail/$crate/$label/ WRITTEN=$(written_by "$crate" "$label") awk -f .ci/edits.awk "$log") ||
-                why='its log can not be read'
+            why=$(PLACE=$root/target/must-fail/$crate/$label/ WRITTEN=$(written_by "$crate" "$label") MISTAKES=$(mistakes_of "$edit") \
+                awk -f .ci/edits.awk "$log") || why='its log can not be read'
         fi
         if [ -n "$why" ]; then printf 'must-fail %s/%s: %s\n' "$crate" "$label" "$why" && status=1; fi
     done
