@@ -1,3 +1,4 @@
+pub mod AsciiUnits
 pub mod NameUnits
 pub mod PutUnits
 pub mod ShortUnits

@@ -6,7 +6,7 @@ use native.Mathlib.Nat.{zero-add}
 use native.Mathlib.Numerals.{add-one}
 use native.Mathlib.Omega.{arith}
 use lib.ListN.{length, set, getD, take, drop, replicate, length-append, take-append-drop, List·getD-append}
-use lib.Seq.{length-take-le, getD-append-add, getD-drop}
+use lib.Seq.{length-take-le, getD-append-add, getD-take, getD-drop}
 use Rattle.base.specs.Number.{leAt}
 use Rattle.base.specs.NumberLaws.{Bytes, leAt-part, leAt-add}
 use Rattle.base.specs.Output.{over, Wrote}
@@ -54,7 +54,7 @@ wrote-next us i e w h l = wrote-count (wrote-unit us 0 i (rw zero-add e) w (rw z
 
 -- ---- units of 16 bits
 
-words-append : (s t : List ℕ) → Words s → Words t → Words (s ++ t)
+pub words-append : (s t : List ℕ) → Words s → Words t → Words (s ++ t)
 words-append [] t a b i = b i
 words-append (u ∷ s) t a b zero = a zero
 words-append (u ∷ s) t a b (suc i) = words-append s t (λ j. a (suc j)) b i
@@ -158,6 +158,24 @@ module _ (us : List ℕ) (n : ℕ) (h : n ≤ length us) where
   -- a number that stands in their bytes
   front : (k i j : ℕ) → j ≡ 2 * i → 2 * i + k ≤ 2 * n → leAt k (unitBytes (take n us)) j ≡ leAt k (unitBytes us) (2 * i)
   front k i j e l = rw (e, unitBytes-take n us) (leAt-part k 0 (2 * n) (unitBytes us) (2 * i) l ∙ ap (leAt k (unitBytes us)) (zero-add (2 * i)))
+
+  pub first-none : n ≡ 0 → cityHash64 (unitBytes (take n us)) ≡ k2
+  first-none e = units-none (take n us) n (sym (length-take-le n us h)) e
+
+  pub first-one : n ≡ 1 → cityHash64 (unitBytes (take n us)) ≡ hashBytes 2 (getD us 0 0 % 256) (getD us 0 0 / 256) (getD us 0 0 / 256)
+  first-one e = units-one (take n us) n (sym (length-take-le n us h)) e ∙ rw (getD-take n us 0 0 (omega arith))
+
+  pub first-halves : 2 ≤ n → n < 4
+      → cityHash64 (unitBytes (take n us)) ≡ hashHalves (2 * n) (leAt 4 (unitBytes us) 0) (leAt 4 (unitBytes us) (2 * (n - 2)))
+  first-halves a b =
+      units-halves (take n us) n (sym (length-take-le n us h)) a b
+      ∙ rw (front 4 0 0 refl (omega arith), front 4 (n - 2) (2 * (n - 2)) refl (omega arith))
+
+  pub first-two : 4 ≤ n → n ≤ 8
+      → cityHash64 (unitBytes (take n us)) ≡ hashTwo (2 * n) (leAt 8 (unitBytes us) 0) (leAt 8 (unitBytes us) (2 * (n - 4)))
+  first-two a b =
+      two-is (unitBytes (take n us)) (2 * n) size-first (omega arith) (omega arith)
+      ∙ rw (front 8 0 0 refl (omega arith), front 8 (n - 4) (2 * n - 8) (omega arith) (omega arith))
 
   pub units-four : 8 < n → n ≤ 16
       → cityHash64 (unitBytes (take n us))

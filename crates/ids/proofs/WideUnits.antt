@@ -59,7 +59,7 @@ last t (v ∷ us) u = rw (last t us u) (go (t v) (allAre t us) (t u))
     go false b c = refl
 
 -- what it says of each
-each : (t : ℕ → Bool) (us : List ℕ) (i : ℕ) → i < length us → allAre t us ≡ true → t (getD us i 0) ≡ true
+pub each : (t : ℕ → Bool) (us : List ℕ) (i : ℕ) → i < length us → allAre t us ≡ true → t (getD us i 0) ≡ true
 each t [] i h e = absurd (omega arith)
 each t (u ∷ us) zero h e = and-eq-true-iff (t u) (allAre t us) .0 e .0
 each t (u ∷ us) (suc i) h e = each t us i (omega arith) (and-eq-true-iff (t u) (allAre t us) .0 e .1)
@@ -71,7 +71,7 @@ bits-last b [] u = refl
 bits-last b (v ∷ us) u = bits-last (bitOr b v) us u
 
 -- ASCII is caseless
-bits-ascii : (b : ℕ) (us : List ℕ) → bitsFrom b us < 0x80 → (b < 0x80) × (allAre caseless us ≡ true)
+pub bits-ascii : (b : ℕ) (us : List ℕ) → bitsFrom b us < 0x80 → (b < 0x80) × (allAre caseless us ≡ true)
 bits-ascii b [] h = (h, refl)
 bits-ascii b (u ∷ us) h =
     let i = bits-ascii (bitOr b u) us h in
@@ -125,7 +125,7 @@ module _ {t : ℕ → Bool} {f : ℕ → ℕ} (s : LowersBy t f) where
 
   module _ (part : List ℕ) (b : Bytes part) (w : isWell (decoded true part) ≡ true) where
     -- n units that pass the test
-    window : (from n : ℕ) → allAre t (take n (drop from (unitsOf true part))) ≡ true
+    pub window : (from n : ℕ) → allAre t (take n (drop from (unitsOf true part))) ≡ true
         → take n (drop from (map f (unitsOf true part))) ≡ take n (drop from (encode16 (lowered (base true part))))
     window from n a =
         let us : List ℕ = unitsOf true part in

@@ -16,6 +16,9 @@ ghost use Rattle.city.specs.City.{cityHash64};
 ghost use Rattle.text.specs.Units.{unitsOf};
 ghost use Rattle.ids.specs.LoweredUnits.{nameUnits};
 ghost use Rattle.ids.specs.Id.{idOf};
+use super::ascii::array_hash;
+use super::ascii::is_tried;
+use super::ascii::put_name;
 use super::short::one_hash;
 use super::short::one_unit;
 use super::short::short_hash;
@@ -234,8 +237,8 @@ fn middle_hash(part: &[u8], suffix: &[u8], n: usize) -> u64
     hash_len33up(&chunk[..size])
 }
 
-// CityHash64 of a lowered name of wide text that has up to 32 units.
-fn wide_hash(part: &[u8], suffix: &[u8], n: usize) -> u64
+// CityHash64 of a lowered name of wide text that has up to 32 units, by its bytes.
+fn chunk_hash(part: &[u8], suffix: &[u8], n: usize) -> u64
     requires { ⌜ (isWell (decoded true (now part)) ≡ true) × (n ≡ length (nameUnits (base true (now part)) (now suffix))) × (n ≤ 32) ⌝ }
     ensures { λ r. ⌜ r ≡ cityHash64 (unitBytes (nameUnits (base true (now (part .entry))) (now (suffix .entry)))) ⌝ }
 {
@@ -245,6 +248,20 @@ fn wide_hash(part: &[u8], suffix: &[u8], n: usize) -> u64
         return hash_len0to32(&chunk[..size]);
     }
     hash_len33up(&chunk[..size])
+}
+
+// The same, by words where it is short and ASCII.
+fn wide_hash(part: &[u8], suffix: &[u8], n: usize) -> u64
+    requires { ⌜ (isWell (decoded true (now part)) ≡ true) × (n ≡ length (nameUnits (base true (now part)) (now suffix))) × (n ≤ 32) ⌝ }
+    ensures { λ r. ⌜ r ≡ cityHash64 (unitBytes (nameUnits (base true (now (part .entry))) (now (suffix .entry)))) ⌝ }
+{
+    if is_tried(part, n) {
+        let mut units = [0u32; 16];
+        if put_name(&mut units, part, suffix) {
+            return array_hash(&units, n);
+        }
+    }
+    chunk_hash(part, suffix, n)
 }
 
 // Whether a name of more than 32 units is put as a whole: one-byte text with a number, up to 64 units of it.

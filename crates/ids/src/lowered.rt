@@ -12,6 +12,7 @@ ghost use Rattle.text.specs.Utf16Cases.{High, Low};
 ghost use Rattle.text.specs.Name.{decoded, base};
 ghost use Rattle.text.specs.Units.{unitsOf};
 ghost use Rattle.ids.specs.LoweredUnits.{loweredUnit};
+use lower::ascii::lower_ascii;
 use lower::search::lower_in;
 use rules::rules::lower_pair;
 use rules::rules::lower_quick;
@@ -64,13 +65,17 @@ fn lower_trailing(before: u32, u: u32) -> u32
     0xDC00 + (lower_pair(c) - 0x1_0000) % 0x400
 }
 
-// Unit i of a lowered part, by the rules; where the table is to be asked, a number that no unit has.
+// Unit i of a lowered part, by the rules; where the table is to be asked, a number that no unit has. Most units of most names are ASCII, which is
+// asked first.
 pub fn quick_unit(part: &[u8], wide: bool, i: usize) -> u32
     requires { ⌜ (isWell (decoded wide (now part)) ≡ true) × (i < length (unitsOf wide (now part))) ⌝ }
     ensures { λ r. ⌜ r ≡ cond (asks (getD (unitsOf wide (now (part .entry))) i 0)) 0x110000
         (getD (encode16 (lowered (base wide (now (part .entry))))) i 0) ⌝ }
 {
     let u = unit_at(part, wide, i);
+    if u < 0x80 {
+        return lower_ascii(u);
+    }
     if u < 0xD800 {
         return lower_quick(u);
     }

@@ -77,6 +77,15 @@ fn tiny_hash(part: &[u8], suffix: &[u8], n: usize) -> u64
     )
 }
 
+// The same of four units: the first word is the last.
+fn word_hash(part: &[u8], suffix: &[u8]) -> u64
+    requires { ⌜ 4 ≡ length (now part) + length (now suffix) ⌝ }
+    ensures { λ r. ⌜ r ≡ cityHash64 (unitBytes (lowered (now (part .entry)) ++ now (suffix .entry))) ⌝ }
+{
+    let a = joined(pair_at(part, suffix, 0), pair_at(part, suffix, 2));
+    hash_two(8, a, a)
+}
+
 // The same of four to eight units, of the first and the last word.
 fn two_hash(part: &[u8], suffix: &[u8], n: usize) -> u64
     requires { ⌜ (n ≡ length (now part) + length (now suffix)) × (4 ≤ n) × (n ≤ 8) ⌝ }
@@ -100,7 +109,7 @@ fn put_base(units: &mut [u32], part: &[u8])
 }
 
 // The units of a suffix.
-fn put_number(units: &mut [u32], suffix: &[u8])
+pub fn put_number(units: &mut [u32], suffix: &[u8])
     requires { ⌜ length (now suffix) ≤ length (now units) ⌝ }
     ensures { λ _. ⌜ Wrote (now (units .entry)) (now (suffix .entry)) (now (units .exit)) (length (now (suffix .entry))) ⌝ }
 {
@@ -131,7 +140,7 @@ fn four(a: u32, b: u32, c: u32, d: u32) -> u64
 }
 
 // The word of the four units from a place on.
-fn word_in(units: &[u32], i: usize) -> u64
+pub fn word_in(units: &[u32], i: usize) -> u64
     requires { ⌜ (i + 4 ≤ length (now units)) × Words (now units) ⌝ }
     ensures { λ r. ⌜ r ≡ leAt 8 (unitBytes (now (units .entry))) (2 * i) ⌝ }
 {
@@ -139,7 +148,7 @@ fn word_in(units: &[u32], i: usize) -> u64
 }
 
 // CityHash64 of the first n units, nine to 16, of the first two and the last two words.
-fn words_hash(units: &[u32], n: usize) -> u64
+pub fn words_hash(units: &[u32], n: usize) -> u64
     requires { ⌜ (8 < n) × (n ≤ 16) × (n ≤ length (now units)) × Words (now units) ⌝ }
     ensures { λ r. ⌜ r ≡ cityHash64 (unitBytes (take n (now (units .entry)))) ⌝ }
 {
@@ -170,8 +179,11 @@ pub fn short_hash(part: &[u8], suffix: &[u8], n: usize) -> u64
     if 8 < n {
         return four_hash(part, suffix, n);
     }
-    if 4 <= n {
+    if 4 < n {
         return two_hash(part, suffix, n);
+    }
+    if n == 4 {
+        return word_hash(part, suffix);
     }
     tiny_hash(part, suffix, n)
 }

@@ -216,7 +216,8 @@ fn guessed(bits: u16) -> Guess
     Guess::Other
 }
 
-// What the n units from a place on look like. Where they do not start high they are put with A to Z lowered, which is right if they are ASCII.
+// What the n units from a place on look like. Where they do not start high they are put with A to Z lowered, which is right if they are ASCII; but a
+// text of less than eight units goes one by one, as Latin does that fills no turn: most of those that are ASCII never come here (`ascii.rt`).
 // Here and below nothing behind the first 2 * n bytes changes.
 fn tried(out: &mut [u8], part: &[u8], from: usize, n: usize) -> Guess
     requires { ⌜ (isWell (decoded true (now part)) ≡ true) × (n ≤ length (unitsOf true (now part)) - from) × (from + n < 2 ^ 64)
@@ -226,6 +227,9 @@ fn tried(out: &mut [u8], part: &[u8], from: usize, n: usize) -> Guess
 {
     if starts_high(part, from, n) {
         return Guess::Other;
+    }
+    if part.len() < 16 {
+        return Guess::Latin;
     }
     guessed(put_ascii(out, part, from, n))
 }

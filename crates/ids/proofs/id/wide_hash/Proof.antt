@@ -1,67 +1,58 @@
--- `id::wide_hash`: its units fill the front of a chunk. Assumes nothing.
-use mathlib.Core.Path.{_≡_, _∙_, ap}
-use mathlib.Core.Bool.{true}
+-- `id::wide_hash`: a short name that is ASCII by the array that has its units, any other by its bytes. Assumes nothing.
+use mathlib.Core.Path.{sym, _∙_, ap}
+use mathlib.Core.List.{List}
+use Prim.Native.Nat.{ℕ}
 use native.Mathlib.Omega.{arith}
 use borrow.Author.Needs.{needs}
-use lib.ListN.{take}
-use Rattle.base.specs.OutputLaws.{taken-length}
+use Rattle.base.specs.OutputLaws.{wrote-count, wrote-taken}
 use Rattle.text.specs.Utf16.{unitBytes}
-use Rattle.text.specs.Name.{base}
 use Rattle.city.specs.City.{cityHash64}
-use Rattle.ids.specs.LoweredUnits.{nameUnits}
-use Rattle.ids.proofs.NameUnits.{wrote-all}
+use Rattle.ids.proofs.ShortUnits.{zeros-words, over-words}
+use Rattle.ids.proofs.AsciiUnits.{wide-words}
 use Rattle.ids.proofs.id.wide_hash.Statement.{statement}
 use Rattle.ids.proofs.id.wide_hash.Tie as tie
 
--- the bytes of all units are in front of the chunk
-written : (c : tie.After-put-units)
-    → take (c .put-units .result) (c .put-units .last .0)
-    ≡ unitBytes (nameUnits (base true (c .before .before .before .before .args .part .now)) (c .before .before .before .before .args .suffix .now))
-written c =
-    let s = c .before .before .before .before in
-    wrote-all (nameUnits (base true (s .args .part .now)) (s .args .suffix .now)) (s .args .n) (c .put-units .ensures) (omega arith)
+is-tried-requires : tie.Need-is-tried-requires
+is-tried-requires c κs = search needs
 
-slice-aggregate-put-units : tie.Need-slice-aggregate-put-units
-slice-aggregate-put-units c = search needs
+slice-aggregate-put-name : tie.Need-slice-aggregate-put-name
+slice-aggregate-put-name c = search needs
 
-put-units-requires : tie.Need-put-units-requires
-put-units-requires c κs = search needs
+put-name-requires : tie.Need-put-name-requires
+put-name-requires c κs =
+    let h = c .before .before .is-tried .ensures (c .before .if1 .taken) in
+    (c .before .before .before .before .before .pre .0, omega arith)
 
-array-share-prefix-chunk : tie.Need-array-share-prefix-chunk
-array-share-prefix-chunk c = search needs
+slice-aggregate-array-hash : tie.Need-slice-aggregate-array-hash
+slice-aggregate-array-hash c = search needs
 
-slice-aggregate-hash-len0to32 : tie.Need-slice-aggregate-hash-len0to32
-slice-aggregate-hash-len0to32 c = taken-length (c .before .before .before .put-units .ensures)
-
-hash-len0to32-requires : tie.Need-hash-len0to32-requires
-hash-len0to32-requires c κs = omega (arith, taken-length (c .before .before .before .put-units .ensures))
+array-hash-requires : tie.Need-array-hash-requires
+array-hash-requires c κs =
+    let a = c .before .before .before .before .before .before .before .before .before .args in
+    let w = wide-words (a .part .now) (λ j. c .before .before .before .before .before .before .before .before .shared-slice-known .given j .fits) (c .before .before .before .before .before .before .before .before .before .pre .0) (a .suffix .now) (λ j. c .before .before .before .before .before .before .before .shared-slice-known2 .given j .fits) in
+    let h = c .before .before .before .before .before .before .is-tried .ensures (c .before .before .before .before .before .if1 .taken) in
+    (h, search needs, over-words (c .before .before .before .put-name .ensures (c .before .if2 .taken)) (zeros-words 16) w)
 
 returns : tie.Need-returns
-returns c = c .hash-len0to32 .ensures ∙ ap cityHash64 (written (c .before .before .before .before))
+returns c =
+    let w = wrote-count (c .before .before .before .before .put-name .ensures (c .before .before .if2 .taken)) (sym (c .before .before .before .before .before .before .before .before .before .before .pre .1)) in
+    c .array-hash .ensures ∙ ap (λ (s : List ℕ). cityHash64 (unitBytes s)) (wrote-taken w)
 
-array-share-prefix-chunk-2 : tie.Need-array-share-prefix-chunk-2
-array-share-prefix-chunk-2 c = search needs
-
-slice-aggregate-hash-len33up : tie.Need-slice-aggregate-hash-len33up
-slice-aggregate-hash-len33up c = taken-length (c .before .before .before .put-units .ensures)
-
-hash-len33up-requires : tie.Need-hash-len33up-requires
-hash-len33up-requires c κs = omega (arith, taken-length (c .before .before .before .put-units .ensures))
+chunk-hash-requires : tie.Need-chunk-hash-requires
+chunk-hash-requires c κs = search needs
 
 returns-2 : tie.Need-returns-2
-returns-2 c = c .hash-len33up .ensures ∙ ap cityHash64 (written (c .before .before .before .before))
+returns-2 c = search needs
 
 pub wide-hash-spec : {M : Type 1} → statement M
 wide-hash-spec =
     tie.close
     (tie.spec
-    slice-aggregate-put-units
-    put-units-requires
-    array-share-prefix-chunk
-    slice-aggregate-hash-len0to32
-    hash-len0to32-requires
+    is-tried-requires
+    slice-aggregate-put-name
+    put-name-requires
+    slice-aggregate-array-hash
+    array-hash-requires
     returns
-    array-share-prefix-chunk-2
-    slice-aggregate-hash-len33up
-    hash-len33up-requires
+    chunk-hash-requires
     returns-2)

@@ -14,6 +14,9 @@ starts-high-requires c κs = search needs
 returns : tie.Need-returns
 returns c = (wrote-same (search needs), λ e. never (cc))
 
+returns-2 : tie.Need-returns-2
+returns-2 c = (wrote-same (search needs), λ e. never (cc))
+
 put-ascii-requires : tie.Need-put-ascii-requires
 put-ascii-requires c κs = search needs
 
@@ -23,9 +26,9 @@ guessed-requires c κs = search needs
 same-length : tie.Need-same-length
 same-length c = search needs
 
-returns-2 : tie.Need-returns-2
-returns-2 c =
-    let k = c .before .before .before .before .before .before .before in
+returns-3 : tie.Need-returns-3
+returns-3 c =
+    let k = c .before .before .before .before .before .before .before .before in
     let s = k .before .before in
     let a = s .args in
     let b : Bytes (a .part .now) = λ j. k .shared-slice-known .given j .fits in
@@ -40,7 +43,8 @@ tried-spec =
     (tie.spec
     starts-high-requires
     returns
+    returns-2
     put-ascii-requires
     guessed-requires
     same-length
-    returns-2)
+    returns-3)
