@@ -2,4 +2,5 @@
 
 pub mod texts; // class and native class, written
 pub mod row; // a row, written
+pub mod ahead; // what the next rows are written from, looked at early
 pub mod section; // sections and the report, written

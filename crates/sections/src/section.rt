@@ -15,6 +15,7 @@ ghost use Rattle.resolve.specs.Marks.{firstStep, marksIn, MarksIn};
 ghost use Rattle.resolve.specs.Rows.{limitsOf};
 ghost use Rattle.sections.specs.Sections.{How, headOf, frontOf, behindOf, RowsMarked, ExportRoom, ExportPut, EachRoom, EachPut, RowsRoom, RowsPut, SectionRoom, SectionPut, SectionsRoom, SectionsPut};
 ghost use Rattle.sections.specs.Written.{reportAt, Ready, ReportRoom};
+use super::ahead::look_ahead;
 use super::row::put_row;
 use base::output::put_be32;
 use base::output::put_be64;
@@ -245,8 +246,10 @@ fn put_sections(
 {
     let mut size: usize = 0;
     let mut rows: usize = 0;
+    let mut ahead: usize = 0;
     let mut at = from;
     for _ in 0..count {
+        ahead = look_ahead(c, w, n, rows, ahead, all, names);
         let z = put_section(
             &mut out[size..],
             c,

@@ -1,17 +1,17 @@
 -- `section::put_sections` meets its contract. The loop's invariant: the sections of the first i packages are written, and the rows have their marks. Assumes nothing.
 use mathlib.Core.Path.{_≡_, sym, _∙_, ap}
 use mathlib.Core.List.{List, _++_}
-use Prim.Native.Nat.{ℕ, _+_, _-_, _≤_, _<_}
+use Prim.Native.Nat.{ℕ, _+_, _-_, _*_, _≤_, _<_}
 use native.Mathlib.Nat.{zero-add}
 use native.Mathlib.Omega.{arith}
 use borrow.Author.Needs.{needs}
-use lib.ListN.{length, take, drop, getD}
+use lib.ListN.{length, take, drop, getD, length-drop}
 use Rattle.base.specs.Find.{flat}
 use Rattle.batch.specs.Notes.{noteCount}
 use Rattle.meaning.specs.Reference.{Package}
 use Rattle.packages.specs.Walk.{placeOf, packageAt, packagesAt}
 use Rattle.packages.specs.WalkLaws.{place-none, place-next, packages-length, package-no}
-use Rattle.resolve.specs.Marks.{marksIn}
+use Rattle.resolve.specs.Marks.{marksIn, MarksIn}
 use Rattle.sections.specs.MarkedLaws.{marks-first, marks-next, rows-marked}
 use Rattle.sections.specs.SectionLaws.{filled-none, filled-inside, item-room, item-filled, item-sums, filled-all}
 use Rattle.sections.specs.Sections.{How, sectionOf, refsOf, Filled, SectionRoom, SectionFilled, SectionsRoom}
@@ -29,11 +29,11 @@ record Sofar (c s : List ℕ) (n : ℕ) (w : List ℕ) (objects from count : ℕ
   pub filled : (h : How) → SectionsRoom c s n w objects from count old h → Upto objects h (packagesAt c from count) i old new z
 
 abbrev Inv-loop : tie.InvT-loop
-Inv-loop out₀ c from count s w n all objects names₀ imported₀ size₀ rows₀ at₀ counter₀ out names imported size rows at counter =
+Inv-loop out₀ c from count s w n all objects names₀ imported₀ size₀ rows₀ ahead₀ at₀ counter₀ out names imported size rows ahead at counter =
     Sofar c s n w objects from count out₀ counter at out (record { size = size; rows = rows }) × (length names ≡ noteCount) × (length imported ≡ noteCount)
 
 abbrev μ-loop : tie.MeasureT-loop
-μ-loop out₀ c from count s w n all objects names₀ imported₀ size₀ rows₀ at₀ counter₀ out names imported size rows at counter = count - counter
+μ-loop out₀ c from count s w n all objects names₀ imported₀ size₀ rows₀ ahead₀ at₀ counter₀ out names imported size rows ahead at counter = count - counter
 
 module _ {c s : List ℕ} {n : ℕ} {w : List ℕ} {objects from count : ℕ} {old : List ℕ} {i at : ℕ} {new : List ℕ} {z : Section}
     (t : Sofar c s n w objects from count old i at new z) (inside : i < count) where
@@ -63,6 +63,10 @@ module _ {c s : List ℕ} {n : ℕ} {w : List ℕ} {objects from count : ℕ} {o
       sums : (z .size + v .size ≤ length old) × (z .rows + v .rows ≤ length w)
       sums = item-sums refsOf (sectionOf objects h) (packagesAt c from count) i (packageAt c from) listed a (t .filled h a) item
 
+-- the rows stand in the work buffer
+rows-room : {ms : List ℕ} {all : ℕ} (n : ℕ) (w : List ℕ) → MarksIn ms (drop (48 * n) w) → length ms ≡ all → 32 * all ≤ length w
+rows-room n w m e = omega (arith, m .room, e, length-drop (48 * n) w)
+
 -- what was written fits
 holds-size : (c : tie.At-loop Inv-loop μ-loop)
     → (c .loop .size ≤ length (c .loop .out)) × (length (c .loop .out) ≡ length (c .before .before .before .before .before .args .out .now))
@@ -77,25 +81,31 @@ loop-holds c =
       u .pre .0 .3,
     )
 
+look-ahead-requires : tie.Need-look-ahead-requires Inv-loop μ-loop
+look-ahead-requires c κs =
+    let l = c .before .before .loop in
+    let u = c .before .before .before .before .before .before .before in
+    (rows-room (u .args .n) (u .args .w .now) (u .pre .1 .1 .0) (u .pre .1 .1 .1), l .inv .1)
+
 sub-put-section : tie.Need-sub-put-section Inv-loop μ-loop
-sub-put-section c = holds-size (c .before) .0
+sub-put-section c = holds-size (c .before .before .before) .0
 
 part-put-section-start : tie.Need-part-put-section-start Inv-loop μ-loop
-part-put-section-start c = holds-size (c .before) .0
+part-put-section-start c = holds-size (c .before .before .before) .0
 
 part-put-section-end : tie.Need-part-put-section-end Inv-loop μ-loop
 part-put-section-end c = search needs
 
 put-section-requires : tie.Need-put-section-requires Inv-loop μ-loop
 put-section-requires c κs =
-    let m = c .before .before .before in
+    let m = c .before .before .before .before .before in
     let l = m .before .loop in
     let u = m .before .before .before .before .before .before in
     let t = l .inv .0 in (
       (
         rw (t .place) (u .pre .0 .0 .site (l .counter) (m .loop-test .taken)),
         rw (t .place) (u .pre .0 .1 .read (l .counter) (m .loop-test .taken)),
-        l .inv .1,
+        c .before .before .before .look-ahead .ensures,
         l .inv .2,
       ),
       (
@@ -105,46 +115,46 @@ put-section-requires c κs =
     )
 
 summed : (c : tie.After-put-section Inv-loop μ-loop)
-    → let l = c .before .before .before .before .before .loop in
-    let u = c .before .before .before .before .before .before .before .before .before .before .args in
+    → let l = c .before .before .before .before .before .before .before .loop in
+    let u = c .before .before .before .before .before .before .before .before .before .before .before .before .args in
     (l .size + c .put-section .result .size ≤ length (u .out .now)) × (l .rows + c .put-section .result .rows ≤ length (u .w .now))
 summed c =
-    let m = c .before .before .before .before in
+    let m = c .before .before .before .before .before .before in
     let t = m .before .loop .inv .0 in
     let (h, a) = m .before .before .before .before .before .before .pre .1 .0 in
     sums t (m .loop-test .taken) h a (c .put-section .ensures .0 h (room t (m .loop-test .taken) h a))
 
 add-size : tie.Need-add-size Inv-loop μ-loop
 add-size c =
-    let g = c .before .before .before .before .before .before .before .before .before .before .before .before .before .good .0 .0 in
+    let g = c .before .before .before .before .before .before .before .before .before .before .before .before .before .before .before .good .0 .0 in
     record { fits = omega (arith, summed (c .before .before .before) .0) }
 
 add-rows : tie.Need-add-rows Inv-loop μ-loop
 add-rows c =
-    let g = c .before .before .before .before .before .before .before .before .before .before .before .before .before .before .good .1 .1 .1 .1 .1 .0 .0 in
+    let g = c .before .before .before .before .before .before .before .before .before .before .before .before .before .before .before .before .good .1 .1 .1 .1 .1 .0 .0 in
     record { fits = omega (arith, summed (c .before .before .before .before) .1) }
 
 next-at-requires : tie.Need-next-at-requires Inv-loop μ-loop
 next-at-requires c κs =
-    let m = c .before .before .before .before .before .before .before .before in
+    let m = c .before .before .before .before .before .before .before .before .before .before in
     let l = m .before .loop in
     let k = m .before .before .before .before .before .before .pre .0 .0 .site (l .counter) (m .loop-test .taken) in
     rw (l .inv .0 .place) (k .starts, k .stops)
 
 add-counter : tie.Need-add-counter Inv-loop μ-loop
 add-counter c =
-    let m = c .before .before .before .before .before .before .before .before .before in
+    let m = c .before .before .before .before .before .before .before .before .before .before .before in
     omega (arith, m .loop-test .taken, m .before .before .before .before .before .before .fits)
 
 loop-less : tie.Need-loop-less Inv-loop μ-loop
 loop-less c =
-    let m = c .before .before .before .before .before .before .before .before .before in
+    let m = c .before .before .before .before .before .before .before .before .before .before .before in
     omega (arith, m .loop-test .taken)
 
 loop-again : tie.Need-loop-again Inv-loop μ-loop
 loop-again c =
     let p = c .before .before .before .before .before in
-    let m = p .before .before .before .before in
+    let m = p .before .before .before .before .before .before in
     let l = m .before .loop in
     let r = m .before .before .before .before .before .before in
     let u = r .args in
@@ -178,6 +188,7 @@ put-sections-spec =
     Inv-loop
     μ-loop
     loop-holds
+    look-ahead-requires
     sub-put-section
     part-put-section-start
     part-put-section-end
