@@ -24,7 +24,9 @@ pub mod Tails
 pub mod TailsLaws
 pub mod WriteLaws
 pub mod Run
+pub mod Twos
 pub mod RunLaws
+pub mod TwosLaws
 pub mod Eight
 pub mod EightLaws
 pub mod BackLaws

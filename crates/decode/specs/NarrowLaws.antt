@@ -180,6 +180,14 @@ module _ (s : List ℕ) (at n : ℕ) (fits : at + n ≤ length s) where
       (λ (h : n ≤ i). rw (ex, ee, le-ltb i n h) (far-off f (getD s (at + i) 0) (front-off i h) (front-off (i + 1) (omega arith))))
       (lt-or-le i n)
 
+  -- a turn where all n bytes are looked at
+  pub far-full : (z y i : ℕ) {bad high : Bool} {u : ℕ} → Far z front y (drop i front) bad high u → i < n
+      → (x : Bool) → x ≡ wrong y (getD s (at + i) 0) → (e : ℕ) → e ≡ cond (ltb (getD s (at + i) 0) 0xC0) 1 0
+      → Far z front (getD s (at + i) 0) (drop (i + 1) front) (bad || x) (high || leb 0xC4 (getD s (at + i) 0)) (u + e)
+  far-full z y i f h x ex e ee =
+      let b = getD s (at + i) 0 in
+      rw (ex, ee) (rw (and-true (wrong y b), and-true (leb 0xC4 b), and-true (ltb b 0xC0)) at (far-on f (front-on i h)))
+
 -- ---- a text window by window: all bytes from one place to another are right, u of them end a character, and they fit Latin-1 or not
 
 right-append : (z : ℕ) (s t : List ℕ) → allRight z (s ++ t) ≡ (allRight z s && allRight (lastByte z s) t)

@@ -166,6 +166,17 @@ module _ (s : List ℕ) (at : ℕ) where
     is = every-ascii 8 h e;
   }
 
+  -- four of them
+  pub ascii-four-passed : at + 4 ≤ length s → (ascii (getD s at 0) && ascii (getD s (at + 1) 0) && ascii (getD s (at + 2) 0) && ascii (getD s (at + 3) 0)) ≡ true
+      → Passed s at 4 4 true
+  ascii-four-passed h e =
+      let p = both (ascii (getD s at 0) && ascii (getD s (at + 1) 0) && ascii (getD s (at + 2) 0)) (ascii (getD s (at + 3) 0)) e in
+      let q = both (ascii (getD s at 0) && ascii (getD s (at + 1) 0)) (ascii (getD s (at + 2) 0)) (p .0) in
+      let r = both (ascii (getD s at 0)) (ascii (getD s (at + 1) 0)) (q .0) in
+      passed-then
+      (passed-then (passed-then (ascii-passed s at (omega arith) (r .0)) (ascii-passed s (at + 1) (omega arith) (r .1))) (ascii-passed s (at + 2) (omega arith) (q .1)))
+      (ascii-passed s (at + 3) (omega arith) (p .1))
+
   -- four common characters, two of planes 1 to 3
   pub four-passed : at + 12 ≤ length s → (commonAt s at && commonAt s (at + 3) && commonAt s (at + 6) && commonAt s (at + 9)) ≡ true → Passed s at 12 4 false
   four-passed h e =

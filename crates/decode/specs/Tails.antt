@@ -3,7 +3,7 @@
 use mathlib.Core.Path.{_≡_}
 use mathlib.Core.Bool.{cond}
 use mathlib.Core.List.{List, [], _∷_, _++_}
-use Prim.Native.Nat.{ℕ, _+_, _-_, _≤_, _<_}
+use Prim.Native.Nat.{ℕ, _+_, _-_, _*_, _≤_, _<_}
 use lib.Bits.{bitOr}
 use lib.Dec.{ltb, eqb}
 use lib.ListN.{length, take, drop, getD}
@@ -44,7 +44,10 @@ picked a b c = cond (ltb b 0xC0) (raised a b) (raised b c)
 unfoldable pub ran : ℕ → ℕ → ℕ
 ran b c = cond (ltb b 0xC0) 1 0 + cond (ltb c 0xC0) 1 0
 
--- both, of the m bytes of s from place i on
-pub record Paired (s : List ℕ) (i m : ℕ) (bytes sizes : List ℕ) : Type 0 where
+-- what each of the m bytes of s from place i on means
+pub record Meant (s : List ℕ) (i m : ℕ) (bytes : List ℕ) : Type 0 where
   pub byte : (k : ℕ) → k < m → getD bytes k 0 ≡ picked (getD s (i + k - 1) 0) (getD s (i + k) 0) (getD s (i + k + 1) 0)
-  pub size : (k : ℕ) → k < m → getD sizes k 0 ≡ ran (getD s (i + k) 0) (getD s (i + k + 1) 0)
+
+-- how many of each of the m pairs of bytes from place i on are kept
+pub record Counted (s : List ℕ) (i m : ℕ) (sizes : List ℕ) : Type 0 where
+  pub size : (k : ℕ) → k < m → getD sizes k 0 ≡ ran (getD s (i + 2 * k) 0) (getD s (i + 2 * k + 1) 0)

@@ -4,7 +4,7 @@ use mathlib.Core.Path.{_≡_, refl, sym, ap, _∙_}
 use mathlib.Core.Bool.{Bool, true, false, cond, and-eq-true-iff}
 use mathlib.Core.List.{List, [], _∷_, _++_, append-assoc, append-nil}
 use mathlib.Core.Logic.{⊎-elim}
-use Prim.Native.Nat.{ℕ, _+_, _-_, _/_, _%_, _≤_, _<_}
+use Prim.Native.Nat.{ℕ, _+_, _-_, _*_, _/_, _%_, _≤_, _<_}
 use native.Mathlib.Nat.{zero-add}
 use native.Mathlib.Numerals.{add-one}
 use native.Mathlib.Omega.{arith}
@@ -13,7 +13,7 @@ use mir.Val.{boolByte}
 use lib.Bits.{bitOr, and-high, or-disjoint}
 use lib.Dec.{ltb}
 use lib.ListN.{length, set, take, drop, getD, length-set, take-append-drop, drop-of-length-le}
-use lib.Seq.{take-suc, drop-cons, take-set-le, drop-set-lt, getD-set-same, getD-set-other}
+use lib.Seq.{take-suc, drop-cons, take-set-le, drop-set-lt, getD-set-same, getD-set-other, getD-take, length-take-le}
 use Rattle.base.specs.Choose.{lt-or-le}
 use Rattle.base.specs.Output.{over, Wrote}
 use Rattle.text.specs.Utf16.{isWell}
@@ -22,7 +22,7 @@ use Rattle.text.specs.Utf8Laws.{utf8-1, utf8-2, utf8-3, utf8-4, Sized, one, two
 use Rattle.decode.specs.ReadLaws.{utf8-encode}
 use Rattle.decode.specs.Chars.{Range}
 use Rattle.decode.specs.Measure.{textOf, fitsLatin1}
-use Rattle.decode.specs.Tails.{raised, kept, Tailed, Filling, picked, ran, Paired}
+use Rattle.decode.specs.Tails.{raised, kept, Tailed, Filling, picked, ran, Meant, Counted}
 
 -- ---- the bits of a byte
 
@@ -223,27 +223,32 @@ module _ {old s o : List ℕ} {i n before : ℕ} (k : Filling old s o i n before
           let m : c < 0xC0 = (rw next-three at (k .ends)) .1 .0 (ltb-false b 0xC0 d) in
           absurd (omega (arith, ltb-false c 0xC0 e))
 
--- ---- what pairs of bytes mean, looked up byte by byte
+-- ---- what pairs of bytes mean, looked up one by one
 
-pub paired-none : (s : List ℕ) (i : ℕ) (x y : List ℕ) → Paired s i 0 x y
-paired-none s i x y = record { byte = λ k (h : k < 0). absurd (omega arith); size = λ k (h : k < 0). absurd (omega arith) }
+pub meant-none : (s : List ℕ) (i : ℕ) (x : List ℕ) → Meant s i 0 x
+meant-none s i x = record { byte = λ k (h : k < 0). absurd (omega arith) }
 
-pub paired-next : {s x y : List ℕ} {i k : ℕ} → Paired s i k x y → k < length x → k < length y
-    → Paired s i (k + 1) (set x k (picked (getD s (i + k - 1) 0) (getD s (i + k) 0) (getD s (i + k + 1) 0)))
-    (set y k (ran (getD s (i + k) 0) (getD s (i + k + 1) 0)))
-paired-next {s} {x} {y} {i} {k} p h l = record {
-  byte = λ (j : ℕ) (b : j < k + 1).
-      ⊎-elim (λ (m : j < k). getD-set-other x k j _ 0 (λ (e : j ≡ k). omega arith) ∙ p .byte j m)
-      (λ (m : k ≤ j). let e : j ≡ k = omega arith in rw e (getD-set-same x k _ 0 h)) (lt-or-le j k);
-  size = λ (j : ℕ) (b : j < k + 1).
-      ⊎-elim (λ (m : j < k). getD-set-other y k j _ 0 (λ (e : j ≡ k). omega arith) ∙ p .size j m)
-      (λ (m : k ≤ j). let e : j ≡ k = omega arith in rw e (getD-set-same y k _ 0 l)) (lt-or-le j k);
-}
+pub counted-none : (s : List ℕ) (i : ℕ) (y : List ℕ) → Counted s i 0 y
+counted-none s i y = record { size = λ k (h : k < 0). absurd (omega arith) }
 
-pub paired-small : {s x y : List ℕ} {i m : ℕ} → Paired s i m x y → (k : ℕ) → k < m → getD y k 0 ≤ 2
+-- what holds below k, and of k where it is stored, holds below k + 1
+stored : (f : ℕ → ℕ) (x : List ℕ) (k : ℕ) → k < length x → ((j : ℕ) → j < k → getD x j 0 ≡ f j) → (j : ℕ) → j < k + 1 → getD (set x k (f k)) j 0 ≡ f j
+stored f x k h all j b =
+    ⊎-elim (λ (m : j < k). getD-set-other x k j (f k) 0 (λ (e : j ≡ k). omega arith) ∙ all j m)
+    (λ (m : k ≤ j). let e : j ≡ k = omega arith in rw e (getD-set-same x k (f k) 0 h)) (lt-or-le j k)
+
+pub meant-next : {s x : List ℕ} {i k : ℕ} → Meant s i k x → k < length x
+    → Meant s i (k + 1) (set x k (picked (getD s (i + k - 1) 0) (getD s (i + k) 0) (getD s (i + k + 1) 0)))
+meant-next {s} {x} {i} {k} p h =
+    record { byte = stored (λ (j : ℕ). picked (getD s (i + j - 1) 0) (getD s (i + j) 0) (getD s (i + j + 1) 0)) x k h (p .byte) }
+
+pub counted-next : {s y : List ℕ} {i k : ℕ} → Counted s i k y → k < length y → Counted s i (k + 1) (set y k (ran (getD s (i + 2 * k) 0) (getD s (i + 2 * k + 1) 0)))
+counted-next {s} {y} {i} {k} p h = record { size = stored (λ (j : ℕ). ran (getD s (i + 2 * j) 0) (getD s (i + 2 * j + 1) 0)) y k h (p .size) }
+
+pub counted-small : {s y : List ℕ} {i m : ℕ} → Counted s i m y → (k : ℕ) → k < m → getD y k 0 ≤ 2
 unfolding ran
-paired-small {s} {i = i} p k h =
-    rw (p .size k h) (go (ltb (getD s (i + k) 0) 0xC0) (ltb (getD s (i + k + 1) 0) 0xC0))
+counted-small {s} {i = i} p k h =
+    rw (p .size k h) (go (ltb (getD s (i + 2 * k) 0) 0xC0) (ltb (getD s (i + 2 * k + 1) 0) 0xC0))
   where
     go : (t u : Bool) → cond {A = ℕ} t 1 0 + cond {A = ℕ} u 1 0 ≤ 2
     go true true = omega arith
@@ -251,15 +256,23 @@ paired-small {s} {i = i} p k h =
     go false true = omega arith
     go false false = omega arith
 
--- a pair of bytes is stored as it was looked up
-pub filling-paired : {old s o x y : List ℕ} {i m n : ℕ} (k : ℕ) → Filling old s o (i + k) n (getD s (i + k - 1) 0) → Paired s i m x y → k + 1 < m
-    → i + m < length s → Filling old s (set (set o n (getD x k 0)) (n + 1) (getD x (k + 1) 0)) (i + k + 2) (n + getD y k 0) (getD s (i + k + 1) 0)
-filling-paired {s = s} {x = x} {i = i} k f p h l =
-    let u : i + (k + 1) - 1 ≡ i + k = omega arith in
-    let v : i + (k + 1) ≡ i + k + 1 = omega arith in
-    let w : i + k + 1 + 1 ≡ i + k + 2 = omega arith in
-    let next : getD x (k + 1) 0 ≡ picked (getD s (i + k) 0) (getD s (i + k + 1) 0) (getD s (i + k + 2) 0) = rw (u, v, w) at (p .byte (k + 1) h) in
-    rw (p .size k (omega arith)) (filling-pair f (omega arith) _ _ (p .byte k (omega arith)) next)
+-- a pair of bytes of the text that is the first bytes of s is stored as it was looked up
+pub filling-paired : {old s o x y : List ℕ} {to i m n : ℕ} (j : ℕ) → Filling old (take to s) o (i + 2 * j) n (getD s (i + 2 * j - 1) 0) → Meant s i (2 * m) x
+    → Counted s i m y → j < m → i + 2 * j + 2 < to → to ≤ length s
+    → Filling old (take to s) (set (set o n (getD x (2 * j) 0)) (n + 1) (getD x (2 * j + 1) 0)) (i + 2 * j + 2) (n + getD y j 0) (getD s (i + 2 * j + 1) 0)
+filling-paired {s = s} {x = x} {to = to} {i = i} j f p q h l fits =
+    let k = i + 2 * j in
+    let u : i + (2 * j + 1) - 1 ≡ i + 2 * j = omega arith in
+    let v : i + (2 * j + 1) ≡ i + 2 * j + 1 = omega arith in
+    let w : i + 2 * j + 1 + 1 ≡ i + 2 * j + 2 = omega arith in
+    let a : getD (take to s) k 0 ≡ getD s k 0 = getD-take to s k 0 (omega arith) in
+    let b : getD (take to s) (k + 1) 0 ≡ getD s (k + 1) 0 = getD-take to s (k + 1) 0 (omega arith) in
+    let c : getD (take to s) (k + 2) 0 ≡ getD s (k + 2) 0 = getD-take to s (k + 2) 0 (omega arith) in
+    let first : getD x (2 * j) 0 ≡ picked (getD s (k - 1) 0) (getD (take to s) k 0) (getD (take to s) (k + 1) 0) =
+    rw (a, b) (p .byte (2 * j) (omega arith)) in
+    let next : getD x (2 * j + 1) 0 ≡ picked (getD (take to s) k 0) (getD (take to s) (k + 1) 0) (getD (take to s) (k + 2) 0) =
+    rw (a, b, c) (rw (u, v, w) at (p .byte (2 * j + 1) (omega arith))) in
+    rw (q .size j h) (rw (a, b) at (filling-pair f (omega (arith, length-take-le to s fits)) _ _ first next))
 
 -- ---- the bytes of a text
 
@@ -309,3 +322,9 @@ module _ (s : List ℕ) (ok : isWell (fromUtf8 s) ≡ true) where
   pub bytes-first : (old : List ℕ) → fitsLatin1 (textOf s) ≡ true → length (textOf s) ≤ length old → 0 < length s
       → Filling old s (set old 0 (getD s 0 0)) 1 (boolByte (ltb (getD s 0 0) 0xC0)) (getD s 0 0)
   bytes-first old e r h = filling-first old s bytes-tailed (kept-room e (length old) r) h
+
+-- of the text that is the first bytes of s
+pub part-first : (s : List ℕ) (to : ℕ) → 0 < to → to ≤ length s → isWell (fromUtf8 (take to s)) ≡ true → fitsLatin1 (textOf (take to s)) ≡ true
+    → (old : List ℕ) → length (textOf (take to s)) ≤ length old
+    → Filling old (take to s) (set old 0 (getD s 0 0)) 1 (boolByte (ltb (getD s 0 0) 0xC0)) (getD s 0 0)
+part-first s to h l ok e old r = rw (getD-take to s 0 0 h) at (bytes-first (take to s) ok old e r (omega (arith, length-take-le to s l)))

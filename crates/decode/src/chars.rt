@@ -78,7 +78,7 @@ fn is_four(a: u32, b: u32, c: u32, d: u32) -> bool
 }
 
 // The scalar value of two bytes.
-fn two(a: u32, b: u32) -> u32
+pub fn two(a: u32, b: u32) -> u32
     requires { ⌜ Range 0xC2 0xDF a × Range 0x80 0xBF b ⌝ }
     ensures { λ r. ⌜ r ≡ joined (a - 0xC0) b ⌝ }
 {

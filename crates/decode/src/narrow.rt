@@ -33,8 +33,32 @@ fn is_wrong(z: u8, b: u8) -> bool
     (tail ^ (0xC0 <= z)) | ((0xC0 <= b) & (b <= 0xC1)) | (0xE0 <= b)
 }
 
+// The 32 bytes from a place on.
+fn look_all(s: &[u8], at: usize) -> Seen
+    requires { ⌜ (0 < at) × (at + 32 ≤ length (now s)) ⌝ }
+    ensures { λ r. ⌜ Window (getD (now (s .entry)) (at - 1) 0) (take 32 (drop at (now (s .entry)))) r ⌝ }
+{
+    let mut bad = false;
+    let mut high = false;
+    let mut units: u8 = 0;
+    let mut i: usize = 0;
+    while i < 32 {
+        let j = at + i;
+        let b = s[j];
+        bad = bad | is_wrong(s[j - 1], b);
+        high = high | (0xC4 <= b);
+        units += bit(b < 0xC0);
+        i += 1;
+    }
+    Seen {
+        right: !bad,
+        low: !high,
+        units,
+    }
+}
+
 // The first n of the 32 bytes from a place on; the others are seen too, and count for nothing.
-fn look(s: &[u8], at: usize, n: u8) -> Seen
+fn look_some(s: &[u8], at: usize, n: u8) -> Seen
     requires { ⌜ (0 < at) × (at + 32 ≤ length (now s)) × (n ≤ 32) ⌝ }
     ensures { λ r. ⌜ Window (getD (now (s .entry)) (at - 1) 0) (take n (drop at (now (s .entry)))) r ⌝ }
 {
@@ -60,6 +84,17 @@ fn look(s: &[u8], at: usize, n: u8) -> Seen
     }
 }
 
+// The same: where they are all of the 32, nothing is masked out.
+fn look(s: &[u8], at: usize, n: u8) -> Seen
+    requires { ⌜ (0 < at) × (at + 32 ≤ length (now s)) × (n ≤ 32) ⌝ }
+    ensures { λ r. ⌜ Window (getD (now (s .entry)) (at - 1) 0) (take n (drop at (now (s .entry)))) r ⌝ }
+{
+    if n == 32 {
+        return look_all(s, at);
+    }
+    look_some(s, at, n)
+}
+
 // How many of n bytes that are left are taken together.
 fn window(n: usize) -> u8
     requires { ⌜ 0 < n ⌝ }
@@ -71,6 +106,17 @@ fn window(n: usize) -> u8
     32
 }
 
+// Any text. Its measure is made anew, so that one which a caller makes itself doesn't wait in memory for what this one would say.
+fn any(s: &[u8], from: usize, to: usize) -> Measured
+    requires { ⌜ (from ≤ to) × (to ≤ length (now s)) ⌝ }
+    ensures { λ r. ⌜ r ≡ measured (fromUtf8 (take (to - from) (drop from (now (s .entry))))) ⌝ }
+{
+    match measure(&s[from..to]) {
+        Measured::Text(units, latin) => Measured::Text(units, latin),
+        Measured::NoText => Measured::NoText,
+    }
+}
+
 // The text, where 32 bytes follow it: window by window, or as any text where a byte isn't right or the last character is cut.
 fn by_windows(s: &[u8], from: usize, to: usize) -> Measured
     requires { ⌜ (from < to) × (to + 32 ≤ length (now s)) ⌝ }
@@ -78,7 +124,7 @@ fn by_windows(s: &[u8], from: usize, to: usize) -> Measured
 {
     let a = s[from];
     if is_wrong(0, a) | (0xC0 <= s[to - 1]) {
-        return measure(&s[from..to]);
+        return any(s, from, to);
     }
     let mut units = bit(a < 0xC0) as usize;
     let mut latin = a < 0xC4;
@@ -87,7 +133,7 @@ fn by_windows(s: &[u8], from: usize, to: usize) -> Measured
         let n = window(to - at);
         let w = look(s, at, n);
         if !w.right {
-            return measure(&s[from..to]);
+            return any(s, from, to);
         }
         units += w.units as usize;
         latin = latin & w.low;
@@ -107,5 +153,5 @@ pub fn measure_at(s: &[u8], from: usize, to: usize) -> Measured
     if 32 <= s.len() - to {
         return by_windows(s, from, to);
     }
-    measure(&s[from..to])
+    any(s, from, to)
 }

@@ -1,9 +1,10 @@
 // Text that fits Latin-1, two bytes at a time: no two leading bytes stand together, so that one or two of each pair end a character. What pairs mean
-// is found for many at once, since it shows by bytes side by side; then each is stored, and the place moves on by as many bytes as it has.
+// is found for 16 at once, since it shows by bytes side by side, and always for 16, since the bytes behind the text may be looked at; then those that are
+// of the text are stored, and the place moves on by as many bytes as each has.
 ghost use mathlib.Core.Path.{_≡_};
 ghost use Prim.Native.Nat.{_+_, _-_, _*_, _≤_, _<_};
-ghost use lib.ListN.{length, getD};
-ghost use Rattle.decode.specs.Tails.{Filling, picked, ran, Paired};
+ghost use lib.ListN.{length, take, getD};
+ghost use Rattle.decode.specs.Tails.{Filling, picked, ran, Meant, Counted};
 use super::narrow::bit;
 use super::tails::raised;
 
@@ -24,17 +25,28 @@ fn ran(b: u8, c: u8) -> u8
     bit(b < 0xC0) + bit(c < 0xC0)
 }
 
-// What each of m bytes from a place on means, and how many of it and the next end a character.
-fn look(bytes: &mut [u8; 128], sizes: &mut [u8; 128], s: &[u8], i: usize, m: usize)
-    requires { ⌜ (0 < i) × (m ≤ 128) × (i + m < length (now s)) × (length (now bytes) ≡ 128) × (length (now sizes) ≡ 128) ⌝ }
-    ensures { λ _. ⌜ Paired (now (s .entry)) i m (now (bytes .exit)) (now (sizes .exit)) ⌝ }
+// What each of the 32 bytes from a place on means.
+fn look_bytes(bytes: &mut [u8; 32], s: &[u8], i: usize)
+    requires { ⌜ (0 < i) × (i + 32 < length (now s)) × (length (now bytes) ≡ 32) ⌝ }
+    ensures { λ _. ⌜ Meant (now (s .entry)) i 32 (now (bytes .exit)) ⌝ }
 {
     let mut k: usize = 0;
-    while k < m {
+    while k < 32 {
         let b = s[i + k];
         let c = s[i + k + 1];
         bytes[k] = picked(s[i + k - 1], b, c);
-        sizes[k] = ran(b, c);
+        k += 1;
+    }
+}
+
+// How many bytes of each of the 16 pairs from a place on end a character.
+fn look_sizes(sizes: &mut [u8; 16], s: &[u8], i: usize)
+    requires { ⌜ (i + 32 ≤ length (now s)) × (length (now sizes) ≡ 16) ⌝ }
+    ensures { λ _. ⌜ Counted (now (s .entry)) i 16 (now (sizes .exit)) ⌝ }
+{
+    let mut k: usize = 0;
+    while k < 16 {
+        sizes[k] = ran(s[i + 2 * k], s[i + 2 * k + 1]);
         k += 1;
     }
 }
@@ -42,22 +54,24 @@ fn look(bytes: &mut [u8; 128], sizes: &mut [u8; 128], s: &[u8], i: usize, m: usi
 // How many pairs are taken together where so many bytes are left: a byte is left behind them.
 pub fn pairs_of(left: usize) -> usize
     requires { ⌜ 3 ≤ left ⌝ }
-    ensures { λ r. ⌜ (0 < r) × (r ≤ 64) × (2 * r < left) ⌝ }
+    ensures { λ r. ⌜ (0 < r) × (r ≤ 16) × (2 * r < left) ⌝ }
 {
-    if left < 130 {
+    if left < 34 {
         return (left - 1) / 2;
     }
-    64
+    16
 }
 
-// So many pairs from a place on, behind so many bytes that are written already. Returns how many there are then.
-pub fn put_pairs(out: &mut [u8], wrote: usize, s: &[u8], i: usize, pairs: usize) -> usize
-    requires { ⌜ (0 < i) × (pairs ≤ 64) × (i + 2 * pairs < length (now s)) × Filling (now out) (now s) (now out) i wrote (getD (now s) (i - 1) 0) ⌝ }
-    ensures { λ r. ⌜ Filling (now (out .entry)) (now (s .entry)) (now (out .exit)) (i + 2 * pairs) r (getD (now (s .entry)) (i + 2 * pairs - 1) 0) ⌝ }
+// So many pairs from a place on, of the text that is the first bytes of s as far as another, behind so many bytes that are written already. Returns
+// how many there are then.
+pub fn put_pairs(out: &mut [u8], wrote: usize, s: &[u8], to: usize, i: usize, pairs: usize) -> usize
+    requires { ⌜ (0 < i) × (pairs ≤ 16) × (i + 2 * pairs < to) × (to + 33 ≤ length (now s)) × Filling (now out) (take to (now s)) (now out) i wrote (getD (now s) (i - 1) 0) ⌝ }
+    ensures { λ r. ⌜ Filling (now (out .entry)) (take to (now (s .entry))) (now (out .exit)) (i + 2 * pairs) r (getD (now (s .entry)) (i + 2 * pairs - 1) 0) ⌝ }
 {
-    let mut bytes = [0u8; 128];
-    let mut sizes = [0u8; 128];
-    look(&mut bytes, &mut sizes, s, i, 2 * pairs);
+    let mut bytes = [0u8; 32];
+    let mut sizes = [0u8; 16];
+    look_bytes(&mut bytes, s, i);
+    look_sizes(&mut sizes, s, i);
     let mut n = wrote;
     let mut j: usize = 0;
     while j < pairs {
@@ -65,7 +79,7 @@ pub fn put_pairs(out: &mut [u8], wrote: usize, s: &[u8], i: usize, pairs: usize)
         let b = bytes[2 * j + 1];
         out[n] = a;
         out[n + 1] = b;
-        n += sizes[2 * j] as usize;
+        n += sizes[j] as usize;
         j += 1;
     }
     n

@@ -1,10 +1,11 @@
-// A few characters of UTF-8 passed at once: eight of one byte, four of three or two of four where they are common ones, else one.
+// A few characters of UTF-8 passed at once: eight of one byte or four, four of three or two of four where they are common ones, else one.
 ghost use mathlib.Core.Path.{_≡_};
 ghost use mathlib.Core.Bool.{cond, _&&_};
 ghost use Prim.Native.Nat.{_+_, _≤_, _<_};
 ghost use lib.Dec.{eqb};
-ghost use lib.ListN.{length};
+ghost use lib.ListN.{length, getD};
 ghost use Rattle.decode.specs.Chars.{within};
+ghost use Rattle.decode.specs.Latin.{ascii};
 ghost use Rattle.decode.specs.Step.{commonAt, planeAt, Stepped};
 use super::chars::Char;
 use super::chars::quick_char;
@@ -58,6 +59,14 @@ fn are_plane(s: &[u8], at: usize) -> bool
     is_plane(s, at) & is_plane(s, at + 4)
 }
 
+// Whether four characters of one byte come next.
+fn are_ascii(s: &[u8], at: usize) -> bool
+    requires { ⌜ at + 4 ≤ length (now s) ⌝ }
+    ensures { λ r. ⌜ r ≡ (ascii (getD (now (s .entry)) at 0) && ascii (getD (now (s .entry)) (at + 1) 0) && ascii (getD (now (s .entry)) (at + 2) 0) && ascii (getD (now (s .entry)) (at + 3) 0)) ⌝ }
+{
+    (s[at] < 0x80) & (s[at + 1] < 0x80) & (s[at + 2] < 0x80) & (s[at + 3] < 0x80)
+}
+
 // How many units a character of k bytes has.
 fn char_units(k: usize) -> usize
     ensures { λ r. ⌜ r ≡ cond (eqb k 4) 2 1 ⌝ }
@@ -75,6 +84,9 @@ pub fn step_at(s: &[u8], at: usize) -> Step
         if a < 0x80 {
             if is_eight(s, at) {
                 return Step::Past(8, 8, true);
+            }
+            if are_ascii(s, at) {
+                return Step::Past(4, 4, true);
             }
         } else {
             if are_common(s, at) {

@@ -3,7 +3,7 @@
 ghost use mathlib.Core.Path.{_≡_};
 ghost use mathlib.Core.Bool.{true};
 ghost use Prim.Native.Nat.{_≤_, _<_};
-ghost use lib.ListN.{length};
+ghost use lib.ListN.{length, take};
 ghost use Rattle.base.specs.Output.{Wrote};
 ghost use Rattle.text.specs.Utf16.{isWell, encodeOne, unitBytes, utf16le};
 ghost use Rattle.text.specs.Utf8.{fromUtf8};
@@ -18,25 +18,30 @@ use super::run::is_run;
 use super::run::put_run;
 use super::tails::put_each;
 use super::tails::put_last;
+use super::twos::is_twos;
+use super::twos::put_twos;
 
-// The text as Latin-1: short text byte by byte, other text many pairs of bytes at once behind its first byte, and its last byte or two alone.
-pub fn put_latin1(out: &mut [u8], s: &[u8]) -> usize
-    requires { ⌜ (isWell (fromUtf8 (now s)) ≡ true) × (fitsLatin1 (textOf (now s)) ≡ true) × (length (textOf (now s)) ≤ length (now out)) ⌝ }
-    ensures { λ r. ⌜ Wrote (now (out .entry)) (textOf (now (s .entry))) (now (out .exit)) r ⌝ }
+// The text that is the first bytes of s, as Latin-1: pairs of bytes, many at once, behind its first byte, and its last byte or two alone. Where few bytes
+// follow the text, it is written byte by byte.
+pub fn put_latin1(out: &mut [u8], s: &[u8], to: usize) -> usize
+    requires { ⌜ (to ≤ length (now s)) × (isWell (fromUtf8 (take to (now s))) ≡ true) × (fitsLatin1 (textOf (take to (now s))) ≡ true)
+        × (length (textOf (take to (now s))) ≤ length (now out)) ⌝ }
+    ensures { λ r. ⌜ Wrote (now (out .entry)) (textOf (take to (now (s .entry)))) (now (out .exit)) r ⌝ }
 {
-    if s.len() < 16 {
-        return put_each(out, s);
+    let text = &s[..to];
+    if (to < 2) | (s.len() - to < 33) {
+        return put_each(out, text);
     }
     let a = s[0];
     out[0] = a;
     let mut n = (a < 0xC0) as usize;
     let mut i = 1;
-    while 3 <= s.len() - i {
-        let pairs = pairs_of(s.len() - i);
-        n = put_pairs(out, n, s, i, pairs);
+    while 3 <= to - i {
+        let pairs = pairs_of(to - i);
+        n = put_pairs(out, n, s, to, i, pairs);
         i += 2 * pairs;
     }
-    put_last(out, n, s, i)
+    put_last(out, n, text, i)
 }
 
 // The units of a scalar value, each in two bytes, the low one first.
@@ -44,21 +49,21 @@ fn put_units(out: &mut [u8], c: u32) -> usize
     requires { ⌜ (c < 0x110000) × (length (unitBytes (encodeOne c)) ≤ length (now out)) ⌝ }
     ensures { λ r. ⌜ Wrote (now (out .entry)) (unitBytes (encodeOne c)) (now (out .exit)) r ⌝ }
 {
-    if c < 0x10000 {
-        out[0] = (c % 256) as u8;
-        out[1] = (c / 256) as u8;
-        return 2;
+    if 0x10000 <= c {
+        let high = 0xD800 + (c - 0x10000) / 0x400;
+        let low = 0xDC00 + (c - 0x10000) % 0x400;
+        out[0] = (high % 256) as u8;
+        out[1] = (high / 256) as u8;
+        out[2] = (low % 256) as u8;
+        out[3] = (low / 256) as u8;
+        return 4;
     }
-    let high = 0xD800 + (c - 0x10000) / 0x400;
-    let low = 0xDC00 + (c - 0x10000) % 0x400;
-    out[0] = (high % 256) as u8;
-    out[1] = (high / 256) as u8;
-    out[2] = (low % 256) as u8;
-    out[3] = (low / 256) as u8;
-    4
+    out[0] = (c % 256) as u8;
+    out[1] = (c / 256) as u8;
+    2
 }
 
-// The text as UTF-16LE: eight characters of ASCII at once, four of three bytes at once, others one by one.
+// The text as UTF-16LE: eight characters of ASCII at once, four of two bytes or of three at once, others one by one.
 pub fn put_utf16le(out: &mut [u8], s: &[u8]) -> usize
     requires { ⌜ (isWell (fromUtf8 (now s)) ≡ true) × (length (utf16le (textOf (now s))) ≤ length (now out)) ⌝ }
     ensures { λ r. ⌜ Wrote (now (out .entry)) (utf16le (textOf (now (s .entry)))) (now (out .exit)) r ⌝ }
@@ -67,17 +72,27 @@ pub fn put_utf16le(out: &mut [u8], s: &[u8]) -> usize
     let mut at = 0;
     while at < s.len() {
         let a = s[at];
-        if a < 0x80 && starts_eight(s, at) {
-            put_eight(&mut out[n..], s, at);
-            n += 16;
-            at += 8;
-            continue;
-        }
-        if 0xE0 <= a && is_run(s, at) {
-            put_run(&mut out[n..], s, at);
-            n += 8;
-            at += 12;
-            continue;
+        if a < 0x80 {
+            if starts_eight(s, at) {
+                put_eight(&mut out[n..], s, at);
+                n += 16;
+                at += 8;
+                continue;
+            }
+        } else if a < 0xE0 {
+            if is_twos(s, at) {
+                put_twos(&mut out[n..], s, at);
+                n += 8;
+                at += 8;
+                continue;
+            }
+        } else if a < 0xF0 {
+            if is_run(s, at) {
+                put_run(&mut out[n..], s, at);
+                n += 8;
+                at += 12;
+                continue;
+            }
         }
         match known_char(s, at) {
             Char::Of(c, k) => {

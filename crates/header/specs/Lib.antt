@@ -3,8 +3,10 @@
 -- ==== Definitions: by position
 pub mod Places
 pub mod Parts
+pub mod Swapped
 -- ==== Laws and lemmas: by position, loops over texts, sizes
 pub mod Told
+pub mod SwappedLaws
 pub mod PlaceLaws
 pub mod FormPlaces
 pub mod TextLoops

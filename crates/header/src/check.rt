@@ -5,10 +5,11 @@ ghost use lib.ListN.{length};
 ghost use Rattle.base.specs.Number.{beAt};
 ghost use Rattle.base.specs.ReadingRows.{cells};
 ghost use Rattle.zen.specs.Zen.{named};
-ghost use Rattle.header.specs.Places.{utf8At, textEnd, exportIn};
+ghost use Rattle.header.specs.Places.{exportIn};
 ghost use Rattle.header.specs.Parts.{Says, batchOf, Small, regionsOf};
+ghost use Rattle.header.specs.Swapped.{swapped};
 ghost use Rattle.header.specs.Parts.{stringSize, sizedText, sizedTexts, Begun, Tabled, Listed};
-use base::number::be32;
+use base::number::le32;
 use decode::measure::Measured;
 use decode::narrow::measure_at;
 
@@ -51,22 +52,19 @@ const LONGEST_NAME: usize = 32767;
 // "A header above 2,147,483,647 bytes".
 const LONGEST_HEADER: usize = 2147483647;
 
-// The number in 4 bytes at a place.
+// A number with its four bytes in the other order.
+fn swapped(x: u32) -> u32
+    ensures { λ r. ⌜ r ≡ swapped x ⌝ }
+{
+    x % 256 * 16777216 + x / 256 % 256 * 65536 + x / 65536 % 256 * 256 + x / 16777216
+}
+
+// The number in 4 bytes at a place: read as it lies and then turned, which the compiler makes two instructions wherever it stands.
 pub fn size_at(s: &[u8], at: usize) -> usize
     requires { ⌜ at + 4 ≤ length (now s) ⌝ }
     ensures { λ r. ⌜ (r ≡ beAt 4 (now (s .entry)) at) × (r < 2 ^ 32) ⌝ }
 {
-    be32(s, at) as usize
-}
-
-// The UTF-8 of the text at a place.
-pub fn utf8_at(s: &[u8], at: usize) -> &[u8]
-    requires { ⌜ (at + 4 ≤ length (now s)) × (textEnd (now s) at ≤ length (now s)) ⌝ }
-    ensures { λ r. ⌜ now r ≡ utf8At (now (s .entry)) at ⌝ }
-{
-    let start = at + 4;
-    let end = start + size_at(s, at);
-    &s[start..end]
+    swapped(le32(s, at)) as usize
 }
 
 // How many bytes the string of a text of so many units takes.

@@ -4,7 +4,7 @@ ghost use mathlib.Core.Path.{_≡_};
 ghost use mathlib.Core.Bool.{true};
 ghost use mathlib.Core.List.{_++_};
 ghost use Prim.Native.Nat.{_+_, _*_, _^_, _≤_, _<_};
-ghost use lib.ListN.{length, replicate};
+ghost use lib.ListN.{length, take, replicate};
 ghost use Rattle.base.specs.Find.{flat};
 ghost use Rattle.base.specs.Output.{Wrote};
 ghost use Rattle.text.specs.Utf16.{isWell, encode16};
@@ -12,10 +12,9 @@ ghost use Rattle.text.specs.Utf8.{fromUtf8};
 ghost use Rattle.decode.specs.Measure.{textOf, fitsLatin1};
 ghost use Rattle.written.specs.BatchBytes.{stringBytes, headBytes, batchBytes};
 ghost use Rattle.written.specs.HeaderBytes.{longestName};
-ghost use Rattle.header.specs.Places.{nextText, textsFrom};
+ghost use Rattle.header.specs.Places.{utf8At, textAt, textEnd, nextText, textsFrom};
 ghost use Rattle.header.specs.Parts.{textsFit, stringsFrom, TextIn, stringUnits, headHigh, laid, namesBytes, frontBytes};
 use super::check::size_at;
-use super::check::utf8_at;
 use super::little::put_le32;
 use super::little::put_le64;
 use decode::latin::is_latin1;
@@ -43,24 +42,25 @@ pub struct Put {
     pub latin: bool,
 }
 
-// A name's string: Latin-1, or UTF-16LE where the text doesn't fit. ASCII is written as it stands.
-fn put_string(out: &mut [u8], s: &[u8]) -> Put
-    requires { ⌜ (isWell (fromUtf8 (now s)) ≡ true) × (length (stringBytes (textOf (now s))) ≤ length (now out)) ⌝ }
-    ensures { λ r. ⌜ Wrote (now (out .entry)) (stringBytes (textOf (now (s .entry)))) (now (out .exit)) (r .size)
-        × (r .latin ≡ fitsLatin1 (textOf (now (s .entry)))) ⌝ }
+// The string of the name that is the first bytes of s: Latin-1, or UTF-16LE where the text doesn't fit. ASCII is written as it stands.
+fn put_string(out: &mut [u8], s: &[u8], to: usize) -> Put
+    requires { ⌜ (to ≤ length (now s)) × (isWell (fromUtf8 (take to (now s))) ≡ true) × (length (stringBytes (textOf (take to (now s)))) ≤ length (now out)) ⌝ }
+    ensures { λ r. ⌜ Wrote (now (out .entry)) (stringBytes (textOf (take to (now (s .entry))))) (now (out .exit)) (r .size)
+        × (r .latin ≡ fitsLatin1 (textOf (take to (now (s .entry))))) ⌝ }
 {
-    if is_plain(s) {
-        put_plain(out, s);
+    let text = &s[..to];
+    if is_plain(text) {
+        put_plain(out, text);
         return Put {
-            size: s.len(),
+            size: to,
             latin: true,
         };
     }
-    if is_latin1(s) {
-        let size = put_latin1(out, s);
+    if is_latin1(text) {
+        let size = put_latin1(out, s, to);
         return Put { size, latin: true };
     }
-    let size = put_utf16le(out, s);
+    let size = put_utf16le(out, text);
     Put { size, latin: false }
 }
 
@@ -85,14 +85,16 @@ fn head_high(units: usize, latin: bool) -> u8
     ((0x8000 + units) / 256 % 256) as u8
 }
 
-// A text: its header at one place, its string at another behind it. Returns how many bytes the string takes.
-fn put_text(out: &mut [u8], head: usize, n: usize, s: &[u8]) -> usize
-    requires { ⌜ (isWell (fromUtf8 (now s)) ≡ true) × (length (encode16 (textOf (now s))) ≤ longestName) × (head + 2 ≤ n)
-        × (n + length (stringBytes (textOf (now s))) ≤ length (now out)) ⌝ }
-    ensures { λ r. ⌜ (r ≡ length (stringBytes (textOf (now (s .entry)))))
-        × (now (out .exit) ≡ laid (laid (now (out .entry)) n (stringBytes (textOf (now (s .entry))))) head (headBytes (textOf (now (s .entry))))) ⌝ }
+// The text at a place: its header goes to one place, its string to another behind it. Returns how many bytes the string takes.
+fn put_text(out: &mut [u8], head: usize, n: usize, s: &[u8], at: usize) -> usize
+    requires { ⌜ (at + 4 ≤ length (now s)) × (textEnd (now s) at ≤ length (now s)) × (isWell (fromUtf8 (utf8At (now s) at)) ≡ true)
+        × (length (encode16 (textAt (now s) at)) ≤ longestName) × (head + 2 ≤ n) × (n + length (stringBytes (textAt (now s) at)) ≤ length (now out)) ⌝ }
+    ensures { λ r. ⌜ (r ≡ length (stringBytes (textAt (now (s .entry)) at)))
+        × (now (out .exit) ≡ laid (laid (now (out .entry)) n (stringBytes (textAt (now (s .entry)) at))) head (headBytes (textAt (now (s .entry)) at))) ⌝ }
 {
-    let p = put_string(&mut out[n..], s);
+    let start = at + 4;
+    let size = size_at(s, at);
+    let p = put_string(&mut out[n..], &s[start..], size);
     let units = string_units(p.size, p.latin);
     out[head] = head_high(units, p.latin);
     out[head + 1] = (units % 256) as u8;
@@ -118,7 +120,7 @@ fn put_texts(out: &mut [u8], s: &[u8], from: usize, count: usize, more: usize) -
     let mut at = from;
     let mut i = 0;
     while i < count {
-        n += put_text(out, 2 * i, n, utf8_at(s, at));
+        n += put_text(out, 2 * i, n, s, at);
         at = next_text(s, at, more);
         i += 1;
     }

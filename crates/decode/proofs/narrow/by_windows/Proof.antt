@@ -40,20 +40,11 @@ sub-if1 c = omega arith
 shared-slice-read-if1 : tie.Need-shared-slice-read-if1 Inv-loop μ-loop
 shared-slice-read-if1 c = omega arith
 
-sub-measure : tie.Need-sub-measure Inv-loop μ-loop
-sub-measure c = omega arith
-
-part-measure-start : tie.Need-part-measure-start Inv-loop μ-loop
-part-measure-start c = omega arith
-
-part-measure-end : tie.Need-part-measure-end Inv-loop μ-loop
-part-measure-end c = omega arith
-
-measure-requires : tie.Need-measure-requires Inv-loop μ-loop
-measure-requires c κs = search needs
+any-requires : tie.Need-any-requires Inv-loop μ-loop
+any-requires c κs = (omega arith, omega arith)
 
 returns : tie.Need-returns Inv-loop μ-loop
-returns c = c .measure .ensures
+returns c = c .any .ensures
 
 bit-requires : tie.Need-bit-requires Inv-loop μ-loop
 bit-requires c κs = search needs
@@ -79,20 +70,11 @@ window-requires c κs = omega arith
 look-requires : tie.Need-look-requires Inv-loop μ-loop
 look-requires c κs = (omega arith, omega arith, omega arith)
 
-sub-measure-2 : tie.Need-sub-measure-2 Inv-loop μ-loop
-sub-measure-2 c = omega arith
-
-part-measure-start-2 : tie.Need-part-measure-start-2 Inv-loop μ-loop
-part-measure-start-2 c = omega arith
-
-part-measure-end-2 : tie.Need-part-measure-end-2 Inv-loop μ-loop
-part-measure-end-2 c = omega arith
-
-measure-requires-2 : tie.Need-measure-requires-2 Inv-loop μ-loop
-measure-requires-2 c κs = search needs
+any-requires-2 : tie.Need-any-requires-2 Inv-loop μ-loop
+any-requires-2 c κs = (omega arith, omega arith)
 
 returns-2 : tie.Need-returns-2 Inv-loop μ-loop
-returns-2 c = c .measure2 .ensures
+returns-2 c = c .any2 .ensures
 
 cast-units-2 : tie.Need-cast-units-2 Inv-loop μ-loop
 cast-units-2 c = omega arith
@@ -134,10 +116,7 @@ by-windows-spec =
     is-wrong-requires
     sub-if1
     shared-slice-read-if1
-    sub-measure
-    part-measure-start
-    part-measure-end
-    measure-requires
+    any-requires
     returns
     bit-requires
     cast-units
@@ -146,10 +125,7 @@ by-windows-spec =
     sub-window
     window-requires
     look-requires
-    sub-measure-2
-    part-measure-start-2
-    part-measure-end-2
-    measure-requires-2
+    any-requires-2
     returns-2
     cast-units-2
     add-units

@@ -17,7 +17,7 @@ returns-2 : tie.Need-returns-2
 returns-2 c = c .by-windows .ensures
 
 returns-3 : tie.Need-returns-3
-returns-3 c = c .measure .ensures
+returns-3 c = c .any .ensures
 
 pub measure-at-spec : {M : Type 1} → statement M
 measure-at-spec =
@@ -32,8 +32,5 @@ measure-at-spec =
     (search needs)
     by-windows-requires
     returns-2
-    (search needs)
-    (search needs)
-    (search needs)
     (search needs)
     returns-3)

@@ -12,6 +12,7 @@ use Rattle.decode.specs.Measure.{textOf}
 use Rattle.decode.specs.TurnLaws.{Turn, from, textFrom, turn, turn-well, well-next}
 use Rattle.decode.specs.WriteLaws.{Partly, partly-none, partly-all, partly-next, utf16le-room, utf16le-next, utf16le-last}
 use Rattle.decode.specs.RunLaws.{Leads, run-leads, run-well, run-next, run-room}
+use Rattle.decode.specs.TwosLaws.{Seconds, twos-leads, twos-well, twos-next, twos-room}
 use Rattle.decode.specs.Latin.{every, ascii}
 use Rattle.decode.specs.EightLaws.{eight-is, eight-well, eight-next, eight-room}
 use Rattle.decode.proofs.write.put_utf16le.Statement.{statement}
@@ -31,13 +32,17 @@ seen : (c : tie.Then2 Inv-loop μ-loop)
     × (every ascii (take 8 (drop (c .before .before .before .before .before .loop .at) (c .before .before .before .before .before .before .before .before .args .s .now))) ≡ true)
 seen c = eight-is _ _ (sym (c .before .starts-eight .ensures) ∙ c .if2 .taken)
 
+-- or four characters of two bytes
+twain : (c : tie.Then4 Inv-loop μ-loop) → Seconds (c .before .before .before .before .before .before .before .before .before .args .s .now) (c .before .before .before .before .before .before .loop .at)
+twain c = twos-leads _ _ (sym (c .before .is-twos .ensures) ∙ c .if4 .taken)
+
 -- or four characters of three bytes
-led : (c : tie.Then4 Inv-loop μ-loop) → Leads (c .before .before .before .before .before .before .before .before .before .args .s .now) (c .before .before .before .before .before .before .loop .at)
-led c = run-leads _ _ (sym (c .before .is-run .ensures) ∙ c .if4 .taken)
+led : (c : tie.Then6 Inv-loop μ-loop) → Leads (c .before .before .before .before .before .before .before .before .before .before .args .s .now) (c .before .before .before .before .before .before .before .loop .at)
+led c = run-leads _ _ (sym (c .before .is-run .ensures) ∙ c .if6 .taken)
 
 -- or one character
-turned : (c : tie.After-c Inv-loop μ-loop) → Turn (c .before .before .before .before .before .before .before .before .before .before .args .s .now) (c .before .before .before .before .before .before .before .loop .at) (c .c .given .0 .0) (c .c .given .0 .1 .0)
-turned c = turn _ _ (c .before .before .before .before .before .before .loop-test .taken) (sym (c .before .before .known-char .ensures) ∙ c .c .given .1)
+turned : (c : tie.After-c Inv-loop μ-loop) → Turn (c .before .before .before .before .before .before .before .before .before .args .s .now) (c .before .before .before .before .before .before .loop .at) (c .c .given .0 .0) (c .c .given .0 .1 .0)
+turned c = turn _ _ (c .before .before .before .before .before .loop-test .taken) (sym (c .before .before .known-char .ensures) ∙ c .c .given .1)
 
 loop-holds : tie.Need-loop-holds Inv-loop μ-loop
 loop-holds c = (omega arith, omega arith, c .before .before .pre .0, partly-none _ _)
@@ -81,73 +86,108 @@ loop-again c =
     let p = partly-next (i .3) _ _ (eight-next _ _ (i .2) l) (c .before .before .put-eight .ensures) in
     (l .0, wrote-length (p .wrote), eight-well _ _ (i .2) l, p)
 
-is-run-requires : tie.Need-is-run-requires Inv-loop μ-loop
-is-run-requires c κs = omega arith
+is-twos-requires : tie.Need-is-twos-requires Inv-loop μ-loop
+is-twos-requires c κs = omega arith
 
-sub-put-run : tie.Need-sub-put-run Inv-loop μ-loop
-sub-put-run c = omega (arith, c .before .before .before .before .before .before .loop .inv .3 .wrote .fits)
+sub-put-twos : tie.Need-sub-put-twos Inv-loop μ-loop
+sub-put-twos c = omega (arith, c .before .before .before .before .before .before .loop .inv .3 .wrote .fits)
 
-part-put-run-start : tie.Need-part-put-run-start Inv-loop μ-loop
-part-put-run-start c = omega (arith, c .before .before .before .before .before .before .loop .inv .3 .wrote .fits)
+part-put-twos-start : tie.Need-part-put-twos-start Inv-loop μ-loop
+part-put-twos-start c = omega (arith, c .before .before .before .before .before .before .loop .inv .3 .wrote .fits)
 
-part-put-run-end : tie.Need-part-put-run-end Inv-loop μ-loop
-part-put-run-end c = omega (arith, c .before .before .before .before .before .before .loop .inv .3 .wrote .fits)
+part-put-twos-end : tie.Need-part-put-twos-end Inv-loop μ-loop
+part-put-twos-end c = omega (arith, c .before .before .before .before .before .before .loop .inv .3 .wrote .fits)
 
-put-run-requires : tie.Need-put-run-requires Inv-loop μ-loop
-put-run-requires c κs =
+put-twos-requires : tie.Need-put-twos-requires Inv-loop μ-loop
+put-twos-requires c κs =
     let i = c .before .before .before .before .before .before .before .loop .inv in
-    (i .2, sym (c .before .before .is-run .ensures) ∙ c .before .if4 .taken, run-room _ _ (i .2) (led (c .before)) (i .3) (c .before .before .before .before .before .before .before .before .before .before .pre .1))
+    (i .2, sym (c .before .before .is-twos .ensures) ∙ c .before .if4 .taken, twos-room _ _ (i .2) (twain (c .before)) (i .3) (c .before .before .before .before .before .before .before .before .before .before .pre .1))
 
 add-n-2 : tie.Need-add-n-2 Inv-loop μ-loop
 add-n-2 c =
     let i = c .before .before .before .before .before .before .before .before .before .before .loop .inv in
-    omega (arith, partly-next (i .3) _ _ (run-next _ _ (i .2) (led (c .before .before .before .before))) (c .before .before .put-run .ensures) .wrote .fits)
+    omega (arith, partly-next (i .3) _ _ (twos-next _ _ (i .2) (twain (c .before .before .before .before))) (c .before .before .put-twos .ensures) .wrote .fits)
 
 add-at-2 : tie.Need-add-at-2 Inv-loop μ-loop
-add-at-2 c = let l = led (c .before .before .before .before) in omega arith
+add-at-2 c = let l = twain (c .before .before .before .before) in omega arith
 
 loop-less-2 : tie.Need-loop-less-2 Inv-loop μ-loop
-loop-less-2 c = let l = led (c .before .before .before .before) in omega arith
+loop-less-2 c = let l = twain (c .before .before .before .before) in omega arith
 
 loop-again-2 : tie.Need-loop-again-2 Inv-loop μ-loop
 loop-again-2 c =
     let i = c .before .before .before .before .before .before .before .before .before .before .loop .inv in
+    let l = twain (c .before .before .before .before) in
+    let p = partly-next (i .3) _ _ (twos-next _ _ (i .2) l) (c .before .before .put-twos .ensures) in
+    (l .there, wrote-length (p .wrote), twos-well _ _ (i .2) l, p)
+
+is-run-requires : tie.Need-is-run-requires Inv-loop μ-loop
+is-run-requires c κs = omega arith
+
+sub-put-run : tie.Need-sub-put-run Inv-loop μ-loop
+sub-put-run c = omega (arith, c .before .before .before .before .before .before .before .loop .inv .3 .wrote .fits)
+
+part-put-run-start : tie.Need-part-put-run-start Inv-loop μ-loop
+part-put-run-start c = omega (arith, c .before .before .before .before .before .before .before .loop .inv .3 .wrote .fits)
+
+part-put-run-end : tie.Need-part-put-run-end Inv-loop μ-loop
+part-put-run-end c = omega (arith, c .before .before .before .before .before .before .before .loop .inv .3 .wrote .fits)
+
+put-run-requires : tie.Need-put-run-requires Inv-loop μ-loop
+put-run-requires c κs =
+    let i = c .before .before .before .before .before .before .before .before .loop .inv in
+    (i .2, sym (c .before .before .is-run .ensures) ∙ c .before .if6 .taken, run-room _ _ (i .2) (led (c .before)) (i .3) (c .before .before .before .before .before .before .before .before .before .before .before .pre .1))
+
+add-n-3 : tie.Need-add-n-3 Inv-loop μ-loop
+add-n-3 c =
+    let i = c .before .before .before .before .before .before .before .before .before .before .before .loop .inv in
+    omega (arith, partly-next (i .3) _ _ (run-next _ _ (i .2) (led (c .before .before .before .before))) (c .before .before .put-run .ensures) .wrote .fits)
+
+add-at-3 : tie.Need-add-at-3 Inv-loop μ-loop
+add-at-3 c = let l = led (c .before .before .before .before) in omega arith
+
+loop-less-3 : tie.Need-loop-less-3 Inv-loop μ-loop
+loop-less-3 c = let l = led (c .before .before .before .before) in omega arith
+
+loop-again-3 : tie.Need-loop-again-3 Inv-loop μ-loop
+loop-again-3 c =
+    let i = c .before .before .before .before .before .before .before .before .before .before .before .loop .inv in
     let l = led (c .before .before .before .before) in
     let p = partly-next (i .3) _ _ (run-next _ _ (i .2) l) (c .before .before .put-run .ensures) in
     (l .there, wrote-length (p .wrote), run-well _ _ (i .2) l, p)
 
 known-char-requires : tie.Need-known-char-requires Inv-loop μ-loop
-known-char-requires c κs = (omega arith, c .before .before .before .before .loop .inv .2)
+known-char-requires c κs = (omega arith, c .before .before .before .loop .inv .2)
 
 sub-put-units : tie.Need-sub-put-units Inv-loop μ-loop
-sub-put-units c = omega (arith, c .before .before .before .before .before .before .before .before .loop .inv .3 .wrote .fits)
+sub-put-units c = omega (arith, c .before .before .before .before .before .before .before .loop .inv .3 .wrote .fits)
 
 part-put-units-start : tie.Need-part-put-units-start Inv-loop μ-loop
-part-put-units-start c = omega (arith, c .before .before .before .before .before .before .before .before .loop .inv .3 .wrote .fits)
+part-put-units-start c = omega (arith, c .before .before .before .before .before .before .before .loop .inv .3 .wrote .fits)
 
 part-put-units-end : tie.Need-part-put-units-end Inv-loop μ-loop
-part-put-units-end c = omega (arith, c .before .before .before .before .before .before .before .before .loop .inv .3 .wrote .fits)
+part-put-units-end c = omega (arith, c .before .before .before .before .before .before .before .loop .inv .3 .wrote .fits)
 
 put-units-requires : tie.Need-put-units-requires Inv-loop μ-loop
 put-units-requires c κs =
-    let i = c .before .before .before .before .before .before .before .before .before .loop .inv in
+    let i = c .before .before .before .before .before .before .before .before .loop .inv in
     let t = turned (c .before .before) in
-    (t .small, utf16le-room t (i .2) (i .3) (c .before .before .before .before .before .before .before .before .before .before .before .before .pre .1))
+    (t .small, utf16le-room t (i .2) (i .3) (c .before .before .before .before .before .before .before .before .before .before .before .pre .1))
 
-add-n-3 : tie.Need-add-n-3 Inv-loop μ-loop
-add-n-3 c =
-    let i = c .before .before .before .before .before .before .before .before .before .before .before .before .loop .inv in
+add-n-4 : tie.Need-add-n-4 Inv-loop μ-loop
+add-n-4 c =
+    let i = c .before .before .before .before .before .before .before .before .before .before .before .loop .inv in
     omega (arith, partly-next (i .3) _ _ (utf16le-next (turned (c .before .before .before .before .before)) (i .2)) (c .before .before .put-units .ensures) .wrote .fits)
 
-add-at-3 : tie.Need-add-at-3 Inv-loop μ-loop
-add-at-3 c = let t = turned (c .before .before .before .before .before) in omega arith
+add-at-4 : tie.Need-add-at-4 Inv-loop μ-loop
+add-at-4 c = let t = turned (c .before .before .before .before .before) in omega arith
 
-loop-less-3 : tie.Need-loop-less-3 Inv-loop μ-loop
-loop-less-3 c = let t = turned (c .before .before .before .before .before) in omega arith
+loop-less-4 : tie.Need-loop-less-4 Inv-loop μ-loop
+loop-less-4 c = let t = turned (c .before .before .before .before .before) in omega arith
 
-loop-again-3 : tie.Need-loop-again-3 Inv-loop μ-loop
-loop-again-3 c =
-    let i = c .before .before .before .before .before .before .before .before .before .before .before .before .loop .inv in
+loop-again-4 : tie.Need-loop-again-4 Inv-loop μ-loop
+loop-again-4 c =
+    let i = c .before .before .before .before .before .before .before .before .before .before .before .loop .inv in
     let t = turned (c .before .before .before .before .before) in
     let p = partly-next (i .3) _ _ (utf16le-next t (i .2)) (c .before .before .put-units .ensures) in
     (t .within, wrote-length (p .wrote), sym (well-next t) ∙ i .2, p)
@@ -156,7 +196,7 @@ same-length : tie.Need-same-length Inv-loop μ-loop
 same-length c = omega arith
 
 returns : tie.Need-returns Inv-loop μ-loop
-returns c = absurd (turn-well _ _ (c .before .before .before .before .before .before .loop-test .taken) (c .before .before .before .before .before .before .before .loop .inv .2) (sym (c .before .before .known-char .ensures) ∙ c .enum-told .given .1))
+returns c = absurd (turn-well _ _ (c .before .before .before .before .before .loop-test .taken) (c .before .before .before .before .before .before .loop .inv .2) (sym (c .before .before .known-char .ensures) ∙ c .enum-told .given .1))
 
 same-length-2 : tie.Need-same-length-2 Inv-loop μ-loop
 same-length-2 c = omega arith
@@ -181,25 +221,34 @@ put-utf16le-spec =
     add-at
     loop-less
     loop-again
+    is-twos-requires
+    sub-put-twos
+    part-put-twos-start
+    part-put-twos-end
+    put-twos-requires
+    add-n-2
+    add-at-2
+    loop-less-2
+    loop-again-2
     is-run-requires
     sub-put-run
     part-put-run-start
     part-put-run-end
     put-run-requires
-    add-n-2
-    add-at-2
-    loop-less-2
-    loop-again-2
+    add-n-3
+    add-at-3
+    loop-less-3
+    loop-again-3
     known-char-requires
     (λ c. search needs)
     sub-put-units
     part-put-units-start
     part-put-units-end
     put-units-requires
-    add-n-3
-    add-at-3
-    loop-less-3
-    loop-again-3
+    add-n-4
+    add-at-4
+    loop-less-4
+    loop-again-4
     (λ c. search needs)
     same-length
     returns

@@ -48,22 +48,19 @@ room c =
 mul-put-text : tie.Need-mul-put-text Inv-loop μ-loop
 mul-put-text c = omega (arith, room (c .before) .0, room (c .before) .1)
 
-utf8-at-requires : tie.Need-utf8-at-requires Inv-loop μ-loop
-utf8-at-requires c κs = let f = first (c .before) in (f .there, omega (arith, f .next))
-
 put-text-requires : tie.Need-put-text-requires Inv-loop μ-loop
 put-text-requires c κs =
-    let l = c .before .before in
+    let l = c .before in
     let f = first l in
-    rw (c .utf8-at .ensures) (f .well, f .units, room l .0, omega (arith, room l .1, wrote-length (l .before .loop .inv .between .wrote)))
+    (f .there, omega (arith, f .next), f .well, f .units, room l .0, omega (arith, room l .1, wrote-length (l .before .loop .inv .between .wrote)))
 
 add-n : tie.Need-add-n Inv-loop μ-loop
 add-n c =
     let p = c .before .before in
-    omega (arith, room (p .before .before .before) .1, rw (p .before .utf8-at .ensures) at (p .put-text .ensures .0))
+    omega (arith, room (p .before .before) .1, p .put-text .ensures .0)
 
 next-text-requires : tie.Need-next-text-requires Inv-loop μ-loop
-next-text-requires c κs = let f = first (c .before .before .before .before .before) in record { there = f .there; next = f .next }
+next-text-requires c κs = let f = first (c .before .before .before .before) in record { there = f .there; next = f .next }
 
 add-i : tie.Need-add-i Inv-loop μ-loop
 add-i c = omega arith
@@ -74,10 +71,10 @@ loop-less c = omega arith
 loop-again : tie.Need-loop-again Inv-loop μ-loop
 loop-again c =
     let p = c .before .before .before in
-    let l = p .before .before .before .before in
+    let l = p .before .before .before in
     let u = l .before .before .before in
     let a = u .args in
-    rw (c .next-text .ensures, p .put-text .ensures .0, p .put-text .ensures .1, p .before .utf8-at .ensures)
+    rw (c .next-text .ensures, p .put-text .ensures .0, p .put-text .ensures .1)
     (upto-next (a .more) (a .s .now) (a .from) (a .count) (a .out .now) (u .pre .1) (l .loop .inv) (search needs))
 
 same-length : tie.Need-same-length Inv-loop μ-loop
@@ -99,7 +96,6 @@ put-texts-spec =
     mul-n
     loop-holds
     mul-put-text
-    utf8-at-requires
     put-text-requires
     add-n
     next-text-requires

@@ -1,22 +1,22 @@
--- `pairs::look` meets its contract. The loop's invariant: what the first k bytes mean is there. Assumes nothing.
+-- `pairs::look_bytes` meets its contract. The loop's invariant: what the first k bytes mean is there. Assumes nothing.
 use mathlib.Core.Path.{_≡_, _∙_}
 use Prim.Native.Nat.{_-_, _≤_}
 use native.Mathlib.Omega.{arith}
 use borrow.Author.Needs.{needs}
 use lib.ListN.{length, length-set}
-use Rattle.decode.specs.Tails.{Paired}
-use Rattle.decode.specs.TailsLaws.{paired-none, paired-next}
-use Rattle.decode.proofs.pairs.look.Statement.{statement}
-use Rattle.decode.proofs.pairs.look.Tie as tie
+use Rattle.decode.specs.Tails.{Meant}
+use Rattle.decode.specs.TailsLaws.{meant-none, meant-next}
+use Rattle.decode.proofs.pairs.look_bytes.Statement.{statement}
+use Rattle.decode.proofs.pairs.look_bytes.Tie as tie
 
 abbrev Inv-loop : tie.InvT-loop
-Inv-loop bytes₀ sizes₀ s i m k₀ bytes sizes k = (k ≤ m) × (length bytes ≡ 128) × (length sizes ≡ 128) × Paired s i k bytes sizes
+Inv-loop bytes₀ s i k₀ bytes k = (k ≤ 32) × (length bytes ≡ 32) × Meant s i k bytes
 
 abbrev μ-loop : tie.MeasureT-loop
-μ-loop bytes₀ sizes₀ s i m k₀ bytes sizes k = m - k
+μ-loop bytes₀ s i k₀ bytes k = 32 - k
 
 loop-holds : tie.Need-loop-holds Inv-loop μ-loop
-loop-holds c = let p = c .before .pre in (omega arith, p .3, p .4, paired-none _ _ _ _)
+loop-holds c = let p = c .before .pre in (omega arith, p .2, meant-none _ _ _)
 
 add-b : tie.Need-add-b Inv-loop μ-loop
 add-b c = omega arith
@@ -48,12 +48,6 @@ picked-requires c κs = search needs
 element-write-bytes : tie.Need-element-write-bytes Inv-loop μ-loop
 element-write-bytes c = omega arith
 
-ran-requires : tie.Need-ran-requires Inv-loop μ-loop
-ran-requires c κs = search needs
-
-element-write-sizes : tie.Need-element-write-sizes Inv-loop μ-loop
-element-write-sizes c = omega arith
-
 add-k : tie.Need-add-k Inv-loop μ-loop
 add-k c = omega arith
 
@@ -62,20 +56,19 @@ loop-less c = omega arith
 
 loop-again : tie.Need-loop-again Inv-loop μ-loop
 loop-again c =
-    let l = c .before .before .before .before .before .before .loop in (
+    let l = c .before .before .before .before .before .loop in (
       omega arith,
       length-set (l .bytes) (l .k) _ ∙ l .inv .1,
-      length-set (l .sizes) (l .k) _ ∙ l .inv .2,
-      rw (c .before .picked .ensures, c .ran .ensures) (paired-next (l .inv .3) (omega arith) (omega arith)),
+      rw (c .picked .ensures) (meant-next (l .inv .2) (omega arith)),
     )
 
 returns : tie.Need-returns Inv-loop μ-loop
 returns c =
-    let e : c .before .loop .k ≡ c .before .before .before .args .m = omega arith in
-    rw e at (c .before .loop .inv .3)
+    let e : c .before .loop .k ≡ 32 = omega arith in
+    rw e at (c .before .loop .inv .2)
 
-pub look-spec : {M : Type 1} → statement M
-look-spec =
+pub look-bytes-spec : {M : Type 1} → statement M
+look-bytes-spec =
     tie.close
     (tie.spec
     Inv-loop
@@ -91,8 +84,6 @@ look-spec =
     shared-slice-read-picked
     picked-requires
     element-write-bytes
-    ran-requires
-    element-write-sizes
     add-k
     loop-less
     loop-again
