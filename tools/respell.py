@@ -168,7 +168,6 @@ def main():
 
             # clauses and imports alone: a word of the table with a dash or a capital inside stands nowhere else
             new = turn_code(text, {a: b for a, b in words.items() if "-" in a or re.search("[a-z0-9][A-Z]", a)}, stay, dotted)
-            new = re.sub(r"(?:requires|ensures)(?: \w+)? \{[^\n]*|ghost use[^;]*;", lambda m: turn_words(m[0], {a: b for a, b in words.items() if a in LAWS}, stay, dotted), new)
         else:
             new = turn_code(text, words, stay, dotted)
         if new != text:

@@ -2,7 +2,7 @@
 ghost use Rattle.std.specs.Prelude.{◌≡◌, ◌+◌, ◌≤◌, length};
 ghost use Rattle.base.specs.Number.{le_at};
 ghost use Rattle.base.specs.Signed.{twos};
-ghost use Rattle.base.specs.SignedSize.{size_of, size_in_lem};
+ghost use Rattle.base.specs.SignedSize.{size_of, size_in};
 
 use super::number::{le32, le64};
 
@@ -74,7 +74,7 @@ pub fn size64(z: i64) -> Size
 // The size that the four bytes from a place on say, little-endian.
 pub fn le_size32(s: &[u8], at: usize) -> Size
     requires { at + 4 ≤ length s.now }
-    ensures { result ≡ size_in_lem 32 (le_at 4 s.now at) }
+    ensures { result ≡ size_in 32 (le_at 4 s.now at) }
 {
     size32(le_i32(s, at))
 }
@@ -82,7 +82,7 @@ pub fn le_size32(s: &[u8], at: usize) -> Size
 // The size that the eight bytes from a place on say, little-endian.
 pub fn le_size64(s: &[u8], at: usize) -> Size
     requires { at + 8 ≤ length s.now }
-    ensures { result ≡ size_in_lem 64 (le_at 8 s.now at) }
+    ensures { result ≡ size_in 64 (le_at 8 s.now at) }
 {
     size64(le_i64(s, at))
 }

@@ -2,7 +2,7 @@
 ghost use Rattle.std.specs.Prelude.{◌≡◌, ◌+◌, ◌*◌, ◌-◌, ◌≤◌, ◌<◌, length};
 ghost use Rattle.base.specs.Reading.{walk};
 ghost use Rattle.base.specs.ReadingRows.{cells};
-ghost use Rattle.batch.specs.Batch.{head_at_lem, strings, body, some_names, batch};
+ghost use Rattle.batch.specs.Batch.{head_at, strings, body, some_names, batch};
 ghost use Rattle.batch.specs.BatchAnswers.{checked, batched};
 
 use super::reader;
@@ -37,7 +37,7 @@ pub enum NameBatch {
 
 pub fn read_head(s: &[u8], h: usize) -> Head
     requires { h + 2 ≤ length s.now }
-    ensures { (result ≡ head_at_lem s.now h) × (result.size < 65536) }
+    ensures { (result ≡ head_at s.now h) × (result.size < 65536) }
 {
     let a = reader::byte(s, h);
     let n = a % 128 * 256 + reader::byte(s, h + 1);
@@ -57,7 +57,7 @@ pub fn read_head(s: &[u8], h: usize) -> Head
 // Every name, and that the strings are used up: questions 5 to 7.
 fn check_names(s: &[u8], count: usize, headers: usize, from: usize, end: usize) -> Checked
     requires { (headers + 2 * count ≤ length s.now) × (from ≤ end) × (end ≤ length s.now) }
-    ensures { result ≡ checked (walk (strings (cells (head_at_lem s.now) 2 headers count) (end - from)) s.now from) }
+    ensures { result ≡ checked (walk (strings (cells (head_at s.now) 2 headers count) (end - from)) s.now from) }
 {
     let mut left = count;
     let mut h = headers;

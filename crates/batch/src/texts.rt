@@ -7,7 +7,7 @@ ghost use Rattle.text.specs.Name.{text_bytes};
 ghost use Rattle.base.specs.Output.{Wrote};
 ghost use Rattle.text.specs.Utf8.{utf8};
 ghost use Rattle.batch.specs.Places.{part_at};
-ghost use Rattle.batch.specs.Holds.{text_at_lem, name_at, Holds, place_without};
+ghost use Rattle.batch.specs.Holds.{text_at, name_at, Holds, place_without};
 
 use super::places::Place;
 
@@ -23,7 +23,7 @@ pub fn part_of(b: &[u8], p: Place) -> &[u8]
 
 // How many bytes of UTF-8 the name takes.
 pub fn place_len(b: &[u8], p: Place, number: u32) -> usize
-    requires { Holds b.now p (text_at_lem b.now p) }
+    requires { Holds b.now p (text_at b.now p) }
     ensures { (result ≡ length (utf8 (name_at b.now p number))) × (result ≤ 131089) }
 {
     text::plain::name_len(part_of(b, p), p.wide, number)
@@ -31,7 +31,7 @@ pub fn place_len(b: &[u8], p: Place, number: u32) -> usize
 
 // The name.
 pub fn put_place(out: &mut [u8], b: &[u8], p: Place, number: u32) -> usize
-    requires { Holds b.now p (text_at_lem b.now p) × (length (utf8 (name_at b.now p number)) ≤ length out.old) }
+    requires { Holds b.now p (text_at b.now p) × (length (utf8 (name_at b.now p number)) ≤ length out.old) }
     ensures { Wrote out.old (utf8 (name_at b.now p number)) out.new result }
 {
     text::plain::put_name(out, part_of(b, p), p.wide, number)
@@ -39,7 +39,7 @@ pub fn put_place(out: &mut [u8], b: &[u8], p: Place, number: u32) -> usize
 
 // The name as a text: its length in 4 bytes, then its bytes.
 pub fn put_place_text(out: &mut [u8], b: &[u8], p: Place, number: u32) -> usize
-    requires { Holds b.now p (text_at_lem b.now p) × (length (text_bytes (name_at b.now p number)) ≤ length out.old) }
+    requires { Holds b.now p (text_at b.now p) × (length (text_bytes (name_at b.now p number)) ≤ length out.old) }
     ensures { Wrote out.old (text_bytes (name_at b.now p number)) out.new result }
 {
     text::plain::put_name_text(out, part_of(b, p), p.wide, number)
@@ -47,16 +47,16 @@ pub fn put_place_text(out: &mut [u8], b: &[u8], p: Place, number: u32) -> usize
 
 // Whether the text starts with an ASCII text.
 pub fn place_starts_with(b: &[u8], p: Place, affix: &[u8]) -> bool
-    requires { Holds b.now p (text_at_lem b.now p) × (all_ascii affix.now ≡ true) }
-    ensures { result ≡ starts_with (text_at_lem b.now p) affix.now }
+    requires { Holds b.now p (text_at b.now p) × (all_ascii affix.now ≡ true) }
+    ensures { result ≡ starts_with (text_at b.now p) affix.now }
 {
     text::affix::starts_with(part_of(b, p), p.wide, affix)
 }
 
 // Whether the text ends in an ASCII text.
 pub fn place_ends_with(b: &[u8], p: Place, affix: &[u8]) -> bool
-    requires { Holds b.now p (text_at_lem b.now p) × (all_ascii affix.now ≡ true) }
-    ensures { result ≡ ends_with (text_at_lem b.now p) affix.now }
+    requires { Holds b.now p (text_at b.now p) × (all_ascii affix.now ≡ true) }
+    ensures { result ≡ ends_with (text_at b.now p) affix.now }
 {
     text::affix::ends_with(part_of(b, p), p.wide, affix)
 }

@@ -5,7 +5,7 @@ ghost use Rattle.base.specs.NumberLaws.{Bytes};
 ghost use Rattle.base.specs.Output.{Wrote};
 ghost use Rattle.ids.specs.LoweredUnits.{name_units};
 ghost use Rattle.text.specs.Utf16.{unit_bytes};
-ghost use Rattle.batch.specs.Holds.{text_at_lem, Holds};
+ghost use Rattle.batch.specs.Holds.{text_at, Holds};
 ghost use Rattle.hashes.specs.Chain.{place_no, piece, pieces, chain_units, piece_count, Named};
 ghost use Rattle.hashes.specs.Slash.{slash_low, slash_bytes};
 
@@ -58,8 +58,8 @@ pub fn count_units(chain: &[u32; 195], depth: usize) -> usize
 
 // The n units of a lowered name from a place on.
 fn put_name(out: &mut [u8], s: &[u8], p: Place, number: u32, from: usize, n: usize) -> usize
-    requires { Holds s.now p (text_at_lem s.now p) × (from + n ≤ length (name_units (text_at_lem s.now p) (suffix number))) × (2 * n ≤ length out.old) }
-    ensures { Wrote out.old (unit_bytes (take n (drop from (name_units (text_at_lem s.now p) (suffix number))))) out.new result }
+    requires { Holds s.now p (text_at s.now p) × (from + n ≤ length (name_units (text_at s.now p) (suffix number))) × (2 * n ≤ length out.old) }
+    ensures { Wrote out.old (unit_bytes (take n (drop from (name_units (text_at s.now p) (suffix number))))) out.new result }
 {
     let mut digits = [0u8; 24];
     let k = put_suffix(&mut digits, number);
@@ -68,7 +68,7 @@ fn put_name(out: &mut [u8], s: &[u8], p: Place, number: u32, from: usize, n: usi
 
 // The n units of a lowered name and the `/` before it, from a place on.
 fn put_piece(out: &mut [u8], s: &[u8], p: Place, number: u32, from: usize, n: usize) -> usize
-    requires { Holds s.now p (text_at_lem s.now p) × (from + n ≤ length (piece s.now p number)) × (2 * n ≤ length out.old) }
+    requires { Holds s.now p (text_at s.now p) × (from + n ≤ length (piece s.now p number)) × (2 * n ≤ length out.old) }
     ensures { Wrote out.old (unit_bytes (take n (drop from (piece s.now p number)))) out.new result }
 {
     if n == 0 {

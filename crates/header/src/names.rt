@@ -8,8 +8,8 @@ ghost use Rattle.text.specs.Utf8.{from_utf8};
 ghost use Rattle.decode.specs.Measure.{text_of, fits_latin1};
 ghost use Rattle.written.specs.BatchBytes.{string_bytes, head_bytes, batch_bytes};
 ghost use Rattle.written.specs.HeaderBytes.{longest_name};
-ghost use Rattle.header.specs.Places.{utf8_at, text_at_lem, text_end, next_text, texts_from};
-ghost use Rattle.header.specs.Parts.{texts_fit, strings_from, TextIn, string_units, head_high, laid, names_bytes, front_bytes_lem};
+ghost use Rattle.header.specs.Places.{utf8_at, text_at, text_end, next_text, texts_from};
+ghost use Rattle.header.specs.Parts.{texts_fit, strings_from, TextIn, string_units, head_high, laid, names_bytes, front_bytes};
 
 use super::check::size_at;
 use super::little::{put_le32, put_le64};
@@ -84,7 +84,7 @@ fn head_high(units: usize, latin: bool) -> u8
 fn put_text(out: &mut [u8], head: usize, n: usize, s: &[u8], at: usize) -> usize
     requires { (at + 4 ≤ length s.now) × (text_end s.now at ≤ length s.now) × (is_well (from_utf8 (utf8_at s.now at)) ≡ true)
         × (length (encode16 (text_at s.now at)) ≤ longest_name) × (head + 2 ≤ n) × (n + length (string_bytes (text_at s.now at)) ≤ length out.old) }
-    ensures { (result ≡ length (string_bytes (text_at_lem s.now at)))
+    ensures { (result ≡ length (string_bytes (text_at s.now at)))
         × (out.new ≡ laid (laid out.old n (string_bytes (text_at s.now at))) head (head_bytes (text_at s.now at))) }
 {
     let start = at + 4;
@@ -134,7 +134,7 @@ fn put_names(out: &mut [u8], s: &[u8], from: usize, count: usize, more: usize) -
 // What stands before them: how many there are, how many bytes their strings take, the version of the hashes.
 fn put_front(out: &mut [u8], count: u32, strings: u32) -> usize
     requires { 16 ≤ length out.old }
-    ensures { Wrote out.old (front_bytes_lem count strings) out.new result }
+    ensures { Wrote out.old (front_bytes count strings) out.new result }
 {
     let a = put_le32(out, count);
     let b = a + put_le32(&mut out[a..], strings);

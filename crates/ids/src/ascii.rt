@@ -9,9 +9,9 @@ ghost use Rattle.base.specs.Output.{Wrote};
 ghost use Rattle.text.specs.Utf16.{is_well, unit_bytes};
 ghost use Rattle.text.specs.Utf16Cases.{Words};
 ghost use Rattle.text.specs.Name.{decoded, base};
-ghost use Rattle.text.specs.Units.{units_of_lem};
+ghost use Rattle.text.specs.Units.{units_of};
 ghost use Rattle.city.specs.City.{city_hash64};
-ghost use Rattle.ids.specs.LoweredUnits.{all_are_lem, bits_from, name_units};
+ghost use Rattle.ids.specs.LoweredUnits.{all_are, bits_from, name_units};
 
 use super::short::{put_number, word_in, words_hash};
 use city::city::{hash_bytes, hash_halves, hash_len0, hash_two};
@@ -37,8 +37,8 @@ pub fn is_tried(part: &[u8], n: usize) -> bool
 
 // The four units of wide text from a place on with A to Z lowered, at the same place of an array, and all bits of them together.
 fn put_four(units: &mut [u32], part: &[u8], i: usize) -> u32
-    requires { (i + 4 ≤ length (units_of_lem true part.now)) × (i + 4 ≤ length units.old) }
-    ensures { (result ≡ bits_from 0 (take 4 (drop i (units_of_lem true part.now))))
+    requires { (i + 4 ≤ length (units_of true part.now)) × (i + 4 ≤ length units.old) }
+    ensures { (result ≡ bits_from 0 (take 4 (drop i (units_of true part.now))))
         × (units.new ≡ paste units.old i (drop i (map lower_ascii (units_of true part.now))) 4) }
 {
     let a = unit_at(part, true, i);
@@ -54,8 +54,8 @@ fn put_four(units: &mut [u32], part: &[u8], i: usize) -> u32
 
 // All n units of wide text so, one by one.
 fn put_all(units: &mut [u32], part: &[u8], n: usize) -> u32
-    requires { (n ≡ length (units_of_lem true part.now)) × (n ≤ length units.old) }
-    ensures { (result ≡ bits_from 0 (units_of_lem true part.now))
+    requires { (n ≡ length (units_of true part.now)) × (n ≤ length units.old) }
+    ensures { (result ≡ bits_from 0 (units_of true part.now))
         × Wrote units.old (map lower_ascii (units_of true part.now)) units.new n }
 {
     let mut bits: u32 = 0;
@@ -71,8 +71,8 @@ fn put_all(units: &mut [u32], part: &[u8], n: usize) -> u32
 
 // The same, four to eight of them as the first four and the last. Where the bits are those of ASCII, A to Z is all there was to lower.
 fn put_lowered(units: &mut [u32], part: &[u8], n: usize) -> u32
-    requires { (n ≡ length (units_of_lem true part.now)) × (n ≤ length units.old) }
-    ensures { (result < 0x80 → all_are_lem caseless (units_of_lem true part.now) ≡ true)
+    requires { (n ≡ length (units_of true part.now)) × (n ≤ length units.old) }
+    ensures { (result < 0x80 → all_are caseless (units_of true part.now) ≡ true)
         × Wrote units.old (map lower_ascii (units_of true part.now)) units.new n }
 {
     if 4 <= n {

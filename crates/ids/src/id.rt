@@ -7,7 +7,7 @@ ghost use Rattle.base.specs.Output.{Wrote};
 ghost use Rattle.text.specs.Utf16.{is_well, encode16, unit_bytes};
 ghost use Rattle.text.specs.Name.{decoded, base, rendered};
 ghost use Rattle.city.specs.City.{city_hash64};
-ghost use Rattle.text.specs.Units.{units_of_lem};
+ghost use Rattle.text.specs.Units.{units_of};
 ghost use Rattle.ids.specs.LoweredUnits.{name_units};
 ghost use Rattle.ids.specs.Id.{id_of};
 
@@ -65,7 +65,7 @@ fn part_units(count: usize, from: usize, n: usize) -> usize
 
 // The n units of the lowered base of a name from a place on.
 fn put_part(out: &mut [u8], part: &[u8], wide: bool, from: usize, n: usize)
-    requires { (is_well (decoded wide part.now) ≡ true) × (n ≤ length (units_of_lem wide part.now) - from) × (from + n < 2 ^ 64)
+    requires { (is_well (decoded wide part.now) ≡ true) × (n ≤ length (units_of wide part.now) - from) × (from + n < 2 ^ 64)
         × (2 * n ≤ length out.old) }
     ensures { Wrote out.old (unit_bytes (take n (drop from (encode16 (lowered (base wide part.now))))))
         out.new (2 * n) }

@@ -6,7 +6,7 @@ ghost use Rattle.rules.specs.Quick.{asks};
 ghost use Rattle.text.specs.Utf16.{is_well, encode16};
 ghost use Rattle.text.specs.Utf16Cases.{High, Low};
 ghost use Rattle.text.specs.Name.{decoded, base};
-ghost use Rattle.text.specs.Units.{units_of_lem};
+ghost use Rattle.text.specs.Units.{units_of};
 ghost use Rattle.ids.specs.LoweredUnits.{lowered_unit};
 
 use lower::ascii::lower_ascii;
@@ -34,8 +34,8 @@ fn lower_by(table: &[u32], before: u32, u: u32) -> u32
 
 // The unit before unit i of a part; 0 before the first.
 fn unit_before(part: &[u8], wide: bool, i: usize) -> u32
-    requires { i < length (units_of_lem wide part.now) }
-    ensures { result ≡ get_or (0 ∷ units_of_lem wide part.now) i 0 }
+    requires { i < length (units_of wide part.now) }
+    ensures { result ≡ get_or (0 ∷ units_of wide part.now) i 0 }
 {
     if i == 0 {
         return 0;
@@ -45,7 +45,7 @@ fn unit_before(part: &[u8], wide: bool, i: usize) -> u32
 
 // Unit i of a lowered part, by the table.
 pub fn lowered_unit(part: &[u8], wide: bool, table: &[u32], i: usize) -> u32
-    requires { (is_well (decoded wide part.now) ≡ true) × (i < length (units_of_lem wide part.now)) × (table.now ≡ flat pairs) }
+    requires { (is_well (decoded wide part.now) ≡ true) × (i < length (units_of wide part.now)) × (table.now ≡ flat pairs) }
     ensures { (result ≡ get_or (encode16 (lowered (base wide part.now))) i 0) × (result < 65536) }
 {
     let u = unit_at(part, wide, i);
@@ -64,8 +64,8 @@ fn lower_trailing(before: u32, u: u32) -> u32
 // Unit i of a lowered part, by the rules; where the table is to be asked, a number that no unit has. Most units of most names are ASCII, which is
 // asked first.
 pub fn quick_unit(part: &[u8], wide: bool, i: usize) -> u32
-    requires { (is_well (decoded wide part.now) ≡ true) × (i < length (units_of_lem wide part.now)) }
-    ensures { result ≡ cond (asks (get_or (units_of_lem wide part.now) i 0)) 0x110000
+    requires { (is_well (decoded wide part.now) ≡ true) × (i < length (units_of wide part.now)) }
+    ensures { result ≡ cond (asks (get_or (units_of wide part.now) i 0)) 0x110000
         (get_or (encode16 (lowered (base wide part.now))) i 0) }
 {
     let u = unit_at(part, wide, i);

@@ -10,8 +10,8 @@ ghost use Rattle.rules.specs.Scripts.{is_latin, lower_latin, is_greek, lower_gre
 ghost use Rattle.base.specs.Output.{Wrote};
 ghost use Rattle.text.specs.Utf16.{is_well, encode16, unit_bytes};
 ghost use Rattle.text.specs.Name.{decoded, base};
-ghost use Rattle.text.specs.Units.{units_of_lem};
-ghost use Rattle.ids.specs.LoweredUnits.{all_are_lem, bits_from};
+ghost use Rattle.text.specs.Units.{units_of};
+ghost use Rattle.ids.specs.LoweredUnits.{all_are, bits_from};
 
 use super::lowered::{lowered_unit, quick_unit};
 use lower::ascii::lower_ascii;
@@ -23,8 +23,8 @@ use text::units::unit_at;
 // The n units of wide text from a place on with A to Z lowered, and all bits of them together. Here and below a loop runs to the end whatever
 // it meets, so that the compiler can take many units a turn.
 fn put_ascii(out: &mut [u8], part: &[u8], from: usize, n: usize) -> u16
-    requires { (n ≤ length (units_of_lem true part.now) - from) × (from + n < 2 ^ 64) × (2 * n ≤ length out.old) }
-    ensures { (result ≡ bits_from 0 (take n (drop from (units_of_lem true part.now))))
+    requires { (n ≤ length (units_of true part.now) - from) × (from + n < 2 ^ 64) × (2 * n ≤ length out.old) }
+    ensures { (result ≡ bits_from 0 (take n (drop from (units_of true part.now))))
         × Wrote out.old (unit_bytes (take n (drop from (map lower_ascii (units_of true part.now))))) out.new (2 * n) }
 {
     let mut bits: u16 = 0;
@@ -44,8 +44,8 @@ fn put_ascii(out: &mut [u8], part: &[u8], from: usize, n: usize) -> u16
 
 // The n units of wide text from a place on lowered as Latin, and whether they are.
 fn put_latin(out: &mut [u8], part: &[u8], from: usize, n: usize) -> bool
-    requires { (n ≤ length (units_of_lem true part.now) - from) × (from + n < 2 ^ 64) × (2 * n ≤ length out.old) }
-    ensures { (result ≡ all_are_lem is_latin (take n (drop from (units_of_lem true part.now))))
+    requires { (n ≤ length (units_of true part.now) - from) × (from + n < 2 ^ 64) × (2 * n ≤ length out.old) }
+    ensures { (result ≡ all_are is_latin (take n (drop from (units_of true part.now))))
         × Wrote out.old (unit_bytes (take n (drop from (map lower_latin (units_of true part.now))))) out.new (2 * n) }
 {
     let mut all = true;
@@ -65,8 +65,8 @@ fn put_latin(out: &mut [u8], part: &[u8], from: usize, n: usize) -> bool
 
 // The same as Greek or Cyrillic.
 fn put_greek(out: &mut [u8], part: &[u8], from: usize, n: usize) -> bool
-    requires { (n ≤ length (units_of_lem true part.now) - from) × (from + n < 2 ^ 64) × (2 * n ≤ length out.old) }
-    ensures { (result ≡ all_are_lem is_greek (take n (drop from (units_of_lem true part.now))))
+    requires { (n ≤ length (units_of true part.now) - from) × (from + n < 2 ^ 64) × (2 * n ≤ length out.old) }
+    ensures { (result ≡ all_are is_greek (take n (drop from (units_of true part.now))))
         × Wrote out.old (unit_bytes (take n (drop from (map lower_greek (units_of true part.now))))) out.new (2 * n) }
 {
     let mut all = true;
@@ -86,8 +86,8 @@ fn put_greek(out: &mut [u8], part: &[u8], from: usize, n: usize) -> bool
 
 // The same with A to Z lowered, and whether that is all there was to lower.
 fn put_caseless(out: &mut [u8], part: &[u8], from: usize, n: usize) -> bool
-    requires { (n ≤ length (units_of_lem true part.now) - from) × (from + n < 2 ^ 64) × (2 * n ≤ length out.old) }
-    ensures { (result ≡ all_are_lem caseless (take n (drop from (units_of_lem true part.now))))
+    requires { (n ≤ length (units_of true part.now) - from) × (from + n < 2 ^ 64) × (2 * n ≤ length out.old) }
+    ensures { (result ≡ all_are caseless (take n (drop from (units_of true part.now))))
         × Wrote out.old (unit_bytes (take n (drop from (map lower_ascii (units_of true part.now))))) out.new (2 * n) }
 {
     let mut all = true;
@@ -107,7 +107,7 @@ fn put_caseless(out: &mut [u8], part: &[u8], from: usize, n: usize) -> bool
 
 // The n units of lowered wide text from a place on by the rules, up to the first for which the table is to be asked, and how many they are.
 fn put_ruled(out: &mut [u8], part: &[u8], from: usize, n: usize) -> usize
-    requires { (is_well (decoded true part.now) ≡ true) × (n ≤ length (units_of_lem true part.now) - from) × (2 * n ≤ length out.old) }
+    requires { (is_well (decoded true part.now) ≡ true) × (n ≤ length (units_of true part.now) - from) × (2 * n ≤ length out.old) }
     ensures { (result ≤ n) × Wrote out.old (unit_bytes (take result (drop from (encode16 (lowered (base true part.now))))))
         out.new (2 * result)
         × ((result ≡ n) ⊎ (asks (get_or (units_of true part.now) (from + result) 0) ≡ true)) }
@@ -129,7 +129,7 @@ fn put_ruled(out: &mut [u8], part: &[u8], from: usize, n: usize) -> usize
 
 // The same by the table, all n of them.
 fn put_lowered(out: &mut [u8], part: &[u8], table: &[u32], from: usize, n: usize)
-    requires { (is_well (decoded true part.now) ≡ true) × (n ≤ length (units_of_lem true part.now) - from) × (2 * n ≤ length out.old)
+    requires { (is_well (decoded true part.now) ≡ true) × (n ≤ length (units_of true part.now) - from) × (2 * n ≤ length out.old)
         × (table.now ≡ flat pairs) }
     ensures { Wrote out.old (unit_bytes (take n (drop from (encode16 (lowered (base true part.now))))))
         out.new (2 * n) }
@@ -147,7 +147,7 @@ fn put_lowered(out: &mut [u8], part: &[u8], table: &[u32], from: usize, n: usize
 
 // The same, with the table bound here.
 fn put_tabled(out: &mut [u8], part: &[u8], from: usize, n: usize)
-    requires { (is_well (decoded true part.now) ≡ true) × (n ≤ length (units_of_lem true part.now) - from) × (2 * n ≤ length out.old) }
+    requires { (is_well (decoded true part.now) ≡ true) × (n ≤ length (units_of true part.now) - from) × (2 * n ≤ length out.old) }
     ensures { Wrote out.old (unit_bytes (take n (drop from (encode16 (lowered (base true part.now))))))
         out.new (2 * n) }
 {
@@ -157,7 +157,7 @@ fn put_tabled(out: &mut [u8], part: &[u8], from: usize, n: usize)
 
 // The n units of lowered wide text from a place on by the rules, and from the first unit on for which the table is to be asked, by the table.
 fn put_singly(out: &mut [u8], part: &[u8], from: usize, n: usize)
-    requires { (is_well (decoded true part.now) ≡ true) × (n ≤ length (units_of_lem true part.now) - from) × (from + n < 2 ^ 64)
+    requires { (is_well (decoded true part.now) ≡ true) × (n ≤ length (units_of true part.now) - from) × (from + n < 2 ^ 64)
         × (2 * n ≤ length out.old) }
     ensures { Wrote out.old (unit_bytes (take n (drop from (encode16 (lowered (base true part.now))))))
         out.new (2 * n) }
@@ -170,7 +170,7 @@ fn put_singly(out: &mut [u8], part: &[u8], from: usize, n: usize)
 
 // Whether the n units from a place on start with an ideograph or what is beyond: then they are not tried as ASCII.
 fn starts_high(part: &[u8], from: usize, n: usize) -> bool
-    requires { n ≤ length (units_of_lem true part.now) - from }
+    requires { n ≤ length (units_of true part.now) - from }
 {
     if n == 0 {
         return false;
@@ -213,7 +213,7 @@ fn guessed(bits: u16) -> Guess
 // text of less than eight units goes one by one, as Latin does that fills no turn: most of those that are ASCII never come here (`ascii.rt`).
 // Here and below nothing behind the first 2 * n bytes changes.
 fn tried(out: &mut [u8], part: &[u8], from: usize, n: usize) -> Guess
-    requires { (is_well (decoded true part.now) ≡ true) × (n ≤ length (units_of_lem true part.now) - from) × (from + n < 2 ^ 64)
+    requires { (is_well (decoded true part.now) ≡ true) × (n ≤ length (units_of true part.now) - from) × (from + n < 2 ^ 64)
         × (2 * n ≤ length out.old) }
     ensures { Wrote out.old (take (2 * n) out.new) out.new (2 * n)
         × (result ≡ Guess.Ascii → take (2 * n) out.new ≡ unit_bytes (take n (drop from (encode16 (lowered (base true part.now)))))) }
@@ -237,7 +237,7 @@ fn done(all: bool, n: usize) -> usize
 // How many of the n units of lowered wide text from a place on were put many a turn: all of them, by script all but the last up to seven, or none.
 // What a try left behind them is to be written over.
 fn put_turns(out: &mut [u8], part: &[u8], from: usize, n: usize) -> usize
-    requires { (is_well (decoded true part.now) ≡ true) × (n ≤ length (units_of_lem true part.now) - from) × (from + n < 2 ^ 64)
+    requires { (is_well (decoded true part.now) ≡ true) × (n ≤ length (units_of true part.now) - from) × (from + n < 2 ^ 64)
         × (2 * n ≤ length out.old) }
     ensures { (result ≤ n) × (take (2 * result) out.new ≡ unit_bytes (take result (drop from (encode16 (lowered (base true part.now))))))
         × Wrote out.old (take (2 * n) out.new) out.new (2 * n) }
@@ -253,7 +253,7 @@ fn put_turns(out: &mut [u8], part: &[u8], from: usize, n: usize) -> usize
 
 // The n units of lowered wide text from a place on: many a turn, and what is left one by one.
 pub fn put_wide(out: &mut [u8], part: &[u8], from: usize, n: usize)
-    requires { (is_well (decoded true part.now) ≡ true) × (n ≤ length (units_of_lem true part.now) - from) × (from + n < 2 ^ 64)
+    requires { (is_well (decoded true part.now) ≡ true) × (n ≤ length (units_of true part.now) - from) × (from + n < 2 ^ 64)
         × (2 * n ≤ length out.old) }
     ensures { Wrote out.old (unit_bytes (take n (drop from (encode16 (lowered (base true part.now))))))
         out.new (2 * n) }

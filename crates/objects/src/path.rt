@@ -2,7 +2,7 @@
 ghost use Rattle.std.specs.Prelude.{List, [], ◌∷◌, ◌++◌, ◌≡◌, ℕ, ◌*◌, ◌^◌, ◌≤◌, ◌<◌, length};
 ghost use Rattle.base.specs.Output.{Wrote};
 ghost use Rattle.text.specs.Utf8.{utf8};
-ghost use Rattle.batch.specs.Holds.{text_at_lem, name_at, Holds};
+ghost use Rattle.batch.specs.Holds.{text_at, name_at, Holds};
 ghost use Rattle.scriptblock.specs.Script.{Objects};
 ghost use Rattle.meaning.specs.Path.{separator};
 ghost use Rattle.objects.specs.Numbers.{path_no};
@@ -50,7 +50,7 @@ pub fn path_len(w: &[u8], i: usize, limit: usize) -> Path
 
 // The name of an object.
 fn put_name(out: &mut [u8], b: &[u8], u: Object) -> usize
-    requires { Holds b.now (place_of u) (text_at_lem b.now (place_of u)) × (length (utf8 (name_at b.now (place_of u) u.number)) ≤ length out.old) }
+    requires { Holds b.now (place_of u) (text_at b.now (place_of u)) × (length (utf8 (name_at b.now (place_of u) u.number)) ≤ length out.old) }
     ensures { Wrote out.old (utf8 (name_at b.now (place_of u) u.number)) out.new result }
 {
     put_place(out, b, place_of(u), u.number)
@@ -69,7 +69,7 @@ fn separator_of(depth: usize) -> u8
 
 // The name of an object that stands behind so many others, with its separator.
 fn put_next(out: &mut [u8], b: &[u8], u: Object, depth: usize) -> usize
-    requires holds { Holds b.now (place_of u) (text_at_lem b.now (place_of u)) × (0 < depth) }
+    requires holds { Holds b.now (place_of u) (text_at b.now (place_of u)) × (0 < depth) }
     requires number_in_bounds { length (utf8 (separator depth ++ name_at b.now (place_of u) u.number)) ≤ length out.old }
     ensures { Wrote out.old (utf8 (separator depth ++ name_at b.now (place_of u) u.number)) out.new result }
 {

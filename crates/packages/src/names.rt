@@ -3,7 +3,7 @@ ghost use Rattle.std.specs.Prelude.{◌≡◌, ◌++◌, ◌≤◌, length};
 ghost use Rattle.text.specs.Digits.{decimal};
 ghost use Rattle.base.specs.Output.{Wrote};
 ghost use Rattle.text.specs.Utf8.{utf8};
-ghost use Rattle.batch.specs.Holds.{Holds, text_at_lem, name_at};
+ghost use Rattle.batch.specs.Holds.{Holds, text_at, name_at};
 
 use base::output::put_bytes;
 use batch::places::Place;
@@ -19,7 +19,7 @@ pub struct Name {
 
 // A text, and the name at a place behind it.
 pub fn put_behind(out: &mut [u8], text: &[u8], b: &[u8], place: Place, number: u32) -> usize
-    requires { Holds b.now place (text_at_lem b.now place) × (length (text.now ++ utf8 (name_at b.now place number)) ≤ length out.old) }
+    requires { Holds b.now place (text_at b.now place) × (length (text.now ++ utf8 (name_at b.now place number)) ≤ length out.old) }
     ensures { Wrote out.old (text.now ++ utf8 (name_at b.now place number)) out.new result }
 {
     let at = put_bytes(out, text);

@@ -9,7 +9,7 @@ ghost use Rattle.meaning.specs.Scan.{candidate_kind};
 ghost use Rattle.packages.specs.Package.{package_in, read_in, PackageIn};
 ghost use Rattle.packages.specs.Row.{export_no};
 ghost use Rattle.packages.specs.Walk.{block_at, Site, Sites, AllRead};
-ghost use Rattle.resolve.specs.Marks.{first_step_lem, marks_in, MarksIn};
+ghost use Rattle.resolve.specs.Marks.{first_step, marks_in, MarksIn};
 ghost use Rattle.resolve.specs.Rows.{limits_of};
 ghost use Rattle.sections.specs.Sections.{How, head_of, front_of, behind_of, RowsMarked, ExportRoom, ExportPut, EachRoom, EachPut, RowsRoom, RowsPut, SectionRoom, SectionPut, SectionsRoom, SectionsPut};
 ghost use Rattle.sections.specs.Written.{report_at, Ready, ReportRoom};
@@ -189,7 +189,7 @@ fn put_section(
     requires site { Site c.now at (block_at c.now at) × (run_block package_block (block_at c.now at) ≡ gives (read_in (block_at c.now at)))
         × (length names.old ≡ note_count) × (length imported.old ≡ note_count) }
     requires section_room { (h : How) × SectionRoom c.now s.now n w.now objects first at out.old h }
-    requires rows_marked { RowsMarked n w.now (block_at c.now at) (first_step_lem c.now at) first all }
+    requires rows_marked { RowsMarked n w.now (block_at c.now at) (first_step c.now at) first all }
     ensures is { SectionPut c.now s.now n w.now objects first at out.old out.new result }
     ensures notes { (length names.new ≡ note_count) × (length imported.new ≡ note_count) }
 {

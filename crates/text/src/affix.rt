@@ -2,7 +2,7 @@
 ghost use Rattle.std.specs.Prelude.{◌≡◌, true, ◌+◌, ◌≤◌, length, drop};
 ghost use Rattle.text.specs.Utf16.{is_well};
 ghost use Rattle.text.specs.Name.{decoded, base};
-ghost use Rattle.text.specs.Units.{units_of_lem};
+ghost use Rattle.text.specs.Units.{units_of};
 ghost use Rattle.text.specs.Affix.{starts_with, ends_with, all_ascii};
 
 use super::units::{unit_at, unit_count};
@@ -10,8 +10,8 @@ use base::number;
 
 // Whether the units of a part from a place on start with an ASCII text.
 fn units_match(part: &[u8], wide: bool, from: usize, affix: &[u8]) -> bool
-    requires { from + length affix.now ≤ length (units_of_lem wide part.now) }
-    ensures { result ≡ starts_with (drop from (units_of_lem wide part.now)) affix.now }
+    requires { from + length affix.now ≤ length (units_of wide part.now) }
+    ensures { result ≡ starts_with (drop from (units_of wide part.now)) affix.now }
 {
     let mut i = 0;
     while i < affix.len() {

@@ -1,7 +1,7 @@
 // The ASCII units in front of a text: names beyond ASCII are mostly ASCII, in stretches, which go eight units a turn.
 ghost use Rattle.std.specs.Prelude.{◌≡◌, true, ◌+◌, ◌%◌, ◌≤◌, ◌<◌, length, get_or, take, drop};
 ghost use Rattle.base.specs.Output.{Wrote};
-ghost use Rattle.text.specs.Units.{units_of_lem};
+ghost use Rattle.text.specs.Units.{units_of};
 ghost use Rattle.text.specs.Front.{ascii_front, lows};
 
 use super::units::unit_at;
@@ -9,16 +9,16 @@ use base::number::le64;
 
 // The low byte of unit i.
 fn low(part: &[u8], wide: bool, i: usize) -> u8
-    requires { i < length (units_of_lem wide part.now) }
-    ensures { result ≡ get_or (units_of_lem wide part.now) i 0 % 256 }
+    requires { i < length (units_of wide part.now) }
+    ensures { result ≡ get_or (units_of wide part.now) i 0 % 256 }
 {
     (unit_at(part, wide, i) % 256) as u8
 }
 
 // The low bytes of the eight units from a place on: all are read before one is written, so that they go as one word.
 pub fn put_low(out: &mut [u8], part: &[u8], wide: bool, i: usize)
-    requires { (i + 8 ≤ length (units_of_lem wide part.now)) × (8 ≤ length out.old) }
-    ensures { Wrote out.old (lows (take 8 (drop i (units_of_lem wide part.now)))) out.new 8 }
+    requires { (i + 8 ≤ length (units_of wide part.now)) × (8 ≤ length out.old) }
+    ensures { Wrote out.old (lows (take 8 (drop i (units_of wide part.now)))) out.new 8 }
 {
     let a = low(part, wide, i);
     let b = low(part, wide, i + 1);
@@ -48,16 +48,16 @@ fn byte_front(part: &[u8], i: usize) -> usize
 
 // The same of the four units of wide text from a place on.
 fn unit_front(part: &[u8], i: usize) -> usize
-    requires { i + 4 ≤ length (units_of_lem true part.now) }
-    ensures { result ≡ ascii_front 4 (drop i (units_of_lem true part.now)) }
+    requires { i + 4 ≤ length (units_of true part.now) }
+    ensures { result ≡ ascii_front 4 (drop i (units_of true part.now)) }
 {
     (u64::trailing_zeros(le64(part, 2 * i) & 0xFF80_FF80_FF80_FF80) / 16) as usize
 }
 
 // How many of the eight units from a place on are ASCII before one that is not.
 pub fn front(part: &[u8], wide: bool, i: usize) -> usize
-    requires { i + 8 ≤ length (units_of_lem wide part.now) }
-    ensures { result ≡ ascii_front 8 (drop i (units_of_lem wide part.now)) }
+    requires { i + 8 ≤ length (units_of wide part.now) }
+    ensures { result ≡ ascii_front 8 (drop i (units_of wide part.now)) }
 {
     if !wide {
         return byte_front(part, i);

@@ -1,7 +1,7 @@
 // How many bytes of UTF-8 a text takes, by its units alone: none is decoded, and what each takes is a sum of tests without a branch, so that the
 // compiler can take many units a turn.
 ghost use Rattle.std.specs.Prelude.{◌≡◌, cond, ◌+◌, ◌*◌, ◌^◌, ◌≤◌, ◌<◌, ltb, length, drop};
-ghost use Rattle.text.specs.Units.{units_of_lem};
+ghost use Rattle.text.specs.Units.{units_of};
 ghost use Rattle.text.specs.UnitLength.{is_single, unit_length, units_length};
 
 use super::units::{unit_at, unit_count};
@@ -36,8 +36,8 @@ fn unit_short(u: u32) -> u16
 
 // How many bytes n units from a place on take. They are added up in 16 bits, the width of a unit, and are few enough for that.
 fn window_len(part: &[u8], wide: bool, from: usize, n: usize) -> usize
-    requires { (from + n ≤ length (units_of_lem wide part.now)) × (n ≤ 0x4000) }
-    ensures { (result + units_length (drop (from + n) (units_of_lem wide part.now)) ≡ units_length (drop from (units_of_lem wide part.now)))
+    requires { (from + n ≤ length (units_of wide part.now)) × (n ≤ 0x4000) }
+    ensures { (result + units_length (drop (from + n) (units_of wide part.now)) ≡ units_length (drop from (units_of wide part.now)))
         × (result ≤ 3 * n) }
 {
     let mut short: u16 = 0;
@@ -63,7 +63,7 @@ fn window(n: usize) -> usize
 // How many bytes the units of a part take.
 pub fn units_len(part: &[u8], wide: bool) -> usize
     requires { length part.now < 2 ^ 32 }
-    ensures { (result ≡ units_length (units_of_lem wide part.now)) × (result ≤ 3 * length part.now) }
+    ensures { (result ≡ units_length (units_of wide part.now)) × (result ≤ 3 * length part.now) }
 {
     let n = unit_count(part, wide);
     let mut at: usize = 0;

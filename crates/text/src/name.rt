@@ -2,7 +2,7 @@
 ghost use Rattle.std.specs.Prelude.{◌≡◌, true, ◌*◌, ◌^◌, ◌+◌, ◌≤◌, ◌<◌, length};
 ghost use Rattle.base.specs.Output.{Wrote};
 ghost use Rattle.text.specs.Utf16.{is_well};
-ghost use Rattle.text.specs.Units.{units_of_lem};
+ghost use Rattle.text.specs.Units.{units_of};
 ghost use Rattle.text.specs.Utf8.{utf8};
 ghost use Rattle.text.specs.Front.{well_from, bytes_from, Passed, Turned};
 ghost use Rattle.text.specs.Name.{decoded, base, suffix, rendered, text_bytes};
@@ -32,9 +32,9 @@ struct Run {
 
 // The bytes of the units from a place on, scalar value by scalar value.
 fn put_rest(out: &mut [u8], part: &[u8], wide: bool, from: usize) -> usize
-    requires { (from ≤ length (units_of_lem wide part.now)) × (well_from (units_of_lem wide part.now) from ≡ true)
+    requires { (from ≤ length (units_of wide part.now)) × (well_from (units_of wide part.now) from ≡ true)
         × (length (bytes_from (units_of wide part.now) from) ≤ length out.old) }
-    ensures { Wrote out.old (bytes_from (units_of_lem wide part.now) from) out.new result }
+    ensures { Wrote out.old (bytes_from (units_of wide part.now) from) out.new result }
 {
     let n = unit_count(part, wide);
     let mut at: usize = 0;
@@ -57,9 +57,9 @@ fn put_rest(out: &mut [u8], part: &[u8], wide: bool, from: usize) -> usize
 
 // The same up to the first unit that is ASCII.
 fn put_beyond(out: &mut [u8], part: &[u8], wide: bool, from: usize) -> Run
-    requires { (from ≤ length (units_of_lem wide part.now)) × (well_from (units_of_lem wide part.now) from ≡ true)
+    requires { (from ≤ length (units_of wide part.now)) × (well_from (units_of wide part.now) from ≡ true)
         × (length (bytes_from (units_of wide part.now) from) ≤ length out.old) }
-    ensures { Passed (units_of_lem wide part.now) out.old out.new from result.next result.at }
+    ensures { Passed (units_of wide part.now) out.old out.new from result.next result.at }
 {
     let n = unit_count(part, wide);
     let mut at: usize = 0;
@@ -86,9 +86,9 @@ fn put_beyond(out: &mut [u8], part: &[u8], wide: bool, from: usize) -> Run
 // The bytes of the units from a place on: eight that are ASCII, or fewer and what beyond ASCII follows them. Eight are written at once, which is
 // too much where fewer are ASCII; there is room, and what follows is written over it.
 fn put_turn(out: &mut [u8], part: &[u8], wide: bool, i: usize) -> Run
-    requires { (i + 8 ≤ length (units_of_lem wide part.now)) × (well_from (units_of_lem wide part.now) i ≡ true)
+    requires { (i + 8 ≤ length (units_of wide part.now)) × (well_from (units_of wide part.now) i ≡ true)
         × (length (bytes_from (units_of wide part.now) i) ≤ length out.old) }
-    ensures { Turned (units_of_lem wide part.now) out.old out.new i result.next result.at }
+    ensures { Turned (units_of wide part.now) out.old out.new i result.next result.at }
 {
     put_low(out, part, wide, i);
     let k = front(part, wide, i);

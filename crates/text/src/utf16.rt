@@ -2,7 +2,7 @@
 ghost use Rattle.std.specs.Prelude.{◌≡◌, true, ◌<◌, length, drop};
 ghost use Rattle.text.specs.Utf16.{is_well};
 ghost use Rattle.text.specs.Name.{decoded};
-ghost use Rattle.text.specs.Units.{units_of_lem, scalar_of};
+ghost use Rattle.text.specs.Units.{units_of, scalar_of};
 ghost use Rattle.text.specs.UnitLength.{is_single, all_single};
 
 use super::units::{unit_at, unit_count};
@@ -17,8 +17,8 @@ pub enum Scalar {
 
 // The scalar value that starts with unit i of a part.
 pub fn scalar_at(part: &[u8], wide: bool, i: usize) -> Scalar
-    requires { i < length (units_of_lem wide part.now) }
-    ensures { result ≡ scalar_of (drop i (units_of_lem wide part.now)) }
+    requires { i < length (units_of wide part.now) }
+    ensures { result ≡ scalar_of (drop i (units_of wide part.now)) }
 {
     let u = unit_at(part, wide, i);
     if u < 0xD800 {
@@ -56,7 +56,7 @@ pub fn is_single(u: u32) -> bool
 
 // Whether no unit of wide text is a surrogate. The loop runs to the end whatever it meets, so that the compiler can take many units a turn.
 fn all_single(part: &[u8]) -> bool
-    ensures { result ≡ all_single (units_of_lem true part.now) }
+    ensures { result ≡ all_single (units_of true part.now) }
 {
     let n = unit_count(part, true);
     let mut all = true;

@@ -1,14 +1,14 @@
 // The id of the name that the text at a place of a block makes with an instance number.
 ghost use Rattle.std.specs.Prelude.{◌≡◌};
 ghost use Rattle.ids.specs.Id.{id_of};
-ghost use Rattle.batch.specs.Holds.{text_at_lem, name_at, Holds};
+ghost use Rattle.batch.specs.Holds.{text_at, name_at, Holds};
 
 use batch::places::Place;
 use batch::texts::part_of;
 
 // The id of the name.
 pub fn place_id(b: &[u8], p: Place, number: u32) -> u64
-    requires { Holds b.now p (text_at_lem b.now p) }
+    requires { Holds b.now p (text_at b.now p) }
     ensures { result ≡ id_of (name_at b.now p number) }
 {
     ids::id::name_id(part_of(b, p), p.wide, number)
