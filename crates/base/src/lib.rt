@@ -1,5 +1,7 @@
 // Layer 1, at its bottom: numbers in bytes.
 
+#![tactic(auto)]
+
 // Numbers
 pub mod number; // little-endian and big-endian reads
 pub mod signed; // two's complement

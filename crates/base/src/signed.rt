@@ -45,7 +45,7 @@ pub fn le_i64(s: &[u8], at: usize) -> i64
 }
 
 // A signed number that is to be a size.
-#[derive(Drop)]
+#[derive(Clone, Copy)]
 pub enum Size {
     Of(u64),
     Negative,

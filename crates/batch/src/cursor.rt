@@ -3,14 +3,14 @@
 ghost use Rattle.std.specs.Prelude.{◌≡◌};
 ghost use Rattle.batch.specs.Cursor.{word_at, behind};
 
-#[derive(Drop)]
+#[derive(Clone, Copy)]
 pub struct Cursor<'a> {
     pub buf: &'a [u8],
     pub pos: usize,
 }
 
 // What a read finds: the number and the position behind it, or that its bytes are not there.
-#[derive(Drop)]
+#[derive(Clone, Copy)]
 pub enum Word {
     Got(u32, usize),
     Short,

@@ -8,7 +8,7 @@ ghost use Rattle.batch.specs.BatchAnswers.{checked, batched};
 use super::reader;
 
 // Where the parts of a batch are: the end of the strings is the position after the batch.
-#[derive(Drop)]
+#[derive(Clone, Copy)]
 pub struct Names {
     pub count: usize,
     pub headers: usize,
@@ -17,19 +17,19 @@ pub struct Names {
 }
 
 // A name's header.
-#[derive(Drop)]
+#[derive(Clone, Copy)]
 pub struct Head {
     pub wide: bool,
     pub size: usize,
 }
 
-#[derive(Drop)]
+#[derive(Clone, Copy)]
 pub enum Checked {
     Passed,
     Failed(u8),
 }
 
-#[derive(Drop)]
+#[derive(Clone, Copy)]
 pub enum NameBatch {
     Found(Names),
     Refused(u8),

@@ -5,7 +5,7 @@ ghost use Rattle.batch.specs.Places.{name_start};
 use super::names::read_head;
 
 // Where a name's text stands in its block.
-#[derive(Drop)]
+#[derive(Clone, Copy)]
 pub struct Place {
     pub start: usize,
     pub size: usize,

@@ -204,14 +204,14 @@ fn hash_len33to64(s: &[u8]) -> u64
     mix_eight(a, b, c, d, e, f, g, h, m)
 }
 
-#[derive(Drop)]
+#[derive(Clone, Copy)]
 pub struct Pair {
     pub first: u64,
     pub second: u64,
 }
 
 // What a turn over 64 bytes takes and gives.
-#[derive(Drop)]
+#[derive(Clone, Copy)]
 pub struct State {
     pub x: u64,
     pub y: u64,

@@ -7,7 +7,7 @@ ghost use Rattle.decode.specs.Chars.{Range, within, second, is_two, is_three, is
 use base::number::wide;
 
 // A scalar value and how many bytes it takes, or bytes that start with none.
-#[derive(Drop)]
+#[derive(Clone, Copy)]
 pub enum Char {
     Of(u32, usize),
     Ill,

@@ -1,5 +1,7 @@
 // UTF-8 read: what bytes mean as text, and that text written as Latin-1 or UTF-16LE.
 
+#![tactic(auto)]
+
 pub mod chars; // one character at a time
 pub mod latin; // text that fits Latin-1
 pub mod eight; // eight bytes of ASCII at once

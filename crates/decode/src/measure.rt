@@ -7,7 +7,7 @@ use super::step::{Step, step_at};
 use text::plain::is_plain;
 
 // A text: how many units it has and whether it fits Latin-1; or no UTF-8.
-#[derive(Drop)]
+#[derive(Clone, Copy)]
 pub enum Measured {
     Text(usize, bool),
     NoText,

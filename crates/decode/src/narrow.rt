@@ -9,7 +9,7 @@ use super::measure::{Measured, measure};
 use text::plain::is_plain;
 
 // Of some bytes: whether all are right, whether all are below C4, and how many end a character.
-#[derive(Drop)]
+#[derive(Clone, Copy)]
 pub struct Seen {
     pub right: bool,
     pub low: bool,

@@ -8,7 +8,7 @@ use super::chars::{Char, quick_char};
 use super::eight::is_eight;
 
 // How many bytes are passed, how many units they add and whether they fit Latin-1; or bytes that start with no character.
-#[derive(Drop)]
+#[derive(Clone, Copy)]
 pub enum Step {
     Past(usize, usize, bool),
     Stuck,

@@ -13,7 +13,7 @@ use batch::notes::NOTES;
 use scriptblock::script::Layout;
 
 // The hash of a path, or that the path is unknown.
-#[derive(Drop)]
+#[derive(Clone, Copy)]
 pub enum Hashed {
     Known(u64),
     Unknown,

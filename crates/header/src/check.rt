@@ -13,7 +13,7 @@ use decode::measure::Measured;
 use decode::narrow::measure_at;
 
 // Texts that can be written: where what follows starts, and how many bytes their strings take.
-#[derive(Drop)]
+#[derive(Clone, Copy)]
 pub enum Sized {
     To(usize, usize),
     Bad,
@@ -21,7 +21,7 @@ pub enum Sized {
 
 // The parts of a description: how many name texts, from 17 on, and how many bytes their strings take; where the exports start and how many there
 // are; so of the hashes, and of the imported names, with the bytes of their strings.
-#[derive(Drop)]
+#[derive(Clone, Copy)]
 pub struct Parts {
     pub texts: usize,
     pub strings: usize,
@@ -34,14 +34,14 @@ pub struct Parts {
     pub spelt: usize,
 }
 
-#[derive(Drop)]
+#[derive(Clone, Copy)]
 pub enum Checked {
     Described(Parts),
     Malformed,
 }
 
 // Where the header's regions start, and its size.
-#[derive(Drop)]
+#[derive(Clone, Copy)]
 pub struct Regions {
     pub hashes: usize,
     pub exports: usize,

@@ -1,5 +1,7 @@
 // Package headers written from a description in house form (document 02, Q-4).
 
+#![tactic(auto)]
+
 pub mod little; // numbers written little-endian
 pub mod check; // the description checked, and where its parts are
 pub mod names; // a batch of names written

@@ -31,7 +31,7 @@ fn put_zeros(out: &mut [u8], n: usize) -> usize
 }
 
 // A string written: how many bytes it takes, and whether it is Latin-1.
-#[derive(Drop)]
+#[derive(Clone, Copy)]
 pub struct Put {
     pub size: usize,
     pub latin: bool,

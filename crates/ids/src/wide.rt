@@ -179,7 +179,7 @@ fn starts_high(part: &[u8], from: usize, n: usize) -> bool
 }
 
 // What units look like.
-#[derive(Drop)]
+#[derive(Clone, Copy)]
 enum Guess {
     Ascii,
     Latin,

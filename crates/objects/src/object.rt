@@ -10,7 +10,7 @@ use table::words::get32;
 
 // An object's columns: where its outer leads (0 to no object, 1 to none at all, else two more than its number), its name's start, twice the
 // name's size and 1 if it is UTF-16, its instance number.
-#[derive(Drop)]
+#[derive(Clone, Copy)]
 pub struct Object {
     pub outer: usize,
     pub start: usize,

@@ -16,7 +16,7 @@ use table::entries::record_at;
 use table::words::get32;
 
 // A path: how many bytes, of how many objects.
-#[derive(Drop)]
+#[derive(Clone, Copy)]
 pub enum Path {
     Known(usize, usize),
     Unknown,

@@ -8,13 +8,13 @@ ghost use Rattle.packages.specs.Walk.{block_at};
 use base::number::{be32, be64};
 
 // Where the script block ends, which starts at 9; the package count stands there, the first package behind it.
-#[derive(Drop)]
+#[derive(Clone, Copy)]
 pub struct Frame {
     pub end: usize,
     pub count: usize,
 }
 
-#[derive(Drop)]
+#[derive(Clone, Copy)]
 pub enum Framed {
     Whole(Frame),
     Broken(u8),

@@ -1,5 +1,7 @@
 // Layer 3 in code: the framing, and one package by its places: references, candidates, names, class paths.
 
+#![tactic(auto)]
+
 pub mod frame; // the corpus around its blocks
 pub mod package; // an accepted package by its parts
 pub mod names; // names behind a text

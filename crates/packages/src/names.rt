@@ -11,7 +11,7 @@ use batch::texts::put_place;
 use text::digits::put_decimal;
 
 // Where a name's text is, and its number.
-#[derive(Drop)]
+#[derive(Clone, Copy)]
 pub struct Name {
     pub place: Place,
     pub number: u32,

@@ -22,7 +22,7 @@ use zen::tables::Export;
 use zen::zen::Layout;
 
 // Where the parts of a package are that rows look at, in its block.
-#[derive(Drop)]
+#[derive(Clone, Copy)]
 pub struct Parts {
     pub exports: usize,
     pub count: usize,
@@ -123,7 +123,7 @@ pub fn kind_of(p: Parts, index: u64) -> u8
 
 // What an index means: where hi is not 0, the class with the key (lo, hi); else the script object with index lo, where lo is not 0; else
 // nothing.
-#[derive(Drop)]
+#[derive(Clone, Copy)]
 pub struct Words {
     pub lo: u64,
     pub hi: u64,

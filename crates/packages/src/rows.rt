@@ -18,7 +18,7 @@ use batch::places::Place;
 use batch::texts::{place_ends_with, place_len, place_starts_with, put_place_text};
 
 // An export as a candidate: its kind (0: none), its name, its outer's if it has one, its class index.
-#[derive(Drop)]
+#[derive(Clone, Copy)]
 pub struct Row {
     pub kind: u8,
     pub own: Name,

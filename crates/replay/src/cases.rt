@@ -62,7 +62,7 @@ fn answers_within(
 }
 
 // What is known of a case: where the next one starts, and whether the call answers as recorded.
-#[derive(Drop)]
+#[derive(Clone, Copy)]
 struct Step {
     next: usize,
     same: bool,
@@ -107,7 +107,7 @@ fn tell(case: u64, same: bool) -> u64
 }
 
 // How many cases were replayed, and how many of them differ.
-#[derive(Drop)]
+#[derive(Clone, Copy)]
 pub struct Told {
     pub replayed: u64,
     pub differ: u64,

@@ -1,5 +1,7 @@
 // Replays the recorded list: each of its corpora goes through the call, with buffers of the recorded lengths. Prints the list's
 // CityHash64, which list.sum has too, then each case that differs, and how many do.
+
+#![tactic(auto)]
 use libc::STDOUT_FILENO;
 
 mod room; // on the stack

@@ -65,7 +65,7 @@ fn end_of(w: &[u8], n: usize, class: usize, lo: u64, hi: u64, lookups: usize) ->
 }
 
 // Where a row leads: one more than the number of its class, and of the script object at the end of its chain; 0 for none.
-#[derive(Drop)]
+#[derive(Clone, Copy)]
 pub struct Target {
     pub class: usize,
     pub object: usize,

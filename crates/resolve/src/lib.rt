@@ -1,5 +1,7 @@
 // Layer 3 in code: classes and rows in the work buffer, and where a row leads.
 
+#![tactic(auto)]
+
 pub mod classes; // classes entered
 pub mod paths; // their paths
 pub mod chain; // where a reference leads

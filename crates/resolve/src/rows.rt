@@ -30,7 +30,7 @@ pub fn put_words(w: &mut [u8], r: usize, m: Words, mark: usize)
 
 // Where a resolved row leads: one more than the number of its class, or 0; the columns of its script object, all 0 where there is none; once the
 // texts are pooled where that object's text stands in the work buffer, and its size, 0 where it isn't kept.
-#[derive(Drop)]
+#[derive(Clone, Copy)]
 pub struct Led {
     pub class: usize,
     pub object: Object,

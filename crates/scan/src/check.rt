@@ -9,7 +9,7 @@ use packages::frame::{block_at, next_at};
 use zen::zen::{Package, check_package};
 
 // The question and the block of the first that is refused, or that all are accepted.
-#[derive(Drop)]
+#[derive(Clone, Copy)]
 pub enum Blocks {
     Fine,
     Refused(u8, u32),

@@ -10,7 +10,7 @@ use batch::names::{NameBatch, Names, read_batch};
 use batch::reader;
 
 // An entry: its mapped name, its global index, its outer.
-#[derive(Drop)]
+#[derive(Clone, Copy)]
 pub struct Entry {
     pub index: usize,
     pub number: u32,
@@ -19,7 +19,7 @@ pub struct Entry {
 }
 
 // Where the parts of a script block are.
-#[derive(Drop)]
+#[derive(Clone, Copy)]
 pub struct Layout {
     pub names: Names,
     pub count: usize,
@@ -27,13 +27,13 @@ pub struct Layout {
 }
 
 // What is asked before the entries.
-#[derive(Drop)]
+#[derive(Clone, Copy)]
 pub enum Opened {
     Open(Layout),
     Shut(u8),
 }
 
-#[derive(Drop)]
+#[derive(Clone, Copy)]
 pub enum Script {
     Accepted(Layout),
     Rejected(u8),

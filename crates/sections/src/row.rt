@@ -57,7 +57,7 @@ fn numbered(v: Row) -> u8
 }
 
 // The texts of a row: how many bytes they take, and whether class and native class are known.
-#[derive(Drop)]
+#[derive(Clone, Copy)]
 pub struct Texts {
     pub size: usize,
     pub class: bool,

@@ -27,7 +27,7 @@ use resolve::rows::led_at;
 use zen::layout::layout_of;
 
 // How many bytes were written, and how many rows they have.
-#[derive(Drop)]
+#[derive(Clone, Copy)]
 pub struct Section {
     pub size: usize,
     pub rows: usize,

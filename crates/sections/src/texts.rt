@@ -28,7 +28,7 @@ pub fn put_length(out: &mut [u8], n: usize) -> usize
 }
 
 // A text that may be unknown: how many bytes it takes with its length, and whether it is known.
-#[derive(Drop)]
+#[derive(Clone, Copy)]
 pub struct Told {
     pub size: usize,
     pub known: bool,
@@ -130,7 +130,7 @@ fn put_second(out: &mut [u8], w: &[u8], l: Led, n: usize) -> usize
 }
 
 // Class and native class: how many bytes their texts take, and whether they are known.
-#[derive(Drop)]
+#[derive(Clone, Copy)]
 pub struct Both {
     pub size: usize,
     pub class: bool,

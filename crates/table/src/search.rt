@@ -39,7 +39,7 @@ fn next_rest(x: u64, depth: usize, lo: u64) -> u64
 }
 
 // Where a search ends: the place of a link, and the link.
-#[derive(Drop)]
+#[derive(Clone, Copy)]
 pub struct Spot {
     pub place: usize,
     pub link: usize,

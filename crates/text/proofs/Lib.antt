@@ -1,2 +1,1 @@
 pub mod NameLoop
-pub mod Stored

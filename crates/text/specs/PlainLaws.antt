@@ -1,11 +1,10 @@
 -- Laws of one-byte text that is ASCII: the test by bits, byte by byte, and what is written for it. Assumes nothing.
 use Rattle.std.specs.Prelude.{◌≡◌, refl, Bool, true, false, ◌&&◌, List, [], ◌∷◌, ◌++◌, ℕ, zero, suc, ◌+◌, ◌*◌, ◌-◌, ◌/◌, ◌^◌, ◌≤◌, ◌<◌, eqb, ltb, length, take, drop, get_or}
-use Rattle.std.proofs.Common.{sym, ◌∙◌, ap, add-one, arith, lt-ltb, le-ltb, ltb-true, ltb-false, ne_eqb, eqb-true, length-append, length-drop, take-append-drop, take-suc, take-add, drop-drop, length-take-le}
+use Rattle.std.proofs.Common.{sym, ◌∙◌, ap, add-one, arith, lt-ltb, le-ltb, ltb-true, ltb-false, ne_eqb, eqb-true, length-append, length-drop, take-append-drop, take-suc, take-add, take_all, drop-drop, length-take-le}
 use Rattle.std.proofs.lemmas.Bool.{eqb-false}
 use Rattle.std.specs.Int.Bits.{bit_and, bit_or, or_add_and}
 use Rattle.std.proofs.lemmas.Nat.{or_lt, and_le_r, and_le_l, and_block}
 use Rattle.std.proofs.lemmas.Nat.Bits.{and_high}
-use Rattle.std.proofs.Math.Seq.{take-length}
 use Rattle.base.specs.Never.{never}
 use Rattle.text.specs.Affix.{all_ascii}
 use Rattle.text.specs.Plain.{is_copy, Copied}
@@ -81,11 +80,11 @@ marks-ascii (x ∷ l) b =
     rw (e, and_block 8 (le l) (marks (length l)) x 128 (b zero) (omega arith))
     (byte-ascii x (bit_and (le l) (marks (length l))) (b zero) ∙ rw (marks-ascii l (λ i. b (suc i))))
 
--- the k bytes from a place on
-pub word-ascii : (k : ℕ) (s : List ℕ) (i : ℕ) → Bytes s → i + k ≤ length s → eqb (bit_and (le_at k s i) (marks k)) 0 ≡ all_ascii (take k (drop i s))
-word-ascii k s i b h =
-    let e : length (take k (drop i s)) ≡ k = length-take-le k (drop i s) (simp length-drop (omega arith)) in
-    rw (le_at-is k s i) (rw e at (marks-ascii (take k (drop i s)) (bytes-part k i s b)))
+-- the eight bytes from a place on
+pub word-ascii : (s : List ℕ) (i : ℕ) → Bytes s → i + 8 ≤ length s → eqb (bit_and (le_at 8 s i) 0x8080808080808080) 0 ≡ all_ascii (take 8 (drop i s))
+word-ascii s i b h =
+    let e : length (take 8 (drop i s)) ≡ 8 = length-take-le 8 (drop i s) (simp length-drop (omega arith)) in
+    rw (le_at-is 8 s i) (rw e at (marks-ascii (take 8 (drop i s)) (bytes-part 8 i s b)))
 
 -- k bytes more, by whether they are
 pub ascii_more : (k : ℕ) (s : List ℕ) (i : ℕ) → all_ascii (take (i + k) s) ≡ (all_ascii (take i s) && all_ascii (take k (drop i s)))
@@ -104,31 +103,27 @@ ascii-not k s i f =
     go true = refl
     go false = refl
 
--- k bytes from a place on, some of which may be among those before
-pub ascii-join : (k : ℕ) (s : List ℕ) (i at : ℕ) → at ≤ i → i ≤ at + k → (all_ascii (take i s) && all_ascii (take k (drop at s))) ≡ all_ascii (take (at + k) s)
-ascii-join k s i at h l =
-    let m = i - at in
-    let x = take at s in
-    let y = take m (drop at s) in
-    let z = take (k - m) (drop m (drop at s)) in
-    let d : i ≡ at + m = omega arith in
-    let c : k ≡ m + (k - m) = omega arith in
-    let f : all_ascii (take i s) ≡ (all_ascii x && all_ascii y) = ap (λ (n : ℕ). all_ascii (take n s)) d ∙ ascii_more m s at in
-    let g : all_ascii (take k (drop at s)) ≡ (all_ascii y && all_ascii z) = ap (λ (n : ℕ). all_ascii (take n (drop at s))) c ∙ ascii_more (k - m) (drop at s) m in
-    rw (ascii_more k s at, f, g) (go (all_ascii x) (all_ascii y) (all_ascii z))
+-- the last k, some of which may be among those before
+pub ascii_cover : (k : ℕ) (s : List ℕ) (i last : ℕ) → last + k ≡ length s → last ≤ i → (all_ascii (take i s) && all_ascii (take k (drop last s))) ≡ all_ascii s
+ascii_cover k s i last e h =
+    let x = take last s in
+    let y = take (i - last) (drop last s) in
+    let z = drop (i - last) (drop last s) in
+    let short : length (drop last s) ≤ k = simp length-drop (omega arith) in
+    let d : i ≡ last + (i - last) = omega arith in
+    let f : all_ascii (take i s) ≡ (all_ascii x && all_ascii y) = ap (λ (k : ℕ). all_ascii (take k s)) d ∙ ap all_ascii (take-add last (i - last) s) ∙ ascii-both x y in
+    let g : all_ascii (drop last s) ≡ (all_ascii y && all_ascii z) = ap all_ascii (sym (take-append-drop (i - last) (drop last s))) ∙ ascii-both y z in
+    let t : all_ascii s ≡ (all_ascii x && all_ascii (drop last s)) = ap all_ascii (sym (take-append-drop last s)) ∙ ascii-both x (drop last s) in
+    rw (take_all k (drop last s) short, f, t, g) (go (all_ascii x) (all_ascii y) (all_ascii z))
   where
     go : (a b d : Bool) → ((a && b) && (b && d)) ≡ (a && (b && d))
     go true true d = refl
     go true false d = refl
     go false b d = refl
 
--- the last k
-pub ascii_cover : (k : ℕ) (s : List ℕ) (i last : ℕ) → last + k ≡ length s → last ≤ i → i ≤ last + k → (all_ascii (take i s) && all_ascii (take k (drop last s))) ≡ all_ascii s
-ascii_cover k s i last e h l = ascii-join k s i last h l ∙ rw (e, take-length)
-
 -- where those before are
-pub ascii_end : (k : ℕ) (s : List ℕ) (i last : ℕ) → last + k ≡ length s → last ≤ i → i ≤ last + k → all_ascii (take i s) ≡ true → all_ascii (take k (drop last s)) ≡ all_ascii s
-ascii_end k s i last e h l f = rw f at (ascii_cover k s i last e h l)
+pub ascii_end : (k : ℕ) (s : List ℕ) (i last : ℕ) → last + k ≡ length s → last ≤ i → all_ascii (take i s) ≡ true → all_ascii (take k (drop last s)) ≡ all_ascii s
+ascii_end k s i last e h f = rw f at (ascii_cover k s i last e h)
 
 -- ---- what is written
 

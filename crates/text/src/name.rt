@@ -24,7 +24,7 @@ pub fn base_len(part: &[u8], wide: bool) -> usize
 }
 
 // How far a text is written: how many bytes, and which unit is next.
-#[derive(Drop)]
+#[derive(Clone, Copy)]
 struct Run {
     at: usize,
     next: usize,

@@ -1,5 +1,5 @@
 // Names whose one-byte text is all ASCII: its bytes are its UTF-8, and are copied as they stand; other names go the way of `name`.
-ghost use Rattle.std.specs.Prelude.{◌≡◌, true, ◌*◌, ◌^◌, ◌+◌, ◌-◌, ◌≤◌, ◌<◌, length, take, drop};
+ghost use Rattle.std.specs.Prelude.{◌≡◌, true, ◌*◌, ◌^◌, ◌+◌, ◌≤◌, ◌<◌, length, take, drop};
 ghost use Rattle.std.proofs.Math.Seq.{paste};
 ghost use Rattle.text.specs.Affix.{all_ascii};
 ghost use Rattle.base.specs.Output.{Wrote};
@@ -10,7 +10,7 @@ ghost use Rattle.text.specs.Name.{decoded, base, rendered, text_bytes};
 
 use super::name;
 use super::name::{put_suffix, suffix_len};
-use base::number::{le32, le64};
+use base::number::le64;
 use base::output::put_be32;
 
 // Whether the eight bytes from a place on are ASCII: none of them has its highest bit set.
@@ -29,16 +29,8 @@ fn is_pair(part: &[u8], i: usize) -> bool
     is_word(part, i) & is_word(part, i + 8)
 }
 
-// Whether the four bytes from a place on are ASCII.
-fn is_half(part: &[u8], i: usize) -> bool
-    requires { i + 4 ≤ length part.now }
-    ensures { result ≡ all_ascii (take 4 (drop i part.now)) }
-{
-    le32(part, i) & 0x8080_8080 == 0
-}
-
-// Whether a few bytes are all ASCII, one after the other.
-fn is_tiny(part: &[u8]) -> bool
+// Whether a few bytes are all ASCII.
+fn is_short(part: &[u8]) -> bool
     ensures { result ≡ all_ascii part.now }
 {
     let mut all: u8 = 0;
@@ -50,38 +42,16 @@ fn is_tiny(part: &[u8]) -> bool
     all < 128
 }
 
-// Whether up to 8 bytes are all ASCII: from 4 on by the first four and the last, which may have some in common.
-fn is_short(part: &[u8]) -> bool
-    requires { length part.now ≤ 8 }
-    ensures { result ≡ all_ascii part.now }
-{
-    let n = part.len();
-    if n < 4 {
-        return is_tiny(part);
-    }
-    is_half(part, 0) & is_half(part, n - 4)
-}
-
-// The lesser of two numbers. No branch is made of it, which for lengths that differ from name to name could not be foreseen.
-fn least(a: usize, b: usize) -> usize
-    ensures { result ≡ a - (a - b) }
-{
-    if a < b {
-        return a;
-    }
-    b
-}
-
-// Whether 8 to 32 bytes are all ASCII, by four words that may have some in common: the first eight, those behind as far as there are any, the last.
+// Whether bytes are all ASCII, by the first and the last of them, which may have some in common: eight each up to 16 bytes, sixteen each from there.
 fn is_ends(part: &[u8]) -> bool
     requires { (8 ≤ length part.now) × (length part.now ≤ 32) }
     ensures { result ≡ all_ascii part.now }
 {
-    let last = part.len() - 8;
-    is_word(part, 0)
-        & is_word(part, least(8, last))
-        & is_word(part, least(16, last))
-        & is_word(part, last)
+    let n = part.len();
+    if n < 16 {
+        return is_word(part, 0) & is_word(part, n - 8);
+    }
+    is_pair(part, 0) & is_pair(part, n - 16)
 }
 
 // Whether bytes are all ASCII, sixteen a turn; the last sixteen may have some of those before them. Lengths up to 32 have no turns, since a
@@ -139,57 +109,35 @@ fn put_sixteen(out: &mut [u8], src: &[u8], at: usize)
     put_eight(out, src, at + 8);
 }
 
-// The four bytes of src from a place on, to the same place, as one word.
-fn put_half(out: &mut [u8], src: &[u8], at: usize)
-    requires { (at + 4 ≤ length src.now) × (at + 4 ≤ length out.old) }
-    ensures { out.new ≡ paste out.old at (drop at src.now) 4 }
-{
-    let a = src[at];
-    let b = src[at + 1];
-    let c = src[at + 2];
-    let d = src[at + 3];
-    out[at] = a;
-    out[at + 1] = b;
-    out[at + 2] = c;
-    out[at + 3] = d;
-}
-
-// A few bytes, one after the other.
-fn put_tiny(out: &mut [u8], part: &[u8])
+// A few bytes, and whether they are all ASCII.
+fn put_short(out: &mut [u8], part: &[u8]) -> bool
     requires { length part.now ≤ length out.old }
-    ensures { Wrote out.old part.now out.new (length part.now) }
+    ensures { (result ≡ all_ascii part.now) × Wrote out.old part.now out.new (length part.now) }
 {
+    let mut all: u8 = 0;
     let mut i = 0;
     while i < part.len() {
-        out[i] = part[i];
+        let v = part[i];
+        out[i] = v;
+        all = all | v;
         i += 1;
     }
+    all < 128
 }
 
-// Up to 8 bytes: from 4 on the first four and the last, which may have some in common.
-fn put_short(out: &mut [u8], part: &[u8])
-    requires { (length part.now ≤ 8) × (length part.now ≤ length out.old) }
-    ensures { Wrote out.old part.now out.new (length part.now) }
-{
-    let n = part.len();
-    if n < 4 {
-        put_tiny(out, part);
-        return;
-    }
-    put_half(out, part, 0);
-    put_half(out, part, n - 4);
-}
-
-// 8 to 32 bytes, by four words that may have some in common.
+// Bytes, the first and the last of them, which may have some in common: eight each up to 16 bytes, sixteen each from there.
 fn put_ends(out: &mut [u8], part: &[u8])
     requires { (8 ≤ length part.now) × (length part.now ≤ 32) × (length part.now ≤ length out.old) }
     ensures { Wrote out.old part.now out.new (length part.now) }
 {
-    let last = part.len() - 8;
-    put_eight(out, part, 0);
-    put_eight(out, part, least(8, last));
-    put_eight(out, part, least(16, last));
-    put_eight(out, part, last);
+    let n = part.len();
+    if n < 16 {
+        put_eight(out, part, 0);
+        put_eight(out, part, n - 8);
+        return;
+    }
+    put_sixteen(out, part, 0);
+    put_sixteen(out, part, n - 16);
 }
 
 // Bytes, and whether they are all ASCII: sixteen a turn; the last sixteen may have some of those before them.
@@ -199,8 +147,7 @@ pub fn put_plain(out: &mut [u8], part: &[u8]) -> bool
 {
     let n = part.len();
     if n < 8 {
-        put_short(out, part);
-        return is_short(part);
+        return put_short(out, part);
     }
     if n <= 32 {
         put_ends(out, part);

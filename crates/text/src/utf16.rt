@@ -8,7 +8,7 @@ ghost use Rattle.text.specs.UnitLength.{is_single, all_single};
 use super::units::{unit_at, unit_count};
 
 // A scalar value of one unit or of two, or a surrogate with no partner.
-#[derive(Drop)]
+#[derive(Clone, Copy)]
 pub enum Scalar {
     One(u32),
     Two(u32),

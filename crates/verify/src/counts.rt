@@ -17,7 +17,7 @@ use scriptblock::script::{Layout, entry_at};
 const CHAIN: usize = 195;
 
 // Paths resolved, and those whose hash matches.
-#[derive(Drop)]
+#[derive(Clone, Copy)]
 pub struct Tally {
     pub resolved: u32,
     pub matches: u32,

@@ -34,7 +34,7 @@ use zen::zen::{Layout, Package, check_package};
 
 // What was found so far: as long as all is entered (open), how many classes and rows, and how many bytes of report without the rows' classes
 // and native classes. Else nothing more is entered: there is no room, or a class's key stands twice, and then repeat is its block.
-#[derive(Drop)]
+#[derive(Clone, Copy)]
 pub struct Census {
     pub open: bool,
     pub repeat: u32,
@@ -43,14 +43,14 @@ pub struct Census {
     pub size: usize,
 }
 
-#[derive(Drop)]
+#[derive(Clone, Copy)]
 pub enum Scanned {
     Refused(u8, u32),
     All(Census),
 }
 
 // The package that the walk is at: its place in the corpus, its id, the number of its block.
-#[derive(Drop)]
+#[derive(Clone, Copy)]
 pub struct Visit {
     pub at: usize,
     pub id: u64,

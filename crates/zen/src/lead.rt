@@ -8,7 +8,7 @@ ghost use Rattle.zen.specs.Answers.{led};
 use batch::cursor::{Word, new, next, read_u32};
 
 // The header size, or the question that fails.
-#[derive(Drop)]
+#[derive(Clone, Copy)]
 pub enum Lead {
     Header(usize),
     Fault(u8),

@@ -8,7 +8,7 @@ ghost use Rattle.zen.specs.Answers.{summed};
 use batch::names::Checked;
 use batch::reader;
 
-#[derive(Drop)]
+#[derive(Clone, Copy)]
 pub struct Summary {
     pub index: usize,
     pub number: u32,
@@ -21,7 +21,7 @@ pub struct Summary {
     pub imported: usize,
 }
 
-#[derive(Drop)]
+#[derive(Clone, Copy)]
 pub enum Summed {
     Told(Summary),
     Missed(u8),

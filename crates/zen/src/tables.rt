@@ -10,7 +10,7 @@ use super::summary::Summary;
 use batch::names::Checked;
 use batch::reader;
 
-#[derive(Drop)]
+#[derive(Clone, Copy)]
 pub struct Export {
     pub index: usize,
     pub number: u32,

@@ -12,7 +12,7 @@ use super::tables::{check_bulk, check_tables};
 use batch::names::{Checked, NameBatch, Names, read_batch};
 
 // Where the parts of an accepted package are.
-#[derive(Drop)]
+#[derive(Clone, Copy)]
 pub struct Layout {
     pub size: usize,
     pub summary: Summary,
@@ -20,7 +20,7 @@ pub struct Layout {
     pub imported: Names,
 }
 
-#[derive(Drop)]
+#[derive(Clone, Copy)]
 pub enum Package {
     Accepted(Layout),
     Rejected(u8),

@@ -14,7 +14,7 @@ use zen::access::{
 use zen::zen::{Layout, Package, check_package};
 
 // Where a text's base is, and its instance number.
-#[derive(Drop)]
+#[derive(Clone, Copy)]
 pub enum Text {
     At(Place, u32),
     Missing,

@@ -22,7 +22,7 @@ more : (s : List ℕ) (i : ℕ) → all_ascii (take i s) ≡ true → all_ascii 
 more s i e f = ascii_more 16 s i ∙ rw (e, f)
 
 is-short-requires : tie.Need-is-short-requires invariant-loop decreases-loop
-is-short-requires c κs = omega arith
+is-short-requires c κs = tt
 
 returns : tie.Need-returns invariant-loop decreases-loop
 returns c = c.is-short.ensures
@@ -65,7 +65,7 @@ returns-4 c =
     let part = c.before.before.before.before.before.before.args.part.now in
     let all : length part - 16 + 16 ≡ length part = omega arith in
     let past : length part - 16 ≤ l.i = omega arith in
-    c.is-pair2.ensures ∙ ascii_end 16 part l.i (length part - 16) all past (omega arith) l.invariant.1
+    c.is-pair2.ensures ∙ ascii_end 16 part l.i (length part - 16) all past l.invariant.1
 
 pub is_plain_spec : {M : Type 1} → statement M
 is_plain_spec =

@@ -20,10 +20,7 @@ abbrev decreases-loop : tie.decreases-loop
 decreases-loop out₀ part n last plain₀ i₀ out plain i = last - i
 
 put-short-requires : tie.Need-put-short-requires invariant-loop decreases-loop
-put-short-requires c κs = (omega arith, omega arith)
-
-is-short-requires : tie.Need-is-short-requires invariant-loop decreases-loop
-is-short-requires c κs = omega arith
+put-short-requires c κs = search rules
 
 same_length : tie.Need-same-length invariant-loop decreases-loop
 same_length c = search rules
@@ -85,7 +82,7 @@ returns-3 c =
     let e : length part - 16 + 16 ≡ length part = omega arith in
     let past : length part - 16 ≤ l.i = omega arith in
     let w = wrote-paste part (length part - 16) 16 l.invariant.2 past (omega arith) (omega arith) (omega arith) in (
-      rw (l.invariant.3, c.is-pair2.ensures) (ascii_cover 16 part l.i (length part - 16) e past (omega arith)),
+      rw (l.invariant.3, c.is-pair2.ensures) (ascii_cover 16 part l.i (length part - 16) e past),
       rw c.before.before.before.put-sixteen2.ensures (wrote_count (wrote_as w (rw (e, take-length))) e),
     )
 
@@ -96,7 +93,6 @@ put_plain_spec =
     invariant-loop
     decreases-loop
     put-short-requires
-    is-short-requires
     same_length
     returns
     put-ends-requires
