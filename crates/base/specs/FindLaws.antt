@@ -22,6 +22,7 @@ module _ {A : Type 0} (f : A → Bool) where
 
   -- a member that passes is found, where all that pass equal it
   pub find-member : (l : List A) (a : A) → Memᴰ a l → T (f a) → ((b : A) → Memᴰ b l → T (f b) → b ≡ a) → find f l ≡ some a
+  find-member [] a m t u = elim m [ ]
   find-member (x ∷ l) a m t u = go (f x) refl m (λ n. find-member l a n t (λ b m t. u b (Memᴰ.tail m) t))
     where
       go : (b : Bool) → f x ≡ b → Memᴰ a (x ∷ l) → (Memᴰ a l → find f l ≡ some a) → or_else b x (find f l) ≡ some a
@@ -40,6 +41,7 @@ module _ {A : Type 0} (f : A → Bool) where
 
   -- what is kept is a member that passes
   pub filter-some : (l : List A) (a : A) → Memᴰ a (filter f l) → Memᴰ a l × T (f a)
+  filter-some [] a m = elim m [ ]
   filter-some (x ∷ l) a m = go (f x) refl (filter-some l a) m
     where
       go : (b : Bool) → f x ≡ b → (Memᴰ a (filter f l) → Memᴰ a l × T (f a)) → Memᴰ a (kept b x (filter f l)) → Memᴰ a (x ∷ l) × T (f a)
@@ -50,6 +52,7 @@ module _ {A : Type 0} (f : A → Bool) where
 module _ {A B : Type 0} (f : A → List B) where
   -- what stands in the whole stands in what one element brings
   pub flat-some : (l : List A) {b : B} → Memᴰ b (flat f l) → (a : A) × Memᴰ a l × Memᴰ b (f a)
+  flat-some [] {b = b} m = elim m [ ]
   flat-some (x ∷ l) {b} m = go (Memᴰ.append_cases (f x) m) (λ n. flat-some l n)
     where
       go : Memᴰ b (f x) ⊎ Memᴰ b (flat f l) → (Memᴰ b (flat f l) → (a : A) × Memᴰ a l × Memᴰ b (f a))
@@ -58,7 +61,7 @@ module _ {A B : Type 0} (f : A → List B) where
       go (inr n) ih = let (a, m, n) = ih n in (a, Memᴰ.tail m, n)
 
   -- what an element brings stands in the whole
-  pub flat-member : {l : List A} {a : A} → Memᴰ a l → (front : List B) × (back : List B) × (flat f l ≡ front ++ f a ++ back)
+  pub flat-member : {a : A} {l : List A} → Memᴰ a l → (front : List B) × (back : List B) × (flat f l ≡ front ++ f a ++ back)
   flat-member {a} (Memᴰ.head {xs} p) = ([], flat f xs, rw p)
   flat-member {a} (Memᴰ.tail {x} {xs} m) =
       let (front, back, e) = flat-member m in

@@ -101,5 +101,6 @@ module _ {A B C : Type 0} where
 
 -- a member has what all have
 pub all-member : {A : Type 0} (P : A → Type 0) (l : List A) → All P l → {a : A} → Memᴰ a l → P a
+all-member {A = A} P [] h {a = a} m = elim m [ ]
 all-member P (x ∷ l) h (Memᴰ.head q) = rw q h.0
 all-member P (x ∷ l) h (Memᴰ.tail m) = all-member P l h.1 m

@@ -1,0 +1,8 @@
+-- `number::be32` meets its contract: four bytes, written out. Assumes nothing.
+use borrow.Author.Rules.{rules}
+use mathlib.Core.Path.{sym, ◌∙◌}
+use Rattle.base.specs.NumberLaws.{be_at_4}
+use Rattle.base.proofs.number.be32.Goals as goal
+
+pub returns : goal.returns
+returns c = c.join4.ensures ∙ sym (be_at_4 _ _ c.requires)

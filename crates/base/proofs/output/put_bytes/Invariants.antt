@@ -1,0 +1,15 @@
+-- `output::put_bytes` meets its contract. The invariant: the first i bytes were written. Assumes nothing.
+use mathlib.Core.Path.{◌≡◌}
+use Prim.Native.Nat.{◌≤◌, ◌-◌}
+use native.Mathlib.Omega.{arith}
+use lib.ListN.{length, take}
+use lib.Seq.{take-length}
+use Rattle.base.specs.OutputLaws.{wrote_none, wrote-length, wrote-copy, wrote_as}
+use Rattle.base.specs.Output.{Wrote}
+use Rattle.base.proofs.output.put_bytes.Given as goal
+
+abbrev pub invariant-loop-i : goal.invariant-loop-i
+invariant-loop-i l = (l.i ≤ length l.src) × (length l.out ≡ length l.initial.out) × Wrote l.initial.out (take l.i l.src) l.out l.i
+
+abbrev pub decreases-loop-i : goal.decreases-loop-i
+decreases-loop-i l = length l.src - l.i

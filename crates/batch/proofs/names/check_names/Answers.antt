@@ -1,0 +1,72 @@
+-- `check_names` meets its contract: what is still to be read from here decides as the whole reading does.
+use mathlib.Core.Path.{◌≡◌, refl, sym, ◌∙◌}
+use mathlib.Core.Bool.{Bool}
+use mathlib.Core.List.{List}
+use Prim.Native.Nat.{ℕ, ◌+◌, ◌*◌, ◌-◌, ◌≤◌}
+use native.Mathlib.Omega.{arith}
+use borrow.Author.Tests.{not-true, not-false}
+use lib.ListN.{length, take, drop}
+use Rattle.text.specs.Utf16.{is_well}
+use Rattle.text.specs.Name.{decoded}
+use Rattle.base.specs.Reading.{walk}
+use Rattle.base.specs.ReadingRows.{cells}
+use Rattle.batch.specs.Batch.{head_at, strings}
+use Rattle.batch.specs.BatchAnswers.{checked}
+use Rattle.batch.specs.BatchLaws.{names-none, names-left, names-out, names-ill, names-pass}
+use Rattle.batch.specs.declared.names.Head.{Head}
+use Rattle.batch.proofs.names.check_names.Goals as goal
+
+-- what the test of a name's bytes says of the name at its place
+name-is : {b : Bool} (s : List ℕ) (h p : ℕ) (d : Head) → d ≡ head_at s h → is_well (decoded d.wide (take (p + d.size - p) (drop p s))) ≡ b
+    → is_well (decoded (head_at s h).wide (take (head_at s h).size (drop p s))) ≡ b
+name-is s h p d e q =
+    let z : p + (head_at s h).size - p ≡ (head_at s h).size = omega arith in
+    rw (e, z) at q
+
+pub loop-left-init : goal.loop-left-init
+loop-left-init c = (c.requires.0, c.requires.1, refl)
+
+pub returns-then-end-p : goal.returns-then-end-p
+returns-then-end-p c =
+    let l = c.loop-left in
+    let a = c.args in
+    sym (l.invariant.2 ∙ names-out a.s.now a.end l.left l.h l.p (omega arith) (rw c.read_head-d.ensures.0 at c.if-end-p.true))
+
+pub is_text-requires : goal.is_text-requires
+is_text-requires c = tt
+
+pub returns-then-not-is_text : goal.returns-then-not-is_text
+returns-then-not-is_text c =
+    let l = c.loop-left in
+    let a = c.args in
+    let e = c.read_head-d.ensures.0 in
+    let w = name-is a.s.now l.h l.p c.read_head-d.result e
+    (sym c.is_text.ensures ∙ not-true c.is_text.result c.if-not-is_text.true) in
+    sym (l.invariant.2 ∙ names-ill a.s.now a.end l.left l.h l.p (omega arith) (omega arith) (omega arith)
+    (rw e at c.if-end-p.false) w)
+
+pub loop-left-preserved : goal.loop-left-preserved
+loop-left-preserved c =
+    let l = c.loop-left in
+    let a = c.args in
+    let e = c.read_head-d.ensures.0 in
+    let w = name-is a.s.now l.h l.p c.read_head-d.result e
+    (sym c.is_text.ensures ∙ not-false c.is_text.result c.if-not-is_text.false) in (
+      omega arith,
+      omega arith,
+      l.invariant.2
+          ∙ rw e (names-pass a.s.now a.end l.left l.h l.p (omega arith) (omega arith) (omega arith)
+          (rw e at c.if-end-p.false) w),
+    )
+
+pub returns-then-p-end : goal.returns-then-p-end
+returns-then-p-end c =
+    let l = c.loop-left in
+    let a = c.args in
+    sym (l.invariant.2 ∙ names-none a.s.now a.end l.left l.h l.p (omega arith) c.if-p-end.true)
+
+pub returns : goal.returns
+returns c =
+    let l = c.loop-left in
+    let a = c.args in
+    sym (l.invariant.2 ∙ names-left a.s.now a.end l.left l.h l.p (omega arith) (omega arith) c.if-p-end.false)

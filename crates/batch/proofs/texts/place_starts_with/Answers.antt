@@ -1,0 +1,9 @@
+-- `place_starts_with` meets its contract: the part is the one at the place.
+use borrow.Author.Rules.{rules}
+use Rattle.batch.proofs.texts.place_starts_with.Goals as goal
+
+pub starts_with-requires : goal.starts_with-requires
+starts_with-requires c = c.before.before.before in rw c.part_of.ensures (s.requires.0.well, s.requires.1)
+
+pub returns : goal.returns
+returns c = rw c.part_of.ensures at c.starts_with.ensures

@@ -1,0 +1,9 @@
+-- `put_place` meets its contract: the part is the one at the place.
+use borrow.Author.Rules.{rules}
+use Rattle.batch.proofs.texts.put_place.Goals as goal
+
+pub put_name-requires : goal.put_name-requires
+put_name-requires c = c.before.before.before.before in rw c.part_of.ensures (s.requires.0.well, s.requires.1)
+
+pub returns : goal.returns
+returns c = rw c.part_of.ensures at c.put_name.ensures

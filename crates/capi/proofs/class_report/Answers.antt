@@ -1,0 +1,13 @@
+-- `capi::class_report` meets its contract: 29 first, then the call within its limits.
+use borrow.Author.Rules.{rules}
+use Rattle.capi.proofs.Range.{few-objects, called_in, called_out}
+use Rattle.capi.proofs.class_report.Goals as goal
+
+pub class_report-requires : goal.class_report-requires
+class_report-requires c = search few-objects
+
+pub returns-then-in_range : goal.returns-then-in_range
+returns-then-in_range c = search called_in
+
+pub returns : goal.returns
+returns c = search called_out

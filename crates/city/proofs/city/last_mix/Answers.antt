@@ -1,0 +1,8 @@
+-- `city::last_mix` computes `finish`. Assumes nothing.
+use Rattle.std.proofs.Common.{rules}
+use Rattle.city.specs.City.{finish}
+use Rattle.city.proofs.city.last_mix.Goals as goal
+
+pub returns : goal.returns
+unfolding finish
+returns c = cc

@@ -1,0 +1,8 @@
+-- `city::mix_eight` computes `mix8`. Assumes nothing.
+use Rattle.std.proofs.Common.{rules}
+use Rattle.city.specs.City.{mix8}
+use Rattle.city.proofs.city.mix_eight.Goals as goal
+
+pub returns : goal.returns
+unfolding mix8
+returns c = cc

@@ -1,0 +1,8 @@
+-- `city::one_turn` computes `turn`. Assumes nothing.
+use Rattle.std.proofs.Common.{rules}
+use Rattle.city.specs.City.{turn}
+use Rattle.city.proofs.city.one_turn.Goals as goal
+
+pub returns : goal.returns
+unfolding turn
+returns c = cc

@@ -1,0 +1,8 @@
+-- `city::swap_mul` computes `swap_mul`. Assumes nothing.
+use Rattle.std.proofs.Common.{rules}
+use Rattle.city.specs.City.{swap_mul}
+use Rattle.city.proofs.city.swap_mul.Goals as goal
+
+pub returns : goal.returns
+unfolding swap_mul
+returns c = cc

@@ -1,0 +1,8 @@
+-- `decode::chars::is_three` meets its contract. Assumes nothing.
+use borrow.Author.Rules.{rules}
+use Rattle.decode.specs.Chars.{is_three}
+use Rattle.decode.proofs.chars.is_three.Goals as goal
+
+pub returns : goal.returns
+unfolding is_three
+returns c = cc

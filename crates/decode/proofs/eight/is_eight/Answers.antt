@@ -1,0 +1,8 @@
+-- `eight::is_eight` meets its contract: eight bytes in a row. Assumes nothing.
+use borrow.Author.Rules.{rules}
+use Rattle.decode.specs.Latin.{ascii}
+use Rattle.decode.specs.LatinLaws.{every-word}
+use Rattle.decode.proofs.eight.is_eight.Goals as goal
+
+pub returns : goal.returns
+returns c = c.before.before.before.before.before.before.before.before in every-word ascii u.args.s.now u.args.at u.requires

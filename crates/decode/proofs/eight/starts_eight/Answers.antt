@@ -1,0 +1,12 @@
+-- `eight::starts_eight` meets its contract. Assumes nothing.
+use mathlib.Core.Path.{sym, ◌∙◌}
+use borrow.Author.Rules.{rules}
+use Rattle.decode.specs.EightLaws.{eight-short, eight-long}
+use Rattle.decode.proofs.eight.starts_eight.Goals as goal
+
+pub returns-then-s-at-lt8 : goal.returns-then-s-at-lt8
+returns-then-s-at-lt8 c = c.args in sym (eight-short a.s.now a.at c.if-s-at-lt8.true)
+
+pub returns : goal.returns
+returns c =
+    c.is_eight.ensures ∙ eight-long c.args.s.now c.args.at c.requires c.if-s-at-lt8.false

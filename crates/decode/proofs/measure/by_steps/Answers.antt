@@ -1,0 +1,44 @@
+-- `decode::measure::by_steps` meets its contract. The loop's invariant: the bytes are measured as what is passed, added to those from `at`
+-- on. Assumes nothing.
+use mathlib.Core.Path.{◌≡◌, sym, ap, ◌∙◌}
+use Prim.Native.Nat.{◌-◌, ◌≤◌}
+use native.Mathlib.Omega.{arith}
+use lib.ListN.{length, drop}
+use borrow.Author.Rules.{rules}
+use Rattle.text.specs.Utf8.{from_utf8}
+use Rattle.decode.specs.Measure.{measured}
+use Rattle.decode.specs.Step.{added, Passed}
+use Rattle.decode.specs.StepLaws.{added_none, added_twice, added-ill, added-last}
+use Rattle.decode.proofs.measure.by_steps.Goals as goal
+
+-- what a turn passes
+turned : (c : tie.After-k invariant-loop decreases-loop)
+    → Passed c.before.before.before.before.before.before.args.s.now c.before.before.before.before.loop.at c.k.given.0.0 c.k.given.0.1.0 c.k.given.0.1.1.0
+turned c = rw c.k.given.1 at c.before.before.step-at.ensures
+
+pub loop-at-init : goal.loop-at-init
+loop-at-init c = (omega arith, omega arith, added_none _)
+
+pub overflow_add-units : goal.overflow_add-units
+overflow_add-units c = turned c.before in omega arith
+
+pub overflow_add-at : goal.overflow_add-at
+overflow_add-at c = turned c.before in omega arith
+
+pub loop-at-smaller : goal.loop-at-smaller
+loop-at-smaller c = turned c.before in omega arith
+
+pub loop-at-preserved : goal.loop-at-preserved
+loop-at-preserved c =
+    let t = turned c.before in
+    let l = c.loop-at in
+    (t.within, omega arith, l.invariant.2 ∙ ap (added l.units l.latin) t.is ∙ added_twice _ _ _ _ _)
+
+pub returns-in-Stuck : goal.returns-in-Stuck
+returns-in-Stuck c =
+    let l = c.loop-at in
+    let e = rw c.enum_told-1.given.1 at c.step_at.ensures in
+    sym (l.invariant.2 ∙ added-ill l.units l.latin e)
+
+pub returns : goal.returns
+returns c = sym (c.loop-at.invariant.2 ∙ added-last _ _ _ _ c.loop-at-test.false)

@@ -1,0 +1,10 @@
+-- `decode::measure::measure` meets its contract: ASCII by its length, other bytes a few characters at a time. Assumes nothing.
+use borrow.Author.Rules.{rules}
+use Rattle.decode.specs.PlainLaws.{plain-measured}
+use Rattle.decode.proofs.measure.measure.Goals as goal
+
+pub returns-then-is_plain : goal.returns-then-is_plain
+returns-then-is_plain c = search plain-measured
+
+pub returns : goal.returns
+returns c = c.by_steps.ensures

@@ -1,0 +1,9 @@
+-- `decode::narrow::any` meets its contract: the measure, made anew. Assumes nothing.
+use borrow.Author.Rules.{rules}
+use Rattle.decode.proofs.narrow.any.Goals as goal
+
+pub returns-in-Text : goal.returns-in-Text
+returns-in-Text c = cc
+
+pub returns-in-NoText : goal.returns-in-NoText
+returns-in-NoText c = cc

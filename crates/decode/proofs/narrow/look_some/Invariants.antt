@@ -1,0 +1,17 @@
+-- `decode::narrow::look_some` meets its contract. The loop's invariant: what is seen of the first i bytes, and what those from there on hold.
+-- Assumes nothing.
+use mathlib.Core.Path.{◌≡◌}
+use Prim.Native.Nat.{◌+◌, ◌-◌, ◌≤◌}
+use native.Mathlib.Omega.{arith}
+use borrow.Author.Rules.{rules}
+use lib.ListN.{take, drop, get_or}
+use Rattle.decode.specs.NarrowLaws.{Far, far_none, far-all, far-next, front_off}
+use Rattle.decode.proofs.narrow.look_some.Given as goal
+
+abbrev pub invariant-loop-i : goal.invariant-loop-i
+invariant-loop-i l =
+    (l.i ≤ 32) × (l.k ≡ l.i) × (l.units ≤ l.i)
+    × Far (get_or l.s (l.at - 1) 0) (take l.n (drop l.at l.s)) (get_or l.s (l.at + l.i - 1) 0) (drop l.i (take l.n (drop l.at l.s))) l.bad l.high l.units
+
+abbrev pub decreases-loop-i : goal.decreases-loop-i
+decreases-loop-i l = 32 - l.i

@@ -1,0 +1,15 @@
+-- `pairs::look_sizes` meets its contract. The loop's invariant: the sizes of the first k pairs are there. Assumes nothing.
+use mathlib.Core.Path.{◌≡◌, ◌∙◌}
+use Prim.Native.Nat.{◌-◌, ◌≤◌}
+use native.Mathlib.Omega.{arith}
+use borrow.Author.Rules.{rules}
+use lib.ListN.{length, length-set}
+use Rattle.decode.specs.Tails.{Counted}
+use Rattle.decode.specs.TailsLaws.{counted_none, counted_next}
+use Rattle.decode.proofs.pairs.look_sizes.Given as goal
+
+abbrev pub invariant-loop-k : goal.invariant-loop-k
+invariant-loop-k l = (l.k ≤ 16) × (length l.sizes ≡ 16) × Counted l.s l.i l.k l.sizes
+
+abbrev pub decreases-loop-k : goal.decreases-loop-k
+decreases-loop-k l = 16 - l.k

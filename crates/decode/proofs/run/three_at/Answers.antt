@@ -1,0 +1,25 @@
+-- `run::three_at` meets its contract: the bytes are there and in their ranges, since the text is UTF-8. Assumes nothing.
+use mathlib.Core.Path.{◌≡◌, ◌∙◌}
+use native.Mathlib.Omega.{arith}
+use borrow.Author.Rules.{rules}
+use Rattle.decode.specs.Run.{three_at}
+use Rattle.decode.specs.RunLaws.{three-range, three-there, three-small}
+use Rattle.decode.proofs.run.three_at.Goals as goal
+
+pub bounds-s-at-2 : goal.bounds-s-at-2
+bounds-s-at-2 c = c.before.before.before.before in omega (arith, three-there u.args.s.now u.args.at u.requires.0 u.requires.1 u.requires.2)
+
+pub bounds-s-at-3 : goal.bounds-s-at-3
+bounds-s-at-3 c = c.before.before.before.before.before.before in omega (arith, three-there u.args.s.now u.args.at u.requires.0 u.requires.1 u.requires.2)
+
+pub three-requires : goal.three-requires
+three-requires c =
+    rw (c.wide.ensures.0, c.wide-2.ensures.0, c.wide-3.ensures.0)
+    (three-range c.args.s.now c.args.at c.requires.0 c.requires.1 c.requires.2)
+
+pub returns : goal.returns
+unfolding three_at
+returns c =
+    let e : c.three.result ≡ three_at c.args.s.now c.args.at =
+    c.three.ensures ∙ rw (c.wide.ensures.0, c.wide-2.ensures.0, c.wide-3.ensures.0) in
+    (e, rw e (three-small c.args.s.now c.args.at c.requires.0 c.requires.1 c.requires.2))

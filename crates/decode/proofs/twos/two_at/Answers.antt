@@ -1,0 +1,20 @@
+-- `twos::two_at` meets its contract: the bytes are there and in their ranges, since the text is UTF-8. Assumes nothing.
+use mathlib.Core.Path.{◌≡◌, ◌∙◌}
+use native.Mathlib.Omega.{arith}
+use borrow.Author.Rules.{rules}
+use Rattle.decode.specs.Twos.{two_at}
+use Rattle.decode.specs.TwosLaws.{two-range, two-there, two-small}
+use Rattle.decode.proofs.twos.two_at.Goals as goal
+
+pub bounds-s-at-2 : goal.bounds-s-at-2
+bounds-s-at-2 c = c.before.before.before.before in omega (arith, two-there u.args.s.now u.args.at u.requires.0 u.requires.1 u.requires.2)
+
+pub two-requires : goal.two-requires
+two-requires c =
+    rw (c.wide.ensures.0, c.wide-2.ensures.0) (two-range c.args.s.now c.args.at c.requires.0 c.requires.1 c.requires.2)
+
+pub returns : goal.returns
+unfolding two_at
+returns c =
+    let e : c.two.result ≡ two_at c.args.s.now c.args.at = c.two.ensures ∙ rw (c.wide.ensures.0, c.wide-2.ensures.0) in
+    (e, rw e (two-small c.args.s.now c.args.at c.requires.0 c.requires.1 c.requires.2))

@@ -1,0 +1,178 @@
+-- `decode::write::put_utf16le` meets its contract. The loop's invariant: what is not written yet is the UTF-16LE of the text from `at`
+-- on, which is well-formed. Assumes nothing.
+use mathlib.Core.Path.{◌≡◌, sym, ◌∙◌}
+use mathlib.Core.Bool.{true}
+use Prim.Native.Nat.{◌+◌, ◌-◌, ◌≤◌}
+use native.Mathlib.Omega.{arith}
+use lib.ListN.{length, take, drop}
+use borrow.Author.Rules.{rules}
+use Rattle.base.specs.OutputLaws.{wrote-length}
+use Rattle.text.specs.Utf16.{is_well, utf16le}
+use Rattle.decode.specs.Measure.{text_of}
+use Rattle.decode.specs.TurnLaws.{Turn, from, text_from, turn, turn-well, well-next}
+use Rattle.decode.specs.WriteLaws.{Partly, partly_none, partly_all, partly_next, utf16le-room, utf16le-next, utf16le-last}
+use Rattle.decode.specs.RunLaws.{Leads, run-leads, run-well, run-next, run_room}
+use Rattle.decode.specs.TwosLaws.{Seconds, twos-leads, twos-well, twos-next, twos-room}
+use Rattle.decode.specs.Latin.{every, ascii}
+use Rattle.decode.specs.EightLaws.{eight_is, eight-well, eight-next, eight-room}
+use Rattle.decode.proofs.write.put_utf16le.Goals as goal
+
+-- what a turn passes: eight bytes of ASCII
+seen : (c : tie.Then2 invariant-loop decreases-loop)
+    → (c.before.before.before.before.before.loop.at + 8 ≤ length c.before.before.before.before.before.before.before.before.args.s.now)
+    × (every ascii (take 8 (drop c.before.before.before.before.before.loop.at c.before.before.before.before.before.before.before.before.args.s.now)) ≡ true)
+seen c = eight_is _ _ (sym c.before.starts-eight.ensures ∙ c.if2.true)
+
+-- or four characters of two bytes
+twain : (c : tie.Then4 invariant-loop decreases-loop) → Seconds c.before.before.before.before.before.before.before.before.before.args.s.now c.before.before.before.before.before.before.loop.at
+twain c = twos-leads _ _ (sym c.before.is-twos.ensures ∙ c.if4.true)
+
+-- or four characters of three bytes
+led : (c : tie.Then6 invariant-loop decreases-loop) → Leads c.before.before.before.before.before.before.before.before.before.before.args.s.now c.before.before.before.before.before.before.before.loop.at
+led c = run-leads _ _ (sym c.before.is-run.ensures ∙ c.if6.true)
+
+-- or one character
+turned : (c : tie.After-c invariant-loop decreases-loop) → Turn c.before.before.before.before.before.before.before.before.before.args.s.now c.before.before.before.before.before.before.loop.at c.c.given.0.0 c.c.given.0.1.0
+turned c = turn _ _ c.before.before.before.before.before.loop-test.true (sym c.before.before.known-char.ensures ∙ c.c.given.1)
+
+pub loop-at-init : goal.loop-at-init
+loop-at-init c = (omega arith, omega arith, c.requires.0, partly_none _ _)
+
+pub slice_bounds-put_eight-count : goal.slice_bounds-put_eight-count
+slice_bounds-put_eight-count c = omega (arith, c.loop-at.invariant.3.wrote.fits)
+
+pub slice_bounds-put_eight-start : goal.slice_bounds-put_eight-start
+slice_bounds-put_eight-start c = omega (arith, c.loop-at.invariant.3.wrote.fits)
+
+pub slice_bounds-put_eight-end : goal.slice_bounds-put_eight-end
+slice_bounds-put_eight-end c = omega (arith, c.loop-at.invariant.3.wrote.fits)
+
+pub put_eight-requires : goal.put_eight-requires
+put_eight-requires c =
+    let i = c.loop-at.invariant in
+    let l = seen c.before in
+    (l.0, eight-room _ _ i.2 l i.3 c.requires.1)
+
+pub overflow_add-n : goal.overflow_add-n
+overflow_add-n c =
+    let i = c.loop-at.invariant in
+    omega (arith, (partly_next i.3 _ _ (eight-next _ _ i.2 (seen c.before.before.before.before)) c.put_eight.ensures).wrote.fits)
+
+pub overflow_add-at : goal.overflow_add-at
+overflow_add-at c = seen c.before.before.before.before in omega arith
+
+pub loop-at-smaller-then-starts_eight : goal.loop-at-smaller-then-starts_eight
+loop-at-smaller-then-starts_eight c = seen c.before.before.before.before in omega arith
+
+pub loop-at-preserved-then-starts_eight : goal.loop-at-preserved-then-starts_eight
+loop-at-preserved-then-starts_eight c =
+    let i = c.loop-at.invariant in
+    let l = seen c.before.before.before.before in
+    let p = partly_next i.3 _ _ (eight-next _ _ i.2 l) c.put_eight.ensures in
+    (l.0, wrote-length p.wrote, eight-well _ _ i.2 l, p)
+
+pub slice_bounds-put_twos-count : goal.slice_bounds-put_twos-count
+slice_bounds-put_twos-count c = omega (arith, c.loop-at.invariant.3.wrote.fits)
+
+pub slice_bounds-put_twos-start : goal.slice_bounds-put_twos-start
+slice_bounds-put_twos-start c = omega (arith, c.loop-at.invariant.3.wrote.fits)
+
+pub slice_bounds-put_twos-end : goal.slice_bounds-put_twos-end
+slice_bounds-put_twos-end c = omega (arith, c.loop-at.invariant.3.wrote.fits)
+
+pub put_twos-requires : goal.put_twos-requires
+put_twos-requires c =
+    let i = c.loop-at.invariant in
+    (i.2, sym c.is_twos.ensures ∙ c.if-is_twos.true, twos-room _ _ i.2 (twain c.before) i.3 c.requires.1)
+
+pub overflow_add-n-then-is_twos : goal.overflow_add-n-then-is_twos
+overflow_add-n-then-is_twos c =
+    let i = c.loop-at.invariant in
+    omega (arith, (partly_next i.3 _ _ (twos-next _ _ i.2 (twain c.before.before.before.before)) c.put_twos.ensures).wrote.fits)
+
+pub overflow_add-at-then-is_twos : goal.overflow_add-at-then-is_twos
+overflow_add-at-then-is_twos c = twain c.before.before.before.before in omega arith
+
+pub loop-at-smaller-then-is_twos : goal.loop-at-smaller-then-is_twos
+loop-at-smaller-then-is_twos c = twain c.before.before.before.before in omega arith
+
+pub loop-at-preserved-then-is_twos : goal.loop-at-preserved-then-is_twos
+loop-at-preserved-then-is_twos c =
+    let i = c.loop-at.invariant in
+    let l = twain c.before.before.before.before in
+    let p = partly_next i.3 _ _ (twos-next _ _ i.2 l) c.put_twos.ensures in
+    (l.there, wrote-length p.wrote, twos-well _ _ i.2 l, p)
+
+pub slice_bounds-put_run-count : goal.slice_bounds-put_run-count
+slice_bounds-put_run-count c = omega (arith, c.loop-at.invariant.3.wrote.fits)
+
+pub slice_bounds-put_run-start : goal.slice_bounds-put_run-start
+slice_bounds-put_run-start c = omega (arith, c.loop-at.invariant.3.wrote.fits)
+
+pub slice_bounds-put_run-end : goal.slice_bounds-put_run-end
+slice_bounds-put_run-end c = omega (arith, c.loop-at.invariant.3.wrote.fits)
+
+pub put_run-requires : goal.put_run-requires
+put_run-requires c =
+    let i = c.loop-at.invariant in
+    (i.2, sym c.is_run.ensures ∙ c.if-is_run.true, run_room _ _ i.2 (led c.before) i.3 c.requires.1)
+
+pub overflow_add-n-then-is_run : goal.overflow_add-n-then-is_run
+overflow_add-n-then-is_run c =
+    let i = c.loop-at.invariant in
+    omega (arith, (partly_next i.3 _ _ (run-next _ _ i.2 (led c.before.before.before.before)) c.put_run.ensures).wrote.fits)
+
+pub overflow_add-at-then-is_run : goal.overflow_add-at-then-is_run
+overflow_add-at-then-is_run c = led c.before.before.before.before in omega arith
+
+pub loop-at-smaller-then-is_run : goal.loop-at-smaller-then-is_run
+loop-at-smaller-then-is_run c = led c.before.before.before.before in omega arith
+
+pub loop-at-preserved-then-is_run : goal.loop-at-preserved-then-is_run
+loop-at-preserved-then-is_run c =
+    let i = c.loop-at.invariant in
+    let l = led c.before.before.before.before in
+    let p = partly_next i.3 _ _ (run-next _ _ i.2 l) c.put_run.ensures in
+    (l.there, wrote-length p.wrote, run-well _ _ i.2 l, p)
+
+pub known_char-requires : goal.known_char-requires
+known_char-requires c = (omega arith, c.loop-at.invariant.2)
+
+pub slice_bounds-put_units-count : goal.slice_bounds-put_units-count
+slice_bounds-put_units-count c = omega (arith, c.loop-at.invariant.3.wrote.fits)
+
+pub slice_bounds-put_units-start : goal.slice_bounds-put_units-start
+slice_bounds-put_units-start c = omega (arith, c.loop-at.invariant.3.wrote.fits)
+
+pub slice_bounds-put_units-end : goal.slice_bounds-put_units-end
+slice_bounds-put_units-end c = omega (arith, c.loop-at.invariant.3.wrote.fits)
+
+pub put_units-n-requires : goal.put_units-n-requires
+put_units-n-requires c =
+    let i = c.loop-at.invariant in
+    let t = turned c.before.before in
+    (t.small, utf16le-room t i.2 i.3 c.requires.1)
+
+pub overflow_add-n-in-Of : goal.overflow_add-n-in-Of
+overflow_add-n-in-Of c =
+    let i = c.loop-at.invariant in
+    omega (arith, (partly_next i.3 _ _ (utf16le-next (turned c.before.before.before.before.before) i.2) c.put_units-n.ensures).wrote.fits)
+
+pub overflow_add-at-in-Of : goal.overflow_add-at-in-Of
+overflow_add-at-in-Of c = turned c.before.before.before.before.before in omega arith
+
+pub loop-at-smaller : goal.loop-at-smaller
+loop-at-smaller c = turned c.before.before.before.before.before in omega arith
+
+pub loop-at-preserved : goal.loop-at-preserved
+loop-at-preserved c =
+    let i = c.loop-at.invariant in
+    let t = turned c.before.before.before.before.before in
+    let p = partly_next i.3 _ _ (utf16le-next t i.2) c.put_units-n.ensures in
+    (t.within, wrote-length p.wrote, sym (well-next t) ∙ i.2, p)
+
+pub returns-in-Ill : goal.returns-in-Ill
+returns-in-Ill c = absurd (turn-well _ _ c.loop-at-test.true c.loop-at.invariant.2 (sym c.known_char.ensures ∙ c.enum_told-1.given.1))
+
+pub returns : goal.returns
+returns c = partly_all c.loop-at.invariant.3 (utf16le-last _ _ c.loop-at-test.false)

@@ -1,0 +1,9 @@
+-- `chain::set_object`: three stores. Assumes nothing.
+use mathlib.Core.Path.{refl}
+use borrow.Author.Rules.{rules}
+use Rattle.hashes.specs.Chain.{linked}
+use Rattle.hashes.proofs.chain.set_object.Goals as goal
+
+pub returns : goal.returns
+unfolding linked
+returns c = refl

@@ -1,0 +1,20 @@
+-- `hash::first_word`: four units fill the word. Assumes nothing.
+use mathlib.Core.Path.{◌≡◌, ◌∙◌, ap}
+use mathlib.Core.List.{List}
+use Prim.Native.Nat.{ℕ}
+use native.Mathlib.Omega.{arith}
+use borrow.Author.Rules.{rules}
+use lib.ListN.{take}
+use Rattle.base.specs.Number.{le_at}
+use Rattle.text.specs.Utf16.{unit_bytes}
+use Rattle.hashes.specs.Chain.{chain_units}
+use Rattle.hashes.specs.PieceLaws.{window-size, wrote-full}
+use Rattle.hashes.specs.TurnLaws.{word_bytes}
+use Rattle.hashes.proofs.hash.first_word.Goals as goal
+
+pub returns : goal.returns
+returns c = c.before.before.before.before.before.before in
+    let us : List ℕ = chain_units s.args.s.now s.args.chain.now s.args.depth in
+    let e : c.put_path_units.new.out ≡ unit_bytes (take 4 us) =
+    wrote-full c.put_path_units.ensures (window-size s.requires.0 0 4 (omega arith)) in
+    c.le64.ensures ∙ ap (λ (l : List ℕ). le_at 8 l 0) e ∙ word_bytes us

@@ -1,0 +1,22 @@
+-- `hash::short_hash`: all units are in front of the text. Assumes nothing.
+use mathlib.Core.Path.{◌∙◌, ap}
+use native.Mathlib.Omega.{arith}
+use borrow.Author.Rules.{rules}
+use lib.Seq.{take_all}
+use Rattle.city.specs.City.{city_hash64}
+use Rattle.base.specs.OutputLaws.{wrote-taken, taken-length}
+use Rattle.text.specs.Utf16.{unit_bytes}
+use Rattle.hashes.specs.Chain.{chain_units}
+use Rattle.hashes.specs.PieceLaws.{chain_length}
+use Rattle.hashes.proofs.hash.short_hash.Goals as goal
+
+pub slice_bounds-city_hash64-end : goal.slice_bounds-city_hash64-end
+slice_bounds-city_hash64-end c = taken-length c.put_path_units-size.ensures
+
+pub returns : goal.returns
+returns c = c.before.before.before.before.before.before in
+    let a = s.args in
+    let n = chain_length a.s.now a.chain.now a.depth a.n s.requires.0.count in
+    c.city_hash64.ensures
+    ∙ ap city_hash64 (wrote-taken c.put_path_units-size.ensures
+    ∙ ap unit_bytes (take_all a.n (chain_units a.s.now a.chain.now a.depth) (omega arith)))

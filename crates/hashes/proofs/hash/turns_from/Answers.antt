@@ -1,0 +1,25 @@
+-- `hash::turns_from`: the turns read the units of the window. Assumes nothing.
+use mathlib.Core.Path.{◌∙◌, ap}
+use mathlib.Core.List.{List}
+use Prim.Native.Nat.{ℕ, ◌*◌}
+use native.Mathlib.Omega.{arith}
+use borrow.Author.Rules.{rules}
+use Rattle.city.specs.City.{turns}
+use Rattle.base.specs.OutputLaws.{wrote-taken, taken-length}
+use Rattle.hashes.specs.Chain.{chain_units}
+use Rattle.hashes.specs.PieceLaws.{window-size}
+use Rattle.hashes.specs.TurnLaws.{turns-window}
+use Rattle.hashes.proofs.hash.turns_from.Goals as goal
+
+pub slice_bounds-turns_over-end : goal.slice_bounds-turns_over-end
+slice_bounds-turns_over-end c = taken-length c.put_path_units-size.ensures
+
+pub turns_over-requires : goal.turns_over-requires
+turns_over-requires c = c.before.before.before.before.before in
+    let w = c.put_path_units-size.ensures in
+    omega (arith, taken-length w, w.size, window-size s.requires.0 s.args.from (32 * s.args.count) (omega arith))
+
+pub returns : goal.returns
+returns c = c.args in
+    c.turns_over.ensures ∙ ap (λ (l : List ℕ). turns a.count l a.t) (wrote-taken c.put_path_units-size.ensures)
+    ∙ turns-window a.count a.from (chain_units a.s.now a.chain.now a.depth) a.t

@@ -1,0 +1,20 @@
+-- `check::check` meets its contract: length, version, texts, and the rest by its stages. Assumes nothing.
+use mathlib.Core.Path.{◌≡◌, sym, ◌∙◌}
+use native.Mathlib.Omega.{arith}
+use borrow.Author.Rules.{rules}
+use Rattle.header.proofs.Stages.{texts-bad, texts-begun}
+use Rattle.header.proofs.check.check.Goals as goal
+
+pub check_tables-requires : goal.check_tables-requires
+check_tables-requires c =
+    let front = c.if-n-lt17.false in
+    texts-begun c.args.s.now front c.size_at-2.result c.size_at-2.ensures.0 c.size_at-2.ensures.1
+    (omega (arith, c.if-n-size_at.false, c.size_at.ensures.0)) c.if-s-ne1.false (sym
+    c.sized_texts.ensures ∙ c.end-1.given.1)
+
+pub returns-in-To : goal.returns-in-To
+returns-in-To c = c.check_tables.ensures
+
+pub returns-in-Bad : goal.returns-in-Bad
+returns-in-Bad c =
+    texts-bad c.args.s.now c.if-n-lt17.false c.size_at-2.result c.size_at-2.ensures.0 (sym c.sized_texts.ensures ∙ c.enum_told-1.given.1)

@@ -1,0 +1,24 @@
+-- `check::check_whole` meets its contract: text numbers, and the header's size. Assumes nothing.
+use borrow.Author.Rules.{rules}
+use Rattle.header.proofs.Stages.{exports-room, name_out, exports-out, small, size-out, said-whole}
+use Rattle.header.proofs.check.check_whole.Goals as goal
+
+pub returns-then-p-size_at : goal.returns-then-p-size_at
+returns-then-p-size_at c = search name_out
+
+pub regions_of-g-requires : goal.regions_of-g-requires
+regions_of-g-requires c = search small
+
+pub returns-then-g-gt-LONGEST_HEADER : goal.returns-then-g-gt-LONGEST_HEADER
+returns-then-g-gt-LONGEST_HEADER c = search size-out
+
+pub check_exports-requires : goal.check_exports-requires
+check_exports-requires c = search exports-room
+
+pub returns-then-check_exports : goal.returns-then-check_exports
+returns-then-check_exports c =
+    said-whole c.args.s.now c.args.p c.requires c.regions_of-g.result c.regions_of-g.ensures c.if-g-gt-LONGEST_HEADER.false c.size_at.result
+    c.size_at.ensures.0 c.if-p-size_at.false c.check_exports.result c.check_exports.ensures c.if-check_exports.true
+
+pub returns : goal.returns
+returns c = search exports-out

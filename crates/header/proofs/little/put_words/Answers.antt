@@ -1,0 +1,66 @@
+-- `little::put_words` meets its contract. The loop's invariant: what is not written yet are the bytes of the numbers from i on. Assumes nothing.
+use mathlib.Core.Path.{◌≡◌, refl, sym, ◌∙◌}
+use mathlib.Core.List.{List, [], ◌∷◌, ◌++◌}
+use Prim.Native.Nat.{ℕ, suc, ◌+◌, ◌*◌, ◌-◌, ◌≤◌, ◌<◌}
+use native.Mathlib.Numerals.{add-one}
+use native.Mathlib.Omega.{arith}
+use lib.ListN.{length, drop, get_or, drop_of_length-le}
+use lib.Seq.{drop-cons}
+use borrow.Author.Rules.{rules}
+use Rattle.base.specs.Find.{flat}
+use Rattle.base.specs.Number.{le_bytes}
+use Rattle.base.specs.NumberLaws.{length-le_bytes}
+use Rattle.base.specs.OutputLaws.{wrote-length}
+use Rattle.decode.specs.WriteLaws.{Partly, partly_none, partly_all, partly_room, partly_next}
+use Rattle.header.proofs.little.put_words.Invariants.{left}
+use Rattle.header.proofs.little.put_words.Goals as goal
+
+next : (words : List ℕ) (i : ℕ) → i < length words → left words i ≡ le_bytes 4 (get_or words i 0) ++ left words (i + 1)
+next words i h = rw (drop-cons words i 0 h, add-one)
+
+fits : (c : tie.In-loop invariant-loop decreases-loop) → c.before.loop.n ≤ length c.before.loop.out
+fits c = omega (arith, c.before.loop.invariant.2.wrote.fits)
+
+pub loop-i-init : goal.loop-i-init
+loop-i-init c = (omega arith, refl, partly_none _ _)
+
+pub slice_bounds-put_le32-count : goal.slice_bounds-put_le32-count
+slice_bounds-put_le32-count c = fits c
+
+pub slice_bounds-put_le32-start : goal.slice_bounds-put_le32-start
+slice_bounds-put_le32-start c = fits c
+
+pub put_le32-n-requires : goal.put_le32-n-requires
+put_le32-n-requires c =
+    let l = c.loop-i in
+    let w = c.args.words.now in
+    omega (
+      arith,
+      length-le_bytes 4 (get_or w l.i 0),
+      partly_room l.invariant.2 (le_bytes 4 (get_or w l.i 0)) (left w (l.i + 1)) (next w l.i
+          (search rules)) c.requires,
+    )
+
+pub overflow_add-n : goal.overflow_add-n
+overflow_add-n c =
+    let l = c.loop-i in
+    let w = c.args.words.now in
+    omega (
+      arith,
+      (partly_next l.invariant.2 (le_bytes 4 (get_or w l.i 0)) (left w (l.i + 1)) (next w l.i (search rules))
+          c.put_le32-n.ensures).wrote.fits,
+    )
+
+pub loop-i-preserved : goal.loop-i-preserved
+loop-i-preserved c =
+    let l = c.loop-i in
+    let w = c.args.words.now in
+    let p = partly_next l.invariant.2 (le_bytes 4 (get_or w l.i 0)) (left w (l.i + 1)) (next w l.i (search rules)) c.put_le32-n.ensures in
+    (omega arith, wrote-length p.wrote, p)
+
+pub returns : goal.returns
+returns c =
+    let l = c.loop-i in
+    let w = c.args.words.now in
+    let e : left w l.i ≡ [] = rw (drop_of_length-le w c.loop-i-test.false) in
+    partly_all l.invariant.2 e

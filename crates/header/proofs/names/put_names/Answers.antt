@@ -1,0 +1,40 @@
+-- `names::put_names` meets its contract. Assumes nothing.
+use mathlib.Core.Path.{ap}
+use mathlib.Core.List.{◌++◌}
+use Prim.Native.Nat.{ℕ, ◌*◌}
+use native.Mathlib.Omega.{arith}
+use lib.ListN.{length, replicate, length-append, length-replicate}
+use borrow.Author.Rules.{rules}
+use Rattle.base.specs.Find.{flat}
+use Rattle.base.specs.OutputLaws.{wrote-rest, wrote_as, next-room}
+use Rattle.written.specs.BatchBytes.{head_bytes, string_bytes}
+use Rattle.header.specs.Places.{texts_from}
+use Rattle.header.specs.WritingLaws.{names-made}
+use Rattle.header.proofs.names.put_names.Goals as goal
+
+pub put_zeros-a-requires : goal.put_zeros-a-requires
+put_zeros-a-requires c =
+    let a = c.args in
+    let ts = texts_from a.more a.s.now a.from a.count in
+    omega (
+      arith,
+      c.requires.2,
+      ap length (names-made a.more a.s.now a.from a.count),
+      length-append (replicate {A = ℕ} (8 * a.count) 0) (flat head_bytes ts ++ flat string_bytes ts),
+      length-replicate {A = ℕ} (8 * a.count) 0,
+    )
+
+pub put_texts-requires : goal.put_texts-requires
+put_texts-requires c =
+    let a = c.args in
+    let ts = texts_from a.more a.s.now a.from a.count in (
+      c.requires.0,
+      next-room _ (replicate {A = ℕ} (8 * a.count) 0) (flat head_bytes ts ++ flat string_bytes ts) _ _ c.put_zeros-a.ensures
+          (omega (arith, c.requires.2, ap length (names-made a.more a.s.now a.from a.count))),
+    )
+
+pub returns : goal.returns
+returns c =
+    let a = c.args in
+    wrote_as (wrote-rest c.put_zeros-a.ensures c.put_texts.ensures)
+    (names-made a.more a.s.now a.from a.count)

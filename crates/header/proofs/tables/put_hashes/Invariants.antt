@@ -1,0 +1,24 @@
+-- `tables::put_hashes` meets its contract. The loop's invariant: what is not written yet is the hashes from here on. Assumes nothing.
+use mathlib.Core.Path.{◌≡◌, refl, sym, ◌∙◌, ap}
+use mathlib.Core.Bool.{true}
+use mathlib.Core.List.{List, [], ◌++◌}
+use Prim.Native.Nat.{ℕ, ◌+◌, ◌*◌, ◌-◌, ◌≤◌, ◌<◌}
+use native.Mathlib.Omega.{arith}
+use lib.ListN.{length}
+use borrow.Author.Rules.{rules}
+use Rattle.base.specs.Find.{flat}
+use Rattle.base.specs.OutputLaws.{wrote-length, wrote_as}
+use Rattle.decode.specs.WriteLaws.{Partly, partly_none, partly_all, partly_room, partly_next}
+use Rattle.base.specs.Number.{be_at, le_bytes}
+use Rattle.base.specs.NumberLaws.{length-le_bytes}
+use Rattle.base.specs.ReadingRows.{cells}
+use Rattle.header.specs.WritingLaws.{cell-turn, cell-last}
+use Rattle.header.proofs.tables.put_hashes.Given as goal
+
+abbrev pub invariant-loop-left : goal.invariant-loop-left
+invariant-loop-left l =
+    (l.at + 8 * l.left ≤ length l.s) × (length l.out ≡ length l.initial.out) × Partly l.initial.out (flat (le_bytes 8) (cells (be_at 8 l.s) 8 l.from l.count)) l.out (flat (le_bytes 8) (cells
+    (be_at 8 l.s) 8 l.at l.left)) l.n
+
+abbrev pub decreases-loop-left : goal.decreases-loop-left
+decreases-loop-left l = l.left

@@ -1,0 +1,27 @@
+-- `tables::put_numbers` meets its contract. The loop's invariant: what is not written yet is the numbers from here on. Assumes nothing.
+use mathlib.Core.Path.{◌≡◌, refl, sym, ◌∙◌, ap}
+use mathlib.Core.Bool.{true}
+use mathlib.Core.List.{List, [], ◌++◌}
+use Prim.Native.Nat.{ℕ, ◌+◌, ◌*◌, ◌-◌, ◌≤◌, ◌<◌}
+use native.Mathlib.Omega.{arith}
+use lib.ListN.{length}
+use borrow.Author.Rules.{rules}
+use Rattle.base.specs.Find.{flat}
+use Rattle.base.specs.OutputLaws.{wrote-length, wrote_as}
+use Rattle.decode.specs.WriteLaws.{Partly, partly_none, partly_all, partly_room, partly_next}
+use Rattle.base.specs.Number.{be_at, le_bytes}
+use Rattle.base.specs.NumberLaws.{length-le_bytes}
+use Rattle.header.specs.Places.{text_end, next_text, imported_from}
+use Rattle.header.specs.Parts.{texts_fit}
+use Rattle.header.specs.PartsLaws.{fit-first}
+use Rattle.header.specs.RegionLaws.{number_bytes}
+use Rattle.header.specs.WritingLaws.{number-turn, number-last}
+use Rattle.header.proofs.tables.put_numbers.Given as goal
+
+abbrev pub invariant-loop-left : goal.invariant-loop-left
+invariant-loop-left l =
+    (texts_fit 4 l.s l.at l.left ≡ true) × (length l.out ≡ length l.initial.out) × Partly l.initial.out (flat number_bytes (imported_from l.s l.from l.count)) l.out (flat number_bytes
+    (imported_from l.s l.at l.left)) l.n
+
+abbrev pub decreases-loop-left : goal.decreases-loop-left
+decreases-loop-left l = l.left

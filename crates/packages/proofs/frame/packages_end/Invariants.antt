@@ -1,0 +1,22 @@
+-- `packages::frame::packages_end` meets its contract. What is left from here on ends where all of it does. Assumes nothing.
+use mathlib.Core.Path.{◌≡◌, refl, sym, ◌∙◌, ap}
+use mathlib.Core.List.{List}
+use Prim.Native.Nat.{ℕ, zero, suc, ◌-◌, ◌≤◌, ◌<◌}
+use native.Mathlib.Omega.{arith}
+use borrow.Author.Rules.{rules}
+use lib.ListN.{length}
+use Rattle.packages.specs.Framing.{package_end, packages_end}
+use Rattle.packages.specs.FramingLaws.{end_zero, end_more, end_broken, end_in}
+use Rattle.packages.proofs.frame.packages_end.Given as goal
+
+-- packages from here on end where all do
+pub record Left (s : List ℕ) (from count at left : ℕ) : Type 0 where
+  pub begun : 0 < at
+  pub in_it : at ≤ length s
+  pub same : packages_end s at left ≡ packages_end s from count
+
+abbrev pub invariant-loop-left : goal.invariant-loop-left
+invariant-loop-left l = Left l.c l.from l.count l.at l.left
+
+abbrev pub decreases-loop-left : goal.decreases-loop-left
+decreases-loop-left l = l.left

@@ -1,0 +1,8 @@
+-- `packages::package::parts_of` meets its contract. Assumes nothing.
+use borrow.Author.Rules.{rules}
+use Rattle.packages.specs.Package.{parts_at}
+use Rattle.packages.proofs.package.parts_of.Goals as goal
+
+pub returns : goal.returns
+unfolding parts_at
+returns c = cc

@@ -1,0 +1,18 @@
+-- `rows::pool_rows` meets its contract. The loop's invariant: the first r rows keep texts, which stand between the slots and `free`; all else is as it
+-- was. Assumes nothing.
+use mathlib.Core.Path.{◌≡◌, refl, ◌∙◌}
+use Prim.Native.Nat.{◌+◌, ◌*◌, ◌-◌, ◌≤◌}
+use native.Mathlib.Omega.{arith}
+use lib.ListN.{length}
+use Rattle.resolve.specs.MarkLaws.{marks-same}
+use Rattle.pool.specs.Pool.{State}
+use Rattle.pool.specs.PoolLaws.{state-none, state-stood, state-all, pooled_none, left-marks}
+use Rattle.pool.proofs.rows.pool_rows.Given as goal
+
+abbrev pub invariant-loop-r : goal.invariant-loop-r
+invariant-loop-r l =
+    (l.r ≤ l.rows) × (length l.w ≡ length l.initial.w) × (l.gap + 4 * l.slots ≤ l.free) × (l.free + 32 * l.rows ≤ length l.initial.w)
+    × State l.s l.n l.objects l.gap l.rows (l.gap + 4 * l.slots) l.free l.r l.initial.w l.w
+
+abbrev pub decreases-loop-r : goal.decreases-loop-r
+decreases-loop-r l = l.rows - l.r

@@ -1,0 +1,39 @@
+-- `rows::pool_texts` meets its contract: with its slots set to 0 the buffer is resolved as before. Assumes nothing.
+use mathlib.Core.Path.{refl, ap, ◌∙◌}
+use Prim.Native.Nat.{◌+◌, ◌*◌, ◌≤◌}
+use native.Mathlib.Omega.{arith}
+use lib.ListN.{length}
+use Rattle.resolve.specs.MarkLaws.{marks_then}
+use Rattle.pool.specs.PoolLaws.{left-resolved, left-marks}
+use borrow.Author.Rules.{rules}
+use Rattle.pool.proofs.rows.pool_texts.Goals as goal
+
+pub clear_slots-requires : goal.clear_slots-requires
+clear_slots-requires c = c.requires.0.room
+
+pub pool_rows-requires : goal.pool_rows-requires
+pool_rows-requires c =
+    let p = c.requires.0 in
+    let l = c.clear_slots.ensures in (
+      record {
+        corpus = p.corpus;
+        objects = p.objects;
+        table = p.table;
+        lookups = p.lookups;
+        refs = p.refs;
+        holds = left-resolved p.holds (omega (arith, p.classes-are)) p.rows_are (omega (arith, p.room)) l;
+        classes-are = p.classes-are;
+        rows_are = p.rows_are;
+        room = omega (arith, p.room, l.kept.size);
+      },
+      c.requires.1,
+    )
+
+pub returns : goal.returns
+returns c =
+    let p = c.requires.0 in
+    let l = c.clear_slots.ensures in
+    let e = c.pool_rows.ensures in (
+      λ q o xs lookups refs t x y. e.0 q o xs lookups refs (left-resolved t (omega arith) y (omega (arith, p.room)) l) x y,
+      marks_then (left-marks c.args.n l (omega (arith, p.room))) e.1,
+    )

@@ -1,0 +1,64 @@
+-- `report::call::with_objects` meets its contract.
+use mathlib.Core.Path.{refl}
+use native.Mathlib.Omega.{arith}
+use borrow.Author.Rules.{rules}
+use Rattle.walk.specs.OpenLaws.{begun-sites, begun-few, begun-small}
+use Rattle.report.proofs.Scanned.{scanned_refused, Walked, scanned_twice, scanned_short, scanned_all}
+use Rattle.report.proofs.call.with_objects.Goals as goal
+
+-- what the walk entered
+walked : (c : tie.After-t) → let s = c.before.before.before.before in
+    let a = s.before.before.before.before.before.before.before.before.before.args in
+    Walked a.objects a.c.now a.f a.s.now a.l.count c.t.given.0.0 a.w.now s.scan-packages.new.1.1.1.1.0
+walked c =
+    let s = c.before.before.before.before in
+    let (b, n, k, l) = s.before.before.before.before.before.before.before.before.before.requires in
+    let e = s.scan-packages.ensures in
+    let t = c.t.given.1 in
+    record {
+      begun = b;
+      linked = k;
+      packages = e.1.0 _ t;
+      state = e.1.1.0 _ k.objects t k.holds;
+      size = e.1.1.1.0;
+      few = e.1.1.1.1.0 _ t;
+      marked = e.1.1.1.1.1.1 _ t;
+    }
+
+pub overflow_add-f : goal.overflow_add-f
+overflow_add-f c = omega (arith, (begun-few c.requires.0).1)
+
+pub scan_packages-requires : goal.scan_packages-requires
+scan_packages-requires c =
+    let (b, n, k, l) = c.requires in
+    ((begun-sites b, (begun-few b).0, (begun-few b).2, refl, refl), (k, begun-small b))
+
+pub returns-then-t-ne0 : goal.returns-then-t-ne0
+returns-then-t-ne0 c = scanned_twice (walked c.before.before.before.before) c.if-t-ne0.true c.refuse-then-t-ne0.ensures
+
+pub finish-requires : goal.finish-requires
+finish-requires c =
+    let z = walked t in
+    (
+      (z.begun, z.packages, scanned_all z c.if-t.true, c.requires.3),
+      c.scan_packages.ensures.all.1.1.1.1.0,
+    )
+
+pub returns-then-t : goal.returns-then-t
+returns-then-t c =
+    let z = walked f.before.before.before.before.before.before.before.before.before in
+    rw z.size at c.finish.ensures
+
+pub refuse_short-requires : goal.refuse_short-requires
+refuse_short-requires c =
+    let z = walked t in
+    (z.begun, z.packages, c.requires.1)
+
+pub returns-in-Refused : goal.returns-in-Refused
+returns-in-Refused c =
+    let (b, n, k, l) = c.requires in
+    scanned_refused b k (c.scan_packages.ensures.refused _ _ c.q-1.given.1) c.refuse.ensures
+
+pub returns-else-t : goal.returns-else-t
+returns-else-t c =
+    scanned_short (walked c.before.before.before.before.before) c.if-t-ne0.false c.if-t.false c.refuse_short.ensures

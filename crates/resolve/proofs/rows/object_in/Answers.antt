@@ -1,0 +1,6 @@
+-- `rows::object_in` meets its contract. Assumes nothing.
+use borrow.Author.Rules.{rules}
+use Rattle.resolve.proofs.rows.object_in.Goals as goal
+
+pub returns : goal.returns
+returns c = cc

@@ -1,0 +1,27 @@
+-- `rows::resolve_all` meets its contract. The loop's invariant: the first r rows are resolved, the others are as they were kept, all marks too, and the
+-- total is that of the first r. Assumes nothing.
+use mathlib.Core.List.{List}
+use mathlib.Core.Path.{◌≡◌, refl, ◌∙◌, ap}
+use Prim.Native.Nat.{ℕ, ◌-◌, ◌*◌, ◌≤◌, ◌<◌}
+use native.Mathlib.Omega.{arith}
+use lib.ListN.{length, take, get_or}
+use lib.Seq.{take_all}
+use Rattle.base.specs.Find.{sum}
+use Rattle.base.specs.LoopLaws.{sum-take}
+use Rattle.scriptblock.specs.Script.{Objects}
+use Rattle.meaning.specs.Reference.{Ref, null}
+use Rattle.meaning.specs.Scan.{Class}
+use Rattle.resolve.specs.Rows.{Kept, limits_of, target_size}
+use Rattle.resolve.specs.Marks.{MarksKept}
+use Rattle.resolve.specs.MarkLaws.{marks-same, marks_then, part-marks}
+use Rattle.resolve.specs.ResolvingLaws.{Part, part_none, part-row, part-more, part-all}
+use Rattle.resolve.proofs.rows.resolve_all.Given as goal
+
+abbrev pub invariant-loop-r : goal.invariant-loop-r
+invariant-loop-r l =
+    (l.r ≤ l.rows) × MarksKept l.n l.rows l.initial.w l.w × (l.total ≤ 17041700 * l.r)
+    × ((s b : List ℕ) (o : Objects) (xs : List Class) (refs : List Ref) → Kept s b o l.n xs refs l.initial.w → length refs ≡ l.rows
+    → Part l.lookups s b o l.n xs refs l.r l.w × (l.total ≡ sum (target_size (limits_of l.lookups l.objects) xs o) (take l.r refs)))
+
+abbrev pub decreases-loop-r : goal.decreases-loop-r
+decreases-loop-r l = l.rows - l.r

@@ -1,0 +1,20 @@
+-- `scan::objects::known` meets its contract. The loop's invariant: the path is known where that of the object at hand, of at most as many
+-- objects as are left, is. Assumes nothing.
+use mathlib.Core.Path.{◌≡◌, refl, sym, ◌∙◌}
+use Prim.Native.Nat.{◌≤◌}
+use native.Mathlib.Omega.{arith}
+use borrow.Author.Rules.{rules}
+use Rattle.base.specs.Reading.{gives, run}
+use Rattle.scriptblock.specs.Script.{Objects, script}
+use Rattle.meaning.specs.ClassTest.{is_known}
+use Rattle.meaning.specs.Path.{path_of}
+use Rattle.scan.specs.ObjectLaws.{known_end, known-none, known-top, known_up}
+use Rattle.scan.proofs.Found.{found_inside, found_none, found_some}
+use Rattle.scan.proofs.objects.known.Given as goal
+
+abbrev pub invariant-loop-left : goal.invariant-loop-left
+invariant-loop-left l =
+    (l.left ≤ l.limit) × ((o : Objects) → run script 0 l.s ≡ gives o → is_known (path_of l.limit o l.index) ≡ is_known (path_of l.left o l.at))
+
+abbrev pub decreases-loop-left : goal.decreases-loop-left
+decreases-loop-left l = l.left

@@ -1,0 +1,17 @@
+-- `scan::repeats::has_class` meets its contract. The loop's invariant: none of those passed is. Assumes nothing.
+use mathlib.Core.Path.{◌≡◌, sym, ◌∙◌, ap}
+use mathlib.Core.Bool.{false}
+use Prim.Native.Nat.{◌-◌, ◌≤◌}
+use borrow.Author.Rules.{rules}
+use Rattle.base.specs.Reading.{gives, run}
+use Rattle.scriptblock.specs.Script.{Objects, script}
+use Rattle.packages.specs.Package.{read_in}
+use Rattle.scan.specs.Repeats.{is_class_of, has_class}
+use Rattle.scan.specs.RepeatLaws.{below_none, below_more, below-yes, below_end}
+use Rattle.scan.proofs.repeats.has_class.Given as goal
+
+abbrev pub invariant-loop-j : goal.invariant-loop-j
+invariant-loop-j l = (l.j ≤ l.n) × ((o : Objects) → run script 0 l.s ≡ gives o → has_class l.limit o (read_in l.b).exports l.j l.hash ≡ false)
+
+abbrev pub decreases-loop-j : goal.decreases-loop-j
+decreases-loop-j l = l.n - l.j

@@ -1,0 +1,8 @@
+-- The names of an accepted block are held.
+use borrow.Author.Rules.{rules}
+use Rattle.scriptblock.specs.ScriptAccepted.{script-parts}
+use Rattle.scriptblock.proofs.objects.note_object_names.Goals as goal
+
+pub note_names-requires : goal.note_names-requires
+note_names-requires c =
+    ((script-parts c.args.b.now c.args.l c.requires.0).held (λ i. (c.shared_slice_known-1.given i).fits), c.requires.1)

@@ -1,0 +1,124 @@
+-- `section::put_report` meets its contract: the sections are written first, then what stands before them. Assumes nothing.
+use mathlib.Core.Path.{◌≡◌, sym, ◌∙◌, ap}
+use mathlib.Core.List.{List, [], ◌∷◌, ◌++◌}
+use Prim.Native.Nat.{ℕ, ◌+◌, ◌-◌, ◌^◌, ◌≤◌, ◌<◌}
+use native.Mathlib.Omega.{arith}
+use borrow.Author.Rules.{rules}
+use lib.ListN.{length, take, drop, length-append, length-drop}
+use lib.Seq.{length-take-le}
+use Rattle.base.specs.Number.{be_bytes}
+use Rattle.base.specs.NumberLaws.{length-be_bytes}
+use Rattle.base.specs.Output.{Wrote}
+use Rattle.base.specs.OutputLaws.{wrote-front, wrote_count, wrote_as}
+use Rattle.scriptblock.specs.Script.{Objects}
+use Rattle.packages.specs.Walk.{packages_at}
+use Rattle.packages.specs.WalkLaws.{packages-length}
+use Rattle.walk.specs.Found.{classes_in, found_in}
+use Rattle.walk.specs.FoundLaws.{found-classes, found-refs}
+use Rattle.resolve.specs.Lent.{lent-part}
+use Rattle.sections.specs.RefsLaws.{rows_all}
+use Rattle.resolve.specs.Rows.{limits_of}
+use Rattle.sections.specs.SectionLaws.{report-is}
+use Rattle.sections.specs.Sections.{How, front_of, sections_of, SectionsRoom}
+use Rattle.sections.specs.Written.{report_at, Ready}
+use Rattle.sections.proofs.section.put_report.Goals as goal
+
+module _ (c : List ℕ) (at count lookups objects : ℕ) (o : Objects) where
+  -- by the classes that were found
+  abbrev how : How
+  how = record { objects = o; classes = classes_in (found_in objects o c at count); lookups = lookups }
+
+  abbrev sections : List ℕ
+  sections = sections_of objects how (packages_at c at count)
+
+  parts : report_at (limits_of lookups objects) o c at count ≡ front_of (5 + length sections) count ++ sections
+  parts =
+      report-is lookups objects o (classes_in (found_in objects o c at count)) (packages_at c at count) (found-classes objects o c at count)
+      ∙ ap (λ (k : ℕ). front_of (5 + length sections) k ++ sections) (packages-length c at count)
+
+  front_length : (size : ℕ) → length (front_of size count) ≡ 9
+  front_length size =
+      omega (
+        arith,
+        length-append (be_bytes 4 size ++ (1 ∷ [])) (be_bytes 4 count),
+        length-append (be_bytes 4 size) (1 ∷ []),
+        length-be_bytes 4 size,
+        length-be_bytes 4 count,
+      )
+
+  size : length (report_at (limits_of lookups objects) o c at count) ≡ 9 + length sections
+  size = ap length parts ∙ omega (arith, length-append (front_of (5 + length sections) count) sections, front_length (5 + length sections))
+
+  module _ (out : List ℕ) {s : List ℕ} {n : ℕ} {w : List ℕ} (t : Ready c s o n at count lookups objects w)
+      (fits : length (report_at (limits_of lookups objects) o c at count) ≤ length out) where
+    room : SectionsRoom c s n w objects at count (take (length out - 9) (drop 9 out)) how
+    room = record {
+      resolved = rw (found-refs objects o c at count) at (rows_all {h = how} t.holds);
+      room = rw (lent-part 9 out, length-drop 9 out) (omega (arith, size));
+    }
+
+    done : {q x : List ℕ} {k : ℕ} → Wrote (take (length out - 9) (drop 9 out)) sections q k
+        → Wrote (take 9 out ++ (q ++ drop (length out - 9) (drop 9 out))) (front_of (k + 5) count) x 9
+        → Wrote out (report_at (limits_of lookups objects) o c at count) x (k + 9)
+    done {q} {x} {k} v y =
+        let e : k + 5 ≡ 5 + length sections = omega (arith, v.size) in
+        let f = wrote-front {s = out} v (omega (arith, size)) y in
+        wrote_count (wrote_as f (ap (λ (j : ℕ). front_of j count ++ sections) e ∙ sym parts)) (omega arith)
+
+-- the nine bytes are there
+nine : (c : tie.After-shared-slice-known3) → 9 ≤ length c.before.before.before.before.args.out.now
+nine c =
+    let u = c.before.before.before.before in
+    let r = u.requires.1.0 in
+    omega (arith, r.room, size u.args.c.now u.args.at u.args.count r.lookups u.args.objects r.read)
+
+-- the length of what follows fits four bytes
+short : (c : tie.After-put-sections) → c.put-sections.result + 5 < 2 ^ 32
+short c =
+    let u = c.before.before.before.before.before.before.before.before in
+    let a = u.args in
+    let r = u.requires.1.0 in
+    let h = how a.c.now a.at a.count r.lookups a.objects r.read in
+    let v = c.put-sections.ensures h (room a.c.now a.at a.count r.lookups a.objects r.read a.out.now r.ready r.room) in
+    omega (arith, v.size, r.small, size a.c.now a.at a.count r.lookups a.objects r.read)
+
+pub slice_bounds-put_sections-count : goal.slice_bounds-put_sections-count
+slice_bounds-put_sections-count c = nine c
+
+pub slice_bounds-put_sections-start : goal.slice_bounds-put_sections-start
+slice_bounds-put_sections-start c = nine c
+
+pub put_sections-size-requires : goal.put_sections-size-requires
+put_sections-size-requires c =
+    let a = c.args in
+    let r = c.requires.report_room.0 in (
+      (c.requires.sites.0, c.requires.sites.1, c.requires.sites.3, c.requires.sites.4),
+      (
+        (
+          how a.c.now a.at a.count r.lookups a.objects r.read,
+          room a.c.now a.at a.count r.lookups a.objects r.read a.out.now r.ready r.room,
+        ),
+        c.requires.report_room.1,
+      ),
+    )
+
+pub overflow_add-size : goal.overflow_add-size
+overflow_add-size c = record { fits = omega (arith, short c.before.before.before) }
+
+pub overflow_cast-size : goal.overflow_cast-size
+overflow_cast-size c = record { fits = omega (arith, short c.before.before.before) }
+
+pub put_front-requires : goal.put_front-requires
+put_front-requires c =
+    let out = c.args.out.now in
+    rw (length-append (take 9 out), length-take-le 9 out (nine k)) (omega arith)
+
+pub overflow_add-result : goal.overflow_add-result
+overflow_add-result c = record { fits = omega (arith, short c.before.before.before.before.before.before) }
+
+pub returns : goal.returns
+returns c =
+    let a = c.args in
+    done a.c.now a.at a.count lookups a.objects o a.out.now t fits
+    (c.put_sections-size.ensures (how a.c.now a.at a.count lookups a.objects o) (room a.c.now a.at a.count lookups a.objects o a.out.now t fits))
+    c.put_front.ensures

@@ -1,0 +1,86 @@
+-- `section::put_rows` meets its contract: the rows are written first, then their count in front of them. Assumes nothing.
+use mathlib.Core.Path.{◌≡◌, sym, ◌∙◌, ap}
+use mathlib.Core.List.{List, ◌++◌}
+use Prim.Native.Nat.{ℕ, ◌+◌, ◌-◌, ◌≤◌}
+use native.Mathlib.Omega.{arith}
+use borrow.Author.Rules.{rules}
+use lib.ListN.{length, take, drop, length-append, length-drop}
+use lib.Seq.{length-take-le}
+use Rattle.base.specs.Number.{be_bytes}
+use Rattle.base.specs.NumberLaws.{length-be_bytes}
+use Rattle.base.specs.Output.{Wrote}
+use Rattle.base.specs.OutputLaws.{wrote-front, wrote_count, wrote_as}
+use Rattle.meaning.specs.Scan.{candidates}
+use Rattle.packages.specs.Package.{read_in, package_in}
+use Rattle.packages.specs.PackageLaws.{export_count_lem}
+use Rattle.resolve.specs.Lent.{lent-part}
+use Rattle.sections.specs.RefsLaws.{refs-each, refs-count, candidates-few}
+use Rattle.sections.specs.Sections.{How, behind_of, each_row, EachRoom, EachFilled, RowsRoom, RowsFilled}
+use Rattle.sections.specs.declared.section.Section.{Section}
+use Rattle.sections.proofs.section.put_rows.Goals as goal
+
+module _ (objects id : ℕ) (b : List ℕ) {c s : List ℕ} {n : ℕ} {w : List ℕ} {first : ℕ} {out : List ℕ} {h : How} (a : RowsRoom c s n w objects first id b out h) where
+  abbrev count : ℕ
+  count = length (candidates (read_in b))
+
+  size : 4 + length (each_row objects h (package_in id b)) ≤ length out
+  size = omega (arith, a.room, length-append (be_bytes 4 count) (each_row objects h (package_in id b)), length-be_bytes 4 count)
+
+  each : EachRoom c s n w objects first id b (take (length out - 4) (drop 4 out)) h
+  each = record { resolved = rw (refs-each (package_in id b)) at a.resolved; room = rw (lent-part 4 out, length-drop 4 out) (omega (arith, size)) }
+
+  module _ {q : List ℕ} {z : Section} (y : EachFilled objects id b h (take (length out - 4) (drop 4 out)) q z) where
+    counted : z.rows ≡ count
+    counted = y.rows ∙ (ap length (sym (refs-each (package_in id b))) ∙ refs-count (package_in id b))
+
+    filled : {o : List ℕ} {k : ℕ} → Wrote (take 4 out ++ (q ++ drop (length out - 4) (drop 4 out))) (be_bytes 4 z.rows) o k
+        → RowsFilled objects id b h out o (behind_of k z)
+    filled {o} {k} x =
+        let e : k ≡ 4 = x.size ∙ length-be_bytes 4 z.rows in
+        let f = wrote-front {s = out} y.wrote (omega (arith, size)) (wrote_count x e) in
+        record { wrote = wrote_count (wrote_as f (rw counted)) (omega arith); rows = counted ∙ sym (refs-count (package_in id b)) }
+
+-- the count's four bytes are there
+room : (c : tie.After-shared-slice-known4) → 4 ≤ length c.before.before.before.before.before.args.out.now
+room c = let u = c.before.before.before.before.before in omega (arith, size u.args.objects u.requires.1.0.0 u.args.b.now u.requires.1.0.2)
+
+done : (c : tie.After-put-be32) → let z = c.before.before.before.before.before in let u = z.before.before.before.before.before.before.before in
+    (id : ℕ) (h : How) → RowsRoom u.args.c.now u.args.s.now u.args.n u.args.w.now u.args.objects u.args.first id u.args.b.now u.args.out.now h
+    → RowsFilled u.args.objects id u.args.b.now h u.args.out.now c.put-be32.new.0
+    (behind_of c.put-be32.result z.put-each.result)
+done c id h a =
+    let z = c.before.before.before.before.before in
+    let u = z.before.before.before.before.before.before.before in
+    filled u.args.objects id u.args.b.now a (z.put-each.ensures id h (each u.args.objects id u.args.b.now a)) c.put-be32.ensures
+
+pub slice_bounds-put_each-count : goal.slice_bounds-put_each-count
+slice_bounds-put_each-count c = room c
+
+pub slice_bounds-put_each-start : goal.slice_bounds-put_each-start
+slice_bounds-put_each-start c = room c
+
+pub put_each-z-requires : goal.put_each-z-requires
+put_each-z-requires c =
+    ((c.requires.package_in.0, c.requires.package_in.1, c.requires.package_in.2), ((c.requires.by_index.0.0, c.requires.by_index.0.1, each c.args.objects c.requires.by_index.0.0 c.args.b.now c.requires.by_index.0.2), c.requires.by_index.1))
+
+pub overflow_cast-z : goal.overflow_cast-z
+overflow_cast-z c =
+    let a = c.requires.by_index.0.2 in
+    let y = c.put_each-z.ensures c.requires.by_index.0.0 c.requires.by_index.0.1 (each c.args.objects c.requires.by_index.0.0 c.args.b.now a) in
+    record {
+      fits = omega (arith, counted c.args.objects c.requires.by_index.0.0 c.args.b.now a y, candidates-few (read_in c.args.b.now), export_count_lem c.requires.package_in.0, c.requires.package_in.3);
+    }
+
+pub put_be32-k-requires : goal.put_be32-k-requires
+put_be32-k-requires c =
+    let out = c.args.out.now in
+    rw (length-append (take 4 out), length-take-le 4 out (room k)) (omega arith)
+
+pub behind-requires : goal.behind-requires
+behind-requires c =
+    let (id, h, a) = c.requires.by_index.0 in
+    let g = c.well_formed.0.0 in
+    omega (arith, (done k id h a).wrote.fits)
+
+pub returns : goal.returns
+returns c = rw c.behind.ensures (done c.before.before.before id h a)

@@ -1,0 +1,164 @@
+-- `section::put_section` meets its contract: the rows are written behind the head. Assumes nothing.
+use mathlib.Core.Path.{◌≡◌, sym, ◌∙◌}
+use mathlib.Core.List.{List, ◌++◌}
+use Prim.Native.Nat.{ℕ, ◌-◌, ◌≤◌}
+use native.Mathlib.Omega.{arith}
+use borrow.Author.Rules.{rules}
+use lib.ListN.{length, take, drop}
+use Rattle.base.specs.Number.{be_at}
+use Rattle.base.specs.NumberLaws.{Bytes}
+use Rattle.base.specs.Output.{Wrote}
+use Rattle.base.specs.OutputLaws.{wrote-rest, wrote_as, next-room, front_fits}
+use Rattle.meaning.specs.Reference.{Package}
+use Rattle.packages.specs.Package.{read_in, package_in, PackageIn}
+use Rattle.packages.specs.PackageLaws.{accepted-by, package_in_lem, names-held, imported-held}
+use Rattle.packages.specs.Walk.{block_at, Site}
+use Rattle.packages.specs.WalkLaws.{site-small}
+use Rattle.packages.specs.declared.package.Parts.{Parts}
+use Rattle.resolve.specs.Marks.{first_step}
+use Rattle.sections.specs.MarkedLaws.{Small, step_small, step-first}
+use Rattle.sections.specs.SectionLaws.{section-is}
+use Rattle.sections.specs.Sections.{How, behind_of, head_of, all_rows, section_of, refs_of, RowsMarked, Room, Filled, SectionRoom, SectionFilled}
+use Rattle.sections.specs.declared.section.Section.{Section}
+use Rattle.sections.proofs.section.put_section.Goals as goal
+
+-- the rows behind the head, of any package
+module _ (objects : ℕ) (p : Package) {c s : List ℕ} {n : ℕ} {w : List ℕ} {first : ℕ} {out : List ℕ} {h : How}
+    (a : Room c s n w objects first (refs_of p) (section_of objects h p) out h) where
+  whole : length (head_of p ++ all_rows objects h p) ≤ length out
+  whole = rw (section-is objects h p) at a.room
+
+  head-fits : length (head_of p) ≤ length out
+  head-fits = front_fits (head_of p) (all_rows objects h p) (length out) whole
+
+  module _ {o : List ℕ} {k : ℕ} (v : Wrote out (head_of p) o k) where
+    rows-room : Room c s n w objects first (refs_of p) (all_rows objects h p) (take (length o - k) (drop k o)) h
+    rows-room = record { resolved = a.resolved; room = next-room out (head_of p) (all_rows objects h p) o k v whole }
+
+    filled : {q : List ℕ} {z : Section} → Filled (refs_of p) (all_rows objects h p) (take (length o - k) (drop k o)) q z
+        → Filled (refs_of p) (section_of objects h p) out (take k o ++ (q ++ drop (length o - k) (drop k o))) (behind_of k z)
+    filled y = record { wrote = wrote_as (wrote-rest v y.wrote) (sym (section-is objects h p)); rows = y.rows }
+
+-- p are the parts of the package at a place, whose block d is
+record Here (c : List ℕ) (at : ℕ) (d : List ℕ) (p : Parts) : Type 0 where
+  pub block : d ≡ block_at c at
+  pub read : PackageIn d p
+  pub bytes : Bytes d
+  pub small : Small at p
+
+marked-here : (c : List ℕ) (at : ℕ) {n : ℕ} {w d : List ℕ} {step first all : ℕ} → d ≡ block_at c at → step ≡ first_step c at
+    → RowsMarked n w (block_at c at) (first_step c at) first all → RowsMarked n w d step first all
+marked-here c at e f t = rw (e, f) t
+
+-- what is said of the package at a place is said of it
+module _ (c : List ℕ) (objects at id : ℕ) (d : List ℕ) (e : d ≡ block_at c at) (f : id ≡ be_at 8 c at) (h : How) where
+  room-here : {s : List ℕ} {n : ℕ} {w : List ℕ} {first : ℕ} {out : List ℕ} → SectionRoom c s n w objects first at out h
+      → Room c s n w objects first (refs_of (package_in id d)) (section_of objects h (package_in id d)) out h
+  room-here a = rw (e, f) a
+
+  filled-here : {out o : List ℕ} {z : Section} → Filled (refs_of (package_in id d)) (section_of objects h (package_in id d)) out o z
+      → SectionFilled c objects at h out o z
+  filled-here y = rw (e, f) at y
+
+here : (c : tie.After-parts-of) → let u = c.before.before.before.before.before.before.before.args in
+    Here u.c.now u.at c.before.before.block_at.result.now c.parts-of.result
+here c =
+    let l = c.before in
+    let b = l.before in
+    let y = b.before.before.before in
+    let u = y.before.before in
+    let t = u.requires.0.0 in
+    let k = site-small t in
+    let e = b.block_at.ensures in
+    let site : Site u.args.c.now u.args.at b.block_at.result.now = record { starts = t.starts; stops = t.stops; small = t.small; is = e } in
+    let q = package_in_lem b.block_at.result.now l.layout_of.result c.parts-of.result l.layout_of.ensures c.parts-of.ensures in
+    record { block = e; read = q; bytes = rw e (k.2 (λ j. (y.shared-slice-known.given j).fits)); small = step_small site q }
+
+-- the section's room as the head's and the rows'
+room : (c : tie.After-id-at)
+    → let p = c.before.before.before.before.before.before.before in
+    let b = p.before.before in
+    let u = b.before.before.before.before.before.args in
+    (h : How) → SectionRoom u.c.now u.s.now u.n u.w.now u.objects u.first u.at u.out.now h
+    → Room u.c.now u.s.now u.n u.w.now u.objects u.first (refs_of (package_in c.id-at.result b.block_at.result.now))
+    (section_of u.objects h (package_in c.id-at.result b.block_at.result.now)) u.out.now h
+room c h a =
+    let p = c.before.before.before.before.before.before.before in
+    let b = p.before.before in
+    let u = b.before.before.before.before.before.args in
+    room-here u.c.now u.objects u.at c.id-at.result b.block_at.result.now (here p).block c.id-at.ensures h a
+
+done : (c : tie.After-put-rows)
+    → let x = c.before.before.before.before.before.before.before in
+    let u = x.before.before.before.before.before.before.before.before.before.before.before.before.before.before.before.args in
+    (h : How) → SectionRoom u.c.now u.s.now u.n u.w.now u.objects u.first u.at u.out.now h
+    → SectionFilled u.c.now u.objects u.at h u.out.now
+    (take x.put-head.result x.put-head.new.0 ++ (c.put-rows.new.0 ++ drop (length x.put-head.new.0 - x.put-head.result) (drop x.put-head.result x.put-head.new.0)))
+    (behind_of x.put-head.result c.put-rows.result)
+done c h a =
+    let x = c.before.before.before.before.before.before.before in
+    let i = x.before in
+    let p = i.before.before.before.before.before.before.before in
+    let b = p.before.before in
+    let u = b.before.before.before.before.before.args in
+    let d = package_in i.id-at.result b.block_at.result.now in
+    let r = room i h a in
+    filled-here u.c.now u.objects u.at i.id-at.result b.block_at.result.now (here p).block i.id-at.ensures h
+    (filled u.objects d r x.put-head.ensures (c.put-rows.ensures i.id-at.result h (rows-room u.objects d r x.put-head.ensures)))
+
+pub layout_of-requires : goal.layout_of-requires
+layout_of-requires c =
+    let d = c.block_at-b.result.now in
+    ((read_in d).layout, accepted-by d (read_in d) (rw c.block_at-b.ensures c.requires.site.1))
+
+pub note_names-requires : goal.note_names-requires
+note_names-requires c =
+    let k = here c.before in
+    (names-held k.read k.bytes, c.requires.site.2)
+
+pub note_names-requires-2 : goal.note_names-requires-2
+note_names-requires-2 c =
+    let k = here c.before.before.before in
+    (imported-held k.read k.bytes, c.requires.site.3)
+
+pub id_at-requires : goal.id_at-requires
+id_at-requires c = c.requires.site.0.starts
+
+pub put_head-k-requires : goal.put_head-k-requires
+put_head-k-requires c =
+    let k = here p in (
+      k.read,
+      c.note_names.ensures.0,
+      k.small.count,
+      head-fits c.args.objects (package_in c.id_at.result c.block_at-b.result.now) (room c c.requires.section_room.0.0 c.requires.section_room.0.1),
+    )
+
+pub step_of-requires : goal.step_of-requires
+step_of-requires c = (here c.before.before.before.before.before.before.before.before.before.before.before.before.before).small.start
+
+pub put_rows-z-requires : goal.put_rows-z-requires
+put_rows-z-requires c =
+    let k = here p in
+    let e = c.step_of.ensures in (
+      (k.read, c.note_names.ensures.0, c.note_names-2.ensures.0, k.small.count),
+      (
+        (
+          c.id_at.result,
+          c.requires.section_room.0.0,
+          rows-room c.args.objects (package_in c.id_at.result c.block_at-b.result.now) (room i c.requires.section_room.0.0 c.requires.section_room.0.1) c.put_head-k.ensures,
+        ),
+        (
+          marked-here c.args.c.now c.args.at k.block (e ∙ step-first c.args.c.now c.args.at k.block k.read) c.requires.section_room.1,
+          omega (arith, e, k.small.step),
+        ),
+      ),
+    )
+
+pub behind-requires : goal.behind-requires
+behind-requires c =
+    let g = c.well_formed.0.0 in
+    omega (arith, (done k c.requires.section_room.0.0 c.requires.section_room.0.1).wrote.fits)
+
+pub returns : goal.returns
+returns c =
+    (λ h a. rw c.behind.ensures (done c.before.before.before h a), (c.note_names.ensures.1, c.note_names-2.ensures.1))

@@ -1,0 +1,153 @@
+-- `section::put_sections` meets its contract. The loop's invariant: the sections of the first i packages are written, and the rows have their marks. Assumes nothing.
+use mathlib.Core.Path.{◌≡◌, sym, ◌∙◌, ap}
+use mathlib.Core.List.{List, ◌++◌}
+use Prim.Native.Nat.{ℕ, ◌+◌, ◌-◌, ◌*◌, ◌≤◌, ◌<◌}
+use native.Mathlib.Nat.{zero-add}
+use native.Mathlib.Omega.{arith}
+use borrow.Author.Rules.{rules}
+use lib.ListN.{length, take, drop, get_or, length-drop}
+use Rattle.base.specs.Find.{flat}
+use Rattle.batch.specs.Notes.{note_count}
+use Rattle.meaning.specs.Reference.{Package}
+use Rattle.packages.specs.Walk.{place_of, package_at, packages_at}
+use Rattle.packages.specs.WalkLaws.{place_none, place-next, packages-length, package_no_lem}
+use Rattle.resolve.specs.Marks.{marks_in, MarksIn}
+use Rattle.sections.specs.MarkedLaws.{marks-first, marks-next, rows-marked}
+use Rattle.sections.specs.SectionLaws.{filled_none, filled-inside, item_room, item-filled, item-sums, filled-all}
+use Rattle.sections.specs.Sections.{How, section_of, refs_of, Filled, SectionRoom, SectionFilled, SectionsRoom}
+use Rattle.sections.specs.declared.section.Section.{Section}
+use Rattle.sections.proofs.section.put_sections.Invariants.{Upto, Sofar}
+use Rattle.sections.proofs.section.put_sections.Goals as goal
+
+module _ {c s : List ℕ} {n : ℕ} {w : List ℕ} {objects from count : ℕ} {old : List ℕ} {i at : ℕ} {new : List ℕ} {z : Section}
+    (t : Sofar c s n w objects from count old i at new z) (inside : i < count) where
+  listed : i < length (packages_at c from count)
+  listed = rw (packages-length c from count) inside
+
+  here : get_or (packages_at c from count) i (package_at c from) ≡ package_at c at
+  here = package_no_lem c from count i (package_at c from) inside ∙ ap (package_at c) (sym t.place)
+
+  module _ (h : How) (a : SectionsRoom c s n w objects from count old h) where
+    room : SectionRoom c s n w objects z.rows at (take (length new - z.size) (drop z.size new)) h
+    room = rw (here, zero-add z.rows) at (item_room refs_of (section_of objects h) (packages_at c from count) i (package_at c from) listed a (t.filled h a))
+
+    module _ {q : List ℕ} {v : Section} (y : SectionFilled c objects at h (take (length new - z.size) (drop z.size new)) q v) where
+      item : let p = get_or (packages_at c from count) i (package_at c from) in
+          Filled (refs_of p) (section_of objects h p) (take (length new - z.size) (drop z.size new)) q v
+      item = rw here y
+
+      more : Upto objects h (packages_at c from count) (i + 1) old (take z.size new ++ (q ++ drop (length new - z.size) (drop z.size new)))
+          (record { size = z.size + v.size; rows = z.rows + v.rows })
+      more = item-filled refs_of (section_of objects h) (packages_at c from count) i (package_at c from) listed a (t.filled h a) item
+
+      -- each row has a mark
+      marked : z.rows + v.rows ≡ length (marks_in c from (i + 1))
+      marked = omega (arith, t.marks, y.rows, ap (λ (x : ℕ). length (refs_of (package_at c x))) t.place, marks-next c from i)
+
+      sums : (z.size + v.size ≤ length old) × (z.rows + v.rows ≤ length w)
+      sums = item-sums refs_of (section_of objects h) (packages_at c from count) i (package_at c from) listed a (t.filled h a) item
+
+-- the rows stand in the work buffer
+rows-room : {ms : List ℕ} {all : ℕ} (n : ℕ) (w : List ℕ) → MarksIn ms (drop (48 * n) w) → length ms ≡ all → 32 * all ≤ length w
+rows-room n w m e = omega (arith, m.room, e, length-drop (48 * n) w)
+
+-- what was written fits
+holds-size : (c : tie.At-loop invariant-loop decreases-loop)
+    → (c.loop.size ≤ length c.loop.out) × (length c.loop.out ≡ length c.before.before.before.before.before.args.out.now)
+holds-size c = let u = c.before.before.before.before.before in filled-inside (c.loop.invariant.0.filled u.requires.1.0.0 u.requires.1.0.1)
+
+summed : (c : tie.After-put-section invariant-loop decreases-loop)
+    → let l = c.before.before.before.before.before.before.before.loop in
+    let u = c.before.before.before.before.before.before.before.before.before.before.before.before.args in
+    (l.size + c.put-section.result.size ≤ length u.out.now) × (l.rows + c.put-section.result.rows ≤ length u.w.now)
+summed c =
+    let m = c.before.before.before.before.before.before in
+    let t = m.before.loop.invariant.0 in
+    let (h, a) = m.before.before.before.before.before.before.requires.1.0 in
+    sums t m.loop-test.true h a (c.put-section.ensures.0 h (room t m.loop-test.true h a))
+
+pub loop-init : goal.loop-init
+loop-init c =
+    let z = c.args in (
+      record { low = omega arith; place = sym (place_none z.c.now z.from); marks = sym (marks-first z.c.now z.from); filled = λ h a. filled_none z.out.now },
+      c.requires.sites.2,
+      c.requires.sites.3,
+    )
+
+pub look_ahead-ahead-requires : goal.look_ahead-ahead-requires
+look_ahead-ahead-requires c =
+    let l = c.loop in
+    (rows-room c.args.n c.args.w.now c.requires.sections_room.1.0 c.requires.sections_room.1.1, l.invariant.1)
+
+pub slice_bounds-put_section-count : goal.slice_bounds-put_section-count
+slice_bounds-put_section-count c = (holds-size c.before.before.before).0
+
+pub slice_bounds-put_section-start : goal.slice_bounds-put_section-start
+slice_bounds-put_section-start c = (holds-size c.before.before.before).0
+
+pub put_section-z-requires : goal.put_section-z-requires
+put_section-z-requires c =
+    let l = c.loop in
+    let t = l.invariant.0 in (
+      (
+        rw t.place (c.requires.sites.0.site l.counter c.loop-test.true),
+        rw t.place (c.requires.sites.1.read l.counter c.loop-test.true),
+        c.look_ahead-ahead.ensures,
+        l.invariant.2,
+      ),
+      (
+        (c.requires.sections_room.0.0, room t c.loop-test.true c.requires.sections_room.0.0 c.requires.sections_room.0.1),
+        rw t.place (rows-marked c.args.n c.args.w.now c.requires.sites.0 c.requires.sites.1 c.requires.sections_room.1.0 c.requires.sections_room.1.1 l.counter c.loop-test.true t.marks),
+      ),
+    )
+
+pub overflow_add-size : goal.overflow_add-size
+overflow_add-size c =
+    let g = c.well_formed.0.0 in
+    record { fits = omega (arith, (summed c.before.before.before).0) }
+
+pub overflow_add-rows : goal.overflow_add-rows
+overflow_add-rows c =
+    let g = c.well_formed.1.1.1.1.1.0.0 in
+    record { fits = omega (arith, (summed c.before.before.before.before).1) }
+
+pub next_at-at-requires : goal.next_at-at-requires
+next_at-at-requires c =
+    let l = c.loop in
+    let k = c.requires.sites.0.site l.counter c.loop-test.true in
+    rw l.invariant.0.place (k.starts, k.stops)
+
+pub overflow_step : goal.overflow_step
+overflow_step c =
+    omega (arith, c.loop-test.true, c.ranges)
+
+pub loop-smaller : goal.loop-smaller
+loop-smaller c =
+    omega (arith, c.loop-test.true)
+
+pub loop-preserved : goal.loop-preserved
+loop-preserved c =
+    let l = c.loop in
+    let u = c.args in
+    let t = l.invariant.0 in
+    let (h, a) = c.requires.sections_room.0 in (
+      record {
+        low = omega (arith, c.loop-test.true);
+        place = c.next_at-at.ensures ∙ rw t.place (sym (place-next u.c.now u.from l.counter));
+        marks = marked t c.loop-test.true h a (c.put_section-z.ensures.is h (room t c.loop-test.true h a));
+        filled = λ h a. more t c.loop-test.true h a (c.put_section-z.ensures.is h (room t c.loop-test.true h a));
+      },
+      c.put_section-z.ensures.notes.0,
+      c.put_section-z.ensures.notes.1,
+    )
+
+pub shape_of-out : goal.shape_of-out
+shape_of-out c = (holds-size c.before).1
+
+pub returns : goal.returns
+returns c =
+    let l = c.loop in
+    let u = c.args in
+    let ps = packages_at u.c.now u.from u.count in
+    let e : l.counter ≡ length ps = omega (arith, c.loop-test.false, l.invariant.0.low, packages-length u.c.now u.from u.count) in
+    (filled-all refs_of (section_of u.objects h) ps l.counter e (l.invariant.0.filled h a)).wrote

@@ -1,0 +1,35 @@
+-- `section::put_sections` meets its contract. The loop's invariant: the sections of the first i packages are written, and the rows have their marks. Assumes nothing.
+use mathlib.Core.Path.{◌≡◌, sym, ◌∙◌, ap}
+use mathlib.Core.List.{List, ◌++◌}
+use Prim.Native.Nat.{ℕ, ◌+◌, ◌-◌, ◌*◌, ◌≤◌, ◌<◌}
+use native.Mathlib.Nat.{zero-add}
+use native.Mathlib.Omega.{arith}
+use borrow.Author.Rules.{rules}
+use lib.ListN.{length, take, drop, get_or, length-drop}
+use Rattle.base.specs.Find.{flat}
+use Rattle.batch.specs.Notes.{note_count}
+use Rattle.meaning.specs.Reference.{Package}
+use Rattle.packages.specs.Walk.{place_of, package_at, packages_at}
+use Rattle.packages.specs.WalkLaws.{place_none, place-next, packages-length, package_no_lem}
+use Rattle.resolve.specs.Marks.{marks_in, MarksIn}
+use Rattle.sections.specs.MarkedLaws.{marks-first, marks-next, rows-marked}
+use Rattle.sections.specs.SectionLaws.{filled_none, filled-inside, item_room, item-filled, item-sums, filled-all}
+use Rattle.sections.specs.Sections.{How, section_of, refs_of, Filled, SectionRoom, SectionFilled, SectionsRoom}
+use Rattle.sections.specs.declared.section.Section.{Section}
+use Rattle.sections.proofs.section.put_sections.Given as goal
+
+abbrev pub Upto : ℕ → How → List Package → ℕ → List ℕ → List ℕ → Section → Type 0
+Upto objects h ps i old new z = Filled (flat refs_of (take i ps)) (flat (section_of objects h) (take i ps)) old new z
+
+pub record Sofar (c s : List ℕ) (n : ℕ) (w : List ℕ) (objects from count : ℕ) (old : List ℕ) (i at : ℕ) (new : List ℕ) (z : Section) : Type 0 where
+  pub low : i ≤ count
+  pub place : at ≡ place_of c from i
+  pub marks : z.rows ≡ length (marks_in c from i)
+  pub filled : (h : How) → SectionsRoom c s n w objects from count old h → Upto objects h (packages_at c from count) i old new z
+
+abbrev pub invariant-loop : goal.invariant-loop
+invariant-loop l =
+    Sofar l.c l.s l.n l.w l.objects l.from l.count l.initial.out l.counter l.at l.out (record { l.size = l.size; l.rows = l.rows }) × (length l.names ≡ note_count) × (length l.imported ≡ note_count)
+
+abbrev pub decreases-loop : goal.decreases-loop
+decreases-loop l = l.count - l.counter

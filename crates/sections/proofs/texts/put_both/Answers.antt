@@ -1,0 +1,168 @@
+-- `texts::put_both` meets its contract: the native class's text twice where there is no class of the table, else the class's text before it.
+-- Assumes nothing.
+use mathlib.Core.Path.{◌≡◌, sym, ◌∙◌, ap}
+use mathlib.Core.Bool.{true}
+use mathlib.Core.List.{List, ◌++◌}
+use mathlib.Core.Option.{Option}
+use Prim.Native.Nat.{ℕ, ◌+◌, ◌-◌, ◌≤◌}
+use native.Mathlib.Omega.{arith}
+use borrow.Author.Rules.{rules}
+use lib.ListN.{length, length-append}
+use Rattle.text.specs.Name.{text_bytes}
+use Rattle.base.specs.Output.{Wrote}
+use Rattle.base.specs.OutputLaws.{wrote_as, wrote-length, wrote-rest, next-room, front_fits}
+use Rattle.scriptblock.specs.Script.{Objects}
+use Rattle.meaning.specs.Reference.{Ref}
+use Rattle.meaning.specs.Report.{or_unknown}
+use Rattle.meaning.specs.Scan.{Class}
+use Rattle.resolve.specs.Classes.{class_no}
+use Rattle.resolve.specs.Rows.{limits_of}
+use Rattle.sections.specs.Written.{is_some, Put, Target, class_of, native_text, both_texts, BothPut, ClassRoom}
+use Rattle.sections.specs.WrittenLaws.{behind, again, kept-inside, kept-size, kept-is, class_same, class_in, class-some}
+use Rattle.resolve.specs.declared.rows.Led.{Led}
+use Rattle.sections.specs.declared.texts.Told.{Told}
+use Rattle.sections.proofs.texts.put_both.Goals as goal
+
+-- there is room for both texts
+module _ {c b : List ℕ} {o : Objects} {n : ℕ} {xs : List Class} {lookups objects : ℕ} {w : List ℕ} {r : Ref} {l : Led} (t : Target c b o n xs lookups objects w r l)
+    (out : List ℕ) (room : length (both_texts (limits_of lookups objects) xs o r) ≤ length out) where
+  abbrev text₁ : List ℕ
+  text₁ = text_bytes (or_unknown (class_of (limits_of lookups objects) xs o r))
+
+  abbrev text₂ : List ℕ
+  text₂ = text_bytes (or_unknown (native_text (limits_of lookups objects) xs o r))
+
+  native-fits : length text₂ ≤ length out
+  native-fits = omega (arith, length-append text₁ text₂, room)
+
+  -- they are the same
+  module _ (z : l.class ≡ 0) {o₁ : List ℕ} {t₁ : Told} (put : Put (native_text (limits_of lookups objects) xs o r) out o₁ t₁) where
+    text_same : text₁ ≡ text₂
+    text_same = ap (λ (x : Option (List ℕ)). text_bytes (or_unknown x)) (class_same t z)
+
+    twice-fits : t₁.size + t₁.size ≤ length o₁
+    twice-fits = omega (arith, wrote-length put.wrote, put.wrote.size, ap length text_same, length-append text₁ text₂, room)
+
+    twice-put : {o₂ : List ℕ} {k : ℕ} → Wrote out (text₂ ++ text₂) o₂ k
+        → BothPut (limits_of lookups objects) xs o r out o₂ (record { size = k; class = t₁.known; native = t₁.known })
+    twice-put v = record {
+      wrote = wrote_as v (ap (λ (x : List ℕ). x ++ text₂) (sym text_same));
+      class = put.known ∙ ap is_some (sym (class_same t z));
+      native = put.known;
+    }
+
+  -- the first is that of a class of the table
+  module _ (z : l.class ≡ 0 → ⊥) where
+    abbrev text : List ℕ
+    text = text_bytes (class_no xs (l.class - 1)).path
+
+    text-is : text₁ ++ text₂ ≡ text ++ text₂
+    text-is = ap (λ (x : Option (List ℕ)). text_bytes (or_unknown x) ++ text₂) (class-some t z)
+
+    both-fit : length (text ++ text₂) ≤ length out
+    both-fit = omega (arith, ap length text-is, room)
+
+    class-room : ClassRoom c n (l.class - 1) w out
+    class-room = record { front = t.tables.room; classes = xs; holds = t.tables.classes; inside = class_in t z; room = front_fits text text₂ (length out) both-fit }
+
+    module _ {o₁ : List ℕ} {k : ℕ} (w₁ : Wrote out text o₁ k) where
+      class_end_lem : k ≤ length o₁
+      class_end_lem = omega (arith, wrote-length w₁, w₁.fits)
+
+      native-next : length text₂ ≤ length (behind k o₁)
+      native-next = next-room out text text₂ o₁ k w₁ both-fit
+
+      module _ {o₂ : List ℕ} {t₂ : Told} (put : Put (native_text (limits_of lookups objects) xs o r) (behind k o₁) o₂ t₂) where
+        both-put : BothPut (limits_of lookups objects) xs o r out (again k o₁ o₂) (record { size = k + t₂.size; class = true; native = t₂.known })
+        both-put = record {
+          wrote = wrote_as (wrote-rest w₁ put.wrote) (sym text-is);
+          class = ap is_some (sym (class-some t z));
+          native = put.known;
+        }
+
+-- the class's text is written
+module _ (p : tie.After-put-class) where
+  abbrev start : tie.Start
+  start = p.before.before.before.before.before.before.before.before.before
+
+  left : start.args.l.class ≡ 0 → ⊥
+  left = p.before.before.before.if1.left
+
+  class_in_out : p.put-class.result ≤ length p.put-class.last.0
+  class_in_out =
+      let s = start in
+      let r = s.pre in
+      class_end_lem r.target s.args.out.now r.room left (p.put-class.ensures r.classes r.target.tables.classes (class_in r.target left))
+
+-- and the native class's
+both : (c : tie.After-struct-known3) → let p = c.before.before.before.before.before.before.before in let s = start p in
+    (o : Objects) (xs : List Class) (lookups : ℕ) (r : Ref) → Target s.args.c.now s.args.s.now o s.args.n xs lookups s.args.objects s.args.w.now r s.args.l
+    → length (both_texts (limits_of lookups s.args.objects) xs o r) ≤ length s.args.out.now
+    → BothPut (limits_of lookups s.args.objects) xs o r s.args.out.now (again p.put-class.result p.put-class.new.0 c.before.before.before.put-native2.new.0)
+    (record { size = p.put-class.result + c.before.before.before.put-native2.result.size; class = true; native = c.before.before.before.put-native2.result.known })
+both c o xs lookups r t room =
+    let p = c.before.before.before.before.before.before.before in
+    let s = start p in
+    let v = p.put-class.ensures xs t.tables.classes (class_in t (left p)) in
+    both-put t s.args.out.now room (left p) v
+    (c.before.before.before.put-native2.ensures s.args.c.now o xs lookups r t (native-next t s.args.out.now room (left p) v))
+
+pub put_native-t-requires : goal.put_native-t-requires
+put_native-t-requires c =
+    let r = c.requires in
+    record {
+      corpus = c.args.c.now;
+      read = r.read;
+      classes = r.classes;
+      lookups = r.lookups;
+      ref = r.ref;
+      target = r.target;
+      room = native-fits r.target c.args.out.now r.room;
+    }
+
+pub put_second-requires : goal.put_second-requires
+put_second-requires c =
+    let r = c.requires in
+    let f = native-fits r.target c.args.out.now r.room in
+    let put = c.put_native-t.ensures c.args.c.now r.read r.classes r.lookups r.ref r.target f in (
+      twice-fits r.target c.args.out.now r.room c.if-l-eq0.true put,
+      λ ne. (kept-inside r.target ne, kept-size r.target ne ∙ sym put.wrote.size),
+    )
+
+pub returns-then-l-eq0 : goal.returns-then-l-eq0
+returns-then-l-eq0 c = λ o xs lookups r t room.
+    let put = c.put_native-t.ensures c.args.c.now o xs lookups r t (native-fits t c.args.out.now room) in
+    twice-put t c.args.out.now room c.if-l-eq0.true put (c.put_second.ensures _ _ put.wrote (λ ne. kept-is t ne))
+
+pub put_class-first-requires : goal.put_class-first-requires
+put_class-first-requires c =
+    class-room c.requires.target c.args.out.now c.requires.room c.if-l-eq0.false
+
+pub slice_bounds-put_native-count : goal.slice_bounds-put_native-count
+slice_bounds-put_native-count c = class_in_out c.before.before
+
+pub slice_bounds-put_native-start : goal.slice_bounds-put_native-start
+slice_bounds-put_native-start c = class_in_out c.before.before
+
+pub put_native-t-requires-2 : goal.put_native-t-requires-2
+put_native-t-requires-2 c =
+    let s = start p in
+    let r = s.pre in
+    record {
+      corpus = s.args.c.now;
+      read = r.read;
+      classes = r.classes;
+      lookups = r.lookups;
+      ref = r.ref;
+      target = r.target;
+      room = native-next r.target s.args.out.now r.room (left p) (c.put_class-first.ensures r.classes r.target.tables.classes (class_in r.target (left p)));
+    }
+
+pub overflow_add-result : goal.overflow_add-result
+overflow_add-result c =
+    let s = start c.before.before.before.before.before.before.before in
+    let r = s.pre in
+    omega (arith, (both c r.read r.classes r.lookups r.ref r.target r.room).wrote.fits)
+
+pub returns : goal.returns
+returns c = both c

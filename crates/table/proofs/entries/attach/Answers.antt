@@ -1,0 +1,8 @@
+-- `entries::attach` meets its contract: five stores. Assumes nothing.
+use borrow.Author.Rules.{rules}
+use Rattle.table.specs.Table.{filled, attached}
+use Rattle.table.proofs.entries.attach.Goals as goal
+
+pub returns : goal.returns
+unfolding attached filled
+returns c = cc

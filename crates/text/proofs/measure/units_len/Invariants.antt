@@ -1,0 +1,17 @@
+-- `measure::units_len` meets its contract. The loop's invariant: what the units passed take, and what those from i on take. Assumes nothing.
+use mathlib.Core.Path.{◌≡◌, ap}
+use mathlib.Core.List.{List}
+use Prim.Native.Nat.{ℕ, ◌+◌, ◌*◌, ◌-◌, ◌≤◌}
+use native.Mathlib.Omega.{arith}
+use borrow.Author.Rules.{rules}
+use lib.ListN.{drop, drop_of_length-le}
+use Rattle.text.specs.Units.{units_of}
+use Rattle.text.specs.UnitsLaws.{units_of_bound}
+use Rattle.text.specs.UnitLength.{units_length}
+use Rattle.text.proofs.measure.units_len.Given as goal
+
+abbrev pub invariant-loop-i : goal.invariant-loop-i
+invariant-loop-i l = (l.i ≤ l.n) × (l.at ≤ 3 * l.i) × (l.at + units_length (drop l.i (units_of l.wide l.part)) ≡ units_length (units_of l.wide l.part))
+
+abbrev pub decreases-loop-i : goal.decreases-loop-i
+decreases-loop-i l = l.n - l.i

@@ -1,0 +1,10 @@
+-- `name::base_len` meets its contract: the base takes the bytes that its units take. Assumes nothing.
+use mathlib.Core.Path.{sym, ◌∙◌}
+use native.Mathlib.Omega.{arith}
+use borrow.Author.Rules.{rules}
+use Rattle.text.specs.UnitLengthLaws.{base-bytes}
+use Rattle.text.proofs.name.base_len.Goals as goal
+
+pub returns : goal.returns
+returns c =
+    (c.units_len.ensures.0 ∙ sym (base-bytes _ _ (λ j. (c.shared_slice_known-1.given j).fits) c.requires.0), omega arith)

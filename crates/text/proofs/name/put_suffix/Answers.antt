@@ -1,0 +1,41 @@
+-- `text::name::put_suffix` meets its contract: `_` and then the digits, by the two cases of `suffix`. Assumes nothing.
+use mathlib.Core.Path.{ap, sym}
+use mathlib.Core.List.{[], ◌∷◌}
+use native.Mathlib.Omega.{arith}
+use lib.ListN.{length, set, length-set}
+use Rattle.base.specs.Output.{Wrote}
+use Rattle.base.specs.OutputLaws.{wrote_none, wrote_as, wrote-sets, wrote-rest, wrote-room, wrote-length}
+use Rattle.text.specs.NameLaws.{suffix-none, suffix-more}
+use borrow.Author.Rules.{rules}
+use Rattle.text.proofs.name.put_suffix.Goals as goal
+
+-- the mark is written
+mark : (c : tie.Else1) → Wrote c.before.before.args.out.now (95 ∷ []) (set c.before.before.args.out.now 0 95) 1
+mark c = wrote-sets _ (95 ∷ []) (omega (arith, ap length (suffix-more c.before.before.args.number c.if1.false)))
+
+pub returns-then-number-eq0 : goal.returns-then-number-eq0
+returns-then-number-eq0 c = wrote_as (wrote_none _) (sym (suffix-none c.if-number-eq0.true))
+
+pub bounds-out-0 : goal.bounds-out-0
+bounds-out-0 c = omega (arith, ap length (suffix-more c.args.number c.if-number-eq0.false))
+
+pub slice_bounds-put_decimal-count : goal.slice_bounds-put_decimal-count
+slice_bounds-put_decimal-count c = simp length-set (omega (arith, ap length (suffix-more c.args.number c.if-number-eq0.false)))
+
+pub slice_bounds-put_decimal-start : goal.slice_bounds-put_decimal-start
+slice_bounds-put_decimal-start c = simp length-set (omega (arith, ap length (suffix-more c.args.number c.if-number-eq0.false)))
+
+pub put_decimal-requires : goal.put_decimal-requires
+put_decimal-requires c =
+    wrote-room (mark c.before) _ (omega (arith, ap length (suffix-more c.args.number c.if-number-eq0.false)))
+
+pub overflow_add-result : goal.overflow_add-result
+overflow_add-result c = omega (arith, (wrote-rest (mark c.before.before.before.before) c.put_decimal.ensures).fits)
+
+pub shape_of-out : goal.shape_of-out
+shape_of-out c = wrote-length (wrote-rest (mark c.before.before.before.before) c.put_decimal.ensures)
+
+pub returns : goal.returns
+returns c =
+    wrote_as (wrote-rest (mark c.before.before.before.before) c.put_decimal.ensures)
+    (sym (suffix-more _ c.if-number-eq0.false))

@@ -1,0 +1,8 @@
+-- `plain::is_word` meets its contract. Assumes nothing.
+use borrow.Author.Rules.{rules}
+use Rattle.text.specs.PlainLaws.{word-ascii}
+use Rattle.text.proofs.plain.is_word.Goals as goal
+
+pub returns : goal.returns
+returns c =
+    rw c.le64.ensures (word-ascii c.args.part.now c.args.i (λ i. (c.shared_slice_known-1.given i).fits) c.requires)

@@ -1,0 +1,60 @@
+-- `call::class_verify` meets its contract. Assumes nothing.
+use mathlib.Core.Path.{◌≡◌, sym, ◌∙◌}
+use Prim.Native.Nat.{◌-◌}
+use native.Mathlib.Omega.{arith}
+use borrow.Author.Rules.{rules}
+use lib.ListN.{take, drop}
+use Rattle.scriptblock.specs.ScriptAnswers.{opened}
+use Rattle.scriptblock.specs.ScriptLaws.{script-shut}
+use Rattle.scriptblock.specs.declared.script.Opened.TheVariants.{Open}
+use Rattle.meaning.specs.Call.{limits}
+use Rattle.walk.specs.OpenSteps.{Begun}
+use Rattle.walk.specs.OpenLaws.{begun, begun-inside, opened-broken, opened-script}
+use Rattle.verify.specs.StepLaws.{answered-opened, answered-verified}
+use Rattle.verify.proofs.call.class_verify.Goals as goal
+
+-- the framed corpus
+begun-at : (c : tie.After-f) → let s = c.before.before.before.before.before.before.args.c.now in
+    let f = c.f.given.0.0 in
+    Begun s f (take (f.«end» - 9) (drop 9 s))
+begun-at c =
+    let y = c.before.before.before.before.before in
+    begun (λ i. (y.shared-slice-known.given i).fits) c.before.before.read-frame.ensures c.f.given.1
+
+-- its script block, opened
+opened-at : (c : tie.After-l) → let f = c.before.before.before.before.before in let s = f.before.before.before.before.before.before.args.c.now in
+    opened (take (f.f.given.0.0.«end» - 9) (drop 9 s)) ≡ Open c.l.given.0.0
+opened-at c = sym c.before.before.open-script.ensures ∙ c.l.given.1
+
+pub slice_bounds-s-count : goal.slice_bounds-s-count
+slice_bounds-s-count c = (begun-inside (begun-at c.before)).0
+
+pub slice_bounds-s-start : goal.slice_bounds-s-start
+slice_bounds-s-start c = omega (arith, (begun-inside (begun-at c.before)).0)
+
+pub slice_bounds-s-end : goal.slice_bounds-s-end
+slice_bounds-s-end c = omega (arith, (begun-inside (begun-at c.before)).1)
+
+pub without_table-requires : goal.without_table-requires
+without_table-requires c = begun-at c.before.before.before.before.before.before.before.before.before
+
+pub returns-then-w-l : goal.returns-then-w-l
+returns-then-w-l c = answered-verified c.without_table.ensures
+
+pub with_table-requires : goal.with_table-requires
+with_table-requires c =
+    (begun-at l.before.before.before.before.before, opened-at l, omega arith)
+
+pub returns-in-Broken : goal.returns-in-Broken
+returns-in-Broken c =
+    let e = sym c.read_frame.ensures ∙ c.q-1.given.1 in
+    answered-verified (answered-opened (opened-broken limits _ e) c.refuse.ensures)
+
+pub returns-in-Shut : goal.returns-in-Shut
+returns-in-Shut c =
+    let e = sym c.open_script.ensures ∙ c.q-in-Shut-1.given.1 in
+    let b = begun-at c.before.before.before.before.before.before.before in
+    answered-verified (answered-opened (opened-script limits _ b (script-shut _ e)) c.refuse-in-Shut.ensures)
+
+pub returns-else-w-l : goal.returns-else-w-l
+returns-else-w-l c = answered-verified c.with_table.ensures

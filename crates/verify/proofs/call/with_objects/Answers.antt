@@ -1,0 +1,50 @@
+-- `call::with_objects` meets its contract. Assumes nothing.
+use mathlib.Core.Path.{refl}
+use native.Mathlib.Omega.{arith}
+use borrow.Author.Rules.{rules}
+use Rattle.meaning.specs.Call.{limits}
+use Rattle.walk.specs.OpenLaws.{begun-sites, begun-few, begun-small, opened_package}
+use Rattle.verify.specs.StepLaws.{answered-opened}
+use Rattle.verify.proofs.Scanned.{Walked, walked-twice, walked_all}
+use Rattle.verify.proofs.call.with_objects.Goals as goal
+
+-- what the walk entered
+walked : (c : tie.After-k) → let s = c.before.before.before.before in
+    let a = s.before.before.before.before.before.before.before.before.before.args in
+    Walked a.c.now a.f a.s.now a.l.count a.t c.k.given.0.0 a.w.now s.scan-packages.new.1.1.1.1.0
+walked c =
+    let s = c.before.before.before.before in
+    let (b, n, k, y) = s.before.before.before.before.before.before.before.before.before.requires in
+    let e = s.scan-packages.ensures in
+    record { begun = b; linked = k; tally = y; packages = e.1.0 _ c.k.given.1; state = e.1.1.0 _ k.objects c.k.given.1 k.holds }
+
+pub overflow_add-f : goal.overflow_add-f
+overflow_add-f c = omega (arith, (begun-few c.requires.0).1)
+
+pub scan_packages-requires : goal.scan_packages-requires
+scan_packages-requires c =
+    let (b, n, k, y) = c.requires in
+    ((begun-sites b, (begun-few b).0, (begun-few b).2, refl, refl), (k, begun-small b))
+
+pub returns-then-k-ne0 : goal.returns-then-k-ne0
+returns-then-k-ne0 c = walked-twice (walked c.before.before.before.before) c.if-k-ne0.true c.refuse-then-k-ne0.ensures
+
+pub finish-requires : goal.finish-requires
+finish-requires c = walked_all (walked c.before.before.before.before.before) c.if-k.true
+
+pub compare-requires : goal.compare-requires
+compare-requires c =
+    let z = walked k in
+    (z.begun, z.packages, c.requires.1, z.tally)
+
+pub returns-in-Refused : goal.returns-in-Refused
+returns-in-Refused c =
+    let (b, n, k, y) = c.requires in
+    let e = c.scan_packages.ensures.refused _ _ c.q-1.given.1 in
+    answered-opened (opened_package limits _ b k.holds.all.read e) c.refuse.ensures
+
+pub returns-then-k : goal.returns-then-k
+returns-then-k c = c.finish.ensures
+
+pub returns-else-k : goal.returns-else-k
+returns-else-k c = c.compare.ensures

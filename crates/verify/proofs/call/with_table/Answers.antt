@@ -1,0 +1,52 @@
+-- `call::with_table` meets its contract. Assumes nothing.
+use mathlib.Core.Path.{◌≡◌, refl, sym}
+use native.Mathlib.Omega.{arith}
+use borrow.Author.Rules.{rules}
+use Rattle.base.specs.Reading.{run}
+use Rattle.scriptblock.specs.Script.{script}
+use Rattle.scriptblock.specs.ScriptAnswers.{script_answer}
+use Rattle.scriptblock.specs.declared.script.Script.TheVariants.{Accepted}
+use Rattle.meaning.specs.Call.{limits}
+use Rattle.objects.specs.EnterLaws.{open_held}
+use Rattle.walk.specs.Found.{Linked}
+use Rattle.walk.specs.OpenLaws.{begun-bytes, begun-small, opened-script}
+use Rattle.verify.specs.StepLaws.{answered-opened}
+use Rattle.verify.proofs.Scanned.{front_length}
+use Rattle.verify.proofs.call.with_table.Goals as goal
+
+-- the script objects, entered and linked
+entered : (c : tie.Else1) → let k = c.before.before.before in let a = k.before.before.before.before.before.before.before.before.before.args in
+    (script_answer (run script 0 a.s.now) ≡ Accepted a.l) × Linked a.s.now a.l.count k.enter-script.new.1.1.1.0
+entered c = let (a, k, n) = c.before.before.before.enter-script.ensures.1 c.if1.false in (a, k)
+
+pub note_names-requires : goal.note_names-requires
+note_names-requires c =
+    let (b, q, r) = c.requires in
+    (open_held _ q (begun-bytes b), refl)
+
+pub enter_script-fault-requires : goal.enter_script-fault-requires
+enter_script-fault-requires c =
+    let (b, q, r) = c.requires in
+    (q, c.note_names.ensures.0, r, begun-small b)
+
+pub returns-then-fault-ne0 : goal.returns-then-fault-ne0
+returns-then-fault-ne0 c =
+    let begun = c.requires.0 in
+    answered-opened (opened-script limits _ begun (c.enter_script-fault.ensures.refused c.if-fault-ne0.true)) c.refuse.ensures
+
+pub slice_bounds-count_linked-end-2 : goal.slice_bounds-count_linked-end-2
+slice_bounds-count_linked-end-2 c = sym (front_length (entered c.before.before).1)
+
+pub count_linked-t-requires : goal.count_linked-t-requires
+count_linked-t-requires c =
+    let (a, k) = entered u in
+    let begun = c.requires.0 in
+    (a, record { objects = k.objects; holds = k.holds }, omega arith, begun-small begun)
+
+pub with_objects-requires : goal.with_objects-requires
+with_objects-requires c =
+    let (a, k) = entered u in
+    (c.requires.0, (a, c.note_names.ensures.0), k, record { is = c.count_linked-t.ensures })
+
+pub returns : goal.returns
+returns c = c.with_objects.ensures

@@ -1,0 +1,26 @@
+-- `flags::put_flags` meets its contract. The loop's invariant: the flags of the packages passed are written. Assumes nothing.
+use mathlib.Core.Path.{◌≡◌, sym, ◌∙◌, ap}
+use mathlib.Core.List.{List, [], ◌∷◌, map, map-append}
+use Prim.Native.Nat.{ℕ, ◌+◌, ◌-◌, ◌≤◌, ◌<◌}
+use native.Mathlib.Omega.{arith}
+use borrow.Author.Rules.{rules}
+use lib.ListN.{length, set}
+use Rattle.base.specs.Output.{Wrote}
+use Rattle.base.specs.OutputLaws.{wrote_none, wrote-length, wrote_as, wrote-byte}
+use Rattle.meaning.specs.Verify.{package_flag}
+use Rattle.packages.specs.Framing.{next_at}
+use Rattle.packages.specs.Walk.{package_at, place_of, packages_at}
+use Rattle.packages.specs.WalkLaws.{place_none, place-next, packages-none, packages-next}
+use Rattle.verify.proofs.flags.put_flags.Given as goal
+
+-- the first i flags are written, and the next package is at a place
+pub record Sofar (c : List ℕ) (from count : ℕ) (old : List ℕ) (i at : ℕ) (new : List ℕ) : Type 0 where
+  pub low : i ≤ count
+  pub place : at ≡ place_of c from i
+  pub wrote : Wrote old (map package_flag (packages_at c from i)) new i
+
+abbrev pub invariant-loop-i : goal.invariant-loop-i
+invariant-loop-i l = Sofar l.c l.from l.count l.initial.out l.i l.at l.out
+
+abbrev pub decreases-loop-i : goal.decreases-loop-i
+decreases-loop-i l = l.count - l.i

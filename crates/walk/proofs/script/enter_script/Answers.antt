@@ -1,0 +1,63 @@
+-- `walk::script::enter_script` meets its contract.
+use mathlib.Core.Path.{refl, sym, ◌∙◌, ap}
+use native.Mathlib.Omega.{arith}
+use borrow.Author.Rules.{rules}
+use lib.ListN.{length}
+use Rattle.scriptblock.specs.ScriptLaws.{open_fits, script-fault, script-left, script-accepted}
+use Rattle.scriptblock.specs.declared.script.Script.TheVariants.{Rejected}
+use Rattle.walk.proofs.Tabled.{front_length, Filled, filled-front, linked-after, linked-length}
+use Rattle.walk.proofs.script.enter_script.Goals as goal
+
+-- the objects that were entered, of an accepted block
+filled : (c : tie.Else2) → let x = c.before.before.before.before.before.before in
+    let a = x.before.before.before.before.before.args in
+    Filled a.s.now a.l a.w.now x.enter.new.1.1.1.0
+filled c =
+    let x = c.before.before.before.before.before.before in
+    let (q, n, r, small) = x.before.before.before.before.before.requires in
+    let none = c.before.before.before.if1.false in
+    record {
+      room = r;
+      accepted = script-accepted _ q (sym x.enter.ensures.0 ∙ none) c.if2.false;
+      entered = x.enter.ensures.1 none;
+    }
+
+pub slice_bounds-enter-end-2 : goal.slice_bounds-enter-end-2
+slice_bounds-enter-end-2 c = sym (front_length _ _ c.requires.2)
+
+pub enter-fault-requires : goal.enter-fault-requires
+enter-fault-requires c =
+    let (q, n, r, small) = c.requires in
+    ((q, n), (front_length _ _ r, small))
+
+pub returns-then-fault-ne0 : goal.returns-then-fault-ne0
+returns-then-fault-ne0 c =
+    let (q, n, r, small) = c.requires in
+    let e = c.enter-fault.ensures.fault in
+    (λ some. script-fault _ q (λ z. c.if-fault-ne0.true (e ∙ z)) ∙ ap Rejected (sym e), λ none. absurd (c.if-fault-ne0.true none))
+
+pub overflow_add-l : goal.overflow_add-l
+overflow_add-l c =
+    let (q, n, r, small) = c.requires in
+    omega (arith, open_fits _ q, small)
+
+pub returns-then-l-s : goal.returns-then-l-s
+returns-then-l-s c =
+    let (q, n, r, small) = c.requires in
+    let none = sym c.enter-fault.ensures.fault ∙ c.if-fault-ne0.false in
+    (λ some. script-left _ q none c.if-l-s.true, λ z. absurd (omega arith))
+
+pub slice_bounds-link-end-2 : goal.slice_bounds-link-end-2
+slice_bounds-link-end-2 c =
+    let z = filled c.before in
+    sym (ap length (filled-front z) ∙ z.entered.size)
+
+pub link-requires : goal.link-requires
+link-requires c =
+    let z = filled x in
+    (z.accepted, rw (filled-front z) z.entered, c.requires.3)
+
+pub returns : goal.returns
+returns c =
+    let z = filled x in
+    (λ some. absurd (some refl), λ none. (z.accepted, linked-after z c.link.ensures, linked-length z c.link.ensures))

@@ -1,0 +1,126 @@
+-- `walk::scan_package` meets its contract: its section is counted, then its exports. Assumes nothing.
+use mathlib.Core.Path.{◌≡◌, refl, ◌∙◌, ap}
+use mathlib.Core.Bool.{true}
+use mathlib.Core.List.{List, ◌++◌}
+use Prim.Native.Nat.{ℕ, ◌+◌, ◌*◌, ◌^◌, ◌≤◌, ◌<◌}
+use native.Mathlib.Omega.{arith}
+use borrow.Author.Rules.{rules}
+use lib.ListN.{length}
+use Rattle.scriptblock.specs.Script.{Objects}
+use Rattle.packages.specs.Package.{read_in, package_in, PackageIn}
+use Rattle.packages.specs.PackageLaws.{package_in_lem, package_facts, export_count_lem, names-held, imported-held}
+use Rattle.packages.specs.declared.package.Parts.{Parts}
+use Rattle.resolve.specs.MarkLaws.{few-steps, step_is}
+use Rattle.resolve.specs.Marks.{marks_from, step_at, marks_of}
+use Rattle.walk.specs.Found.{Found, head_size, with_exports, State}
+use Rattle.walk.specs.MarkedLaws.{marked-same}
+use Rattle.walk.specs.StateLaws.{state-head}
+use Rattle.walk.specs.Steps.{opened_as, SomeState, Marked, row_most, head_most, Grown, Small}
+use Rattle.walk.specs.declared.walk.Census.{Census}
+use Rattle.walk.specs.declared.walk.Visit.{Visit}
+use Rattle.walk.proofs.walk.scan_package.Goals as goal
+
+few-exports : {d : List ℕ} {p : Parts} → PackageIn d p → 72 * p.count ≤ length d
+few-exports a = let f = package_facts a in omega (arith, f.few-exports, f.exports, export_count_lem a)
+
+-- behind x bytes of packages comes one of m bytes, which has so many exports
+module _ {x : ℕ} (m count : ℕ) {k : ℕ} {t : Census} (h : Small x t) (fits : 72 * count ≤ m) (head : k ≤ head_most) where
+  module _ (room : x + 12 + m < 2 ^ 32 + 4) where
+    few-classes : t.classes + count < 2 ^ 32
+    few-classes = omega (arith, h.classes)
+
+    few-rows : t.rows + count < 2 ^ 32
+    few-rows = omega (arith, h.rows)
+
+    few_bytes : t.size + k + row_most * count < 2 ^ 60
+    few_bytes = omega (arith, h.size)
+
+  small-next : {r : Census} → Grown count (opened_as t.classes t.rows (t.size + k)) r → Small (x + 12 + m) r
+  small-next g = record { classes = omega (arith, h.classes, g.classes); rows = omega (arith, h.rows, g.rows); size = omega (arith, h.size, g.size) }
+
+-- d: the block of the package that is visited; b: the script block
+module _ (d b : List ℕ) (n limit : ℕ) (v : Visit) {t : Census} {w : List ℕ} (going : t.open ≡ true) {k : ℕ} (head : (id : ℕ) → k ≡ head_size (package_in id d))
+    {u : Census} (is : u ≡ opened_as t.classes t.rows (t.size + k)) where
+  state_headed : {c : List ℕ} {o : Objects} {f : Found} → State c b o n f t w → State c b o n (with_exports limit o v.block (package_in v.id d) 0 f) u w
+  state_headed s = rw is (state-head s going limit v.block (package_in v.id d) (ap (λ (z : ℕ). t.size + z) (head v.id)))
+
+  some_headed : SomeState b n v d t w → SomeState b n v d u w
+  some_headed s = record {
+    corpus = s.corpus;
+    objects = s.objects;
+    found = with_exports limit s.objects v.block (package_in v.id d) 0 s.found;
+    visited = s.visited;
+    holds = state_headed s.holds;
+  }
+
+  marked_headed : {p : Parts} → PackageIn d p → {step : ℕ} → step ≡ step_at v.at p.exports → {r : Census} {w' : List ℕ}
+      → ((l : List ℕ) → Marked n l u w → Marked n (l ++ marks_from (read_in d) step (read_in d).exports) r w')
+      → (l : List ℕ) → Marked n l t w → Marked n (l ++ marks_of v.at d) r w'
+  marked_headed a e next l m = rw (← step_is a v.at e) (next l (marked-same m going (ap (λ (x : Census). x.rows) is)))
+
+pub note_names-requires : goal.note_names-requires
+note_names-requires c =
+    let a = package_in_lem c.args.b.now c.args.l c.parts_of-p.result c.requires.b_value.0 c.parts_of-p.ensures in
+    (names-held a (λ i. (c.shared_slice_known-1.given i).fits), c.requires.b_value.1)
+
+pub note_names-requires-2 : goal.note_names-requires-2
+note_names-requires-2 c =
+    let p = c.parts_of-p in
+    let a = package_in_lem c.args.b.now c.args.l p.result c.requires.b_value.0 p.ensures in
+    (imported-held a (λ i. (c.shared_slice_known-1.given i).fits), c.requires.b_value.2)
+
+pub head_len-requires : goal.head_len-requires
+head_len-requires c =
+    let p = c.parts_of-p in
+    (package_in_lem c.args.b.now c.args.l p.result c.requires.b_value.0 p.ensures, c.note_names.ensures.0)
+
+pub overflow_add-t : goal.overflow_add-t
+overflow_add-t c =
+    let (x, h, l) = c.requires.open_value.3 in
+    omega (arith, c.head_len.ensures.1, h.size)
+
+pub step_of-step-requires : goal.step_of-step-requires
+step_of-step-requires c =
+    let p = c.parts_of-p in
+    let a = c.args in
+    (few-steps c.requires.open_value.1.visited.site (package_in_lem a.b.now a.l p.result c.requires.b_value.0 p.ensures)).0
+
+pub scan_exports-requires : goal.scan_exports-requires
+scan_exports-requires c =
+    let o = c.opened-before.ensures in
+    let h = c.head_len in
+    let p = c.parts_of-p in
+    let a = c.args in
+    let k = package_in_lem a.b.now a.l p.result c.requires.b_value.0 p.ensures in
+    let (x, small, room) = c.requires.open_value.3 in (
+      (k, c.note_names.ensures.0, c.note_names-2.ensures.0),
+      (
+        some_headed a.b.now a.s.now a.n a.limit a.v c.requires.open_value.0 h.ensures.0 o c.requires.open_value.1,
+        rw o (few-classes (length a.b.now) p.result.count small (few-exports k) h.ensures.1 room),
+        rw o (few-rows (length a.b.now) p.result.count small (few-exports k) h.ensures.1 room),
+        rw o (few_bytes (length a.b.now) p.result.count small (few-exports k) h.ensures.1 room),
+        c.requires.open_value.2,
+        rw c.step_of-step.ensures (few-steps c.requires.open_value.1.visited.site k).1,
+      ),
+    )
+
+pub shape_of-w : goal.shape_of-w
+shape_of-w c = c.scan_exports.ensures.grown.1.0
+
+pub returns : goal.returns
+returns c =
+    let e = c.scan_exports.ensures in
+    let i = c.opened-before.ensures in
+    let h = c.head_len in
+    let p = c.parts_of-p in
+    let a = c.args in
+    let k = package_in_lem a.b.now a.l p.result c.requires.b_value.0 p.ensures in (
+      λ c o f z x. e.0 c o f z (state_headed a.b.now a.s.now a.n a.limit a.v c.requires.open_value.0 h.ensures.0 i x),
+      (
+        λ x small. small-next (length a.b.now) p.result.count small (few-exports k) h.ensures.1 (rw i at e.1.0),
+        (
+          (e.1.1.0, c.note_names.ensures.1, c.note_names-2.ensures.1),
+          marked_headed a.b.now a.s.now a.n a.limit a.v c.requires.open_value.0 h.ensures.0 i k c.step_of-step.ensures e.1.1.1,
+        ),
+      ),
+    )

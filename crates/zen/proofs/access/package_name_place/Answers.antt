@@ -1,0 +1,7 @@
+-- `zen::access::package_name_place` meets its contract.
+use borrow.Author.Rules.{rules}
+use Rattle.zen.specs.Accepted.{parts}
+use Rattle.zen.proofs.access.package_name_place.Goals as goal
+
+pub name_place-requires : goal.name_place-requires
+name_place-requires c = c.before in (s.requires.0, (parts _ _ s.requires.0).index, s.requires.1)

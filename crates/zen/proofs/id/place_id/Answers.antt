@@ -1,0 +1,11 @@
+-- `place_id` meets its contract: the part is the one at the place.
+use native.Mathlib.Omega.{arith}
+use lib.ListN.{length-take}
+use borrow.Author.Rules.{rules}
+use Rattle.zen.proofs.id.place_id.Goals as goal
+
+pub name_id-requires : goal.name_id-requires
+name_id-requires c = c.before.before in rw c.part_of.ensures (s.requires.well, simp length-take (omega (arith, s.requires.small)))
+
+pub returns : goal.returns
+returns c = rw c.part_of.ensures at c.name_id.ensures

@@ -1,0 +1,8 @@
+-- `zen::summary::summary_in` meets its contract.
+use borrow.Author.Rules.{rules}
+use Rattle.zen.specs.Zen.{summary_at}
+use Rattle.zen.proofs.summary.summary_in.Goals as goal
+
+pub returns : goal.returns
+unfolding summary_at
+returns c = cc

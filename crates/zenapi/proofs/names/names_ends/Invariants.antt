@@ -1,0 +1,13 @@
+-- `zenapi::names::names_ends` meets its contract: what was added and what is left are the sum.
+use Prim.Native.Nat.{◌+◌, ◌-◌, ◌^◌, ◌<◌}
+use mathlib.Core.Path.{refl}
+use native.Mathlib.Omega.{arith}
+use borrow.Author.Rules.{rules}
+use Rattle.zenapi.proofs.Ends.{Adding, adding_first, adding_end, adding_in, adding_named, adding_more}
+use Rattle.zenapi.proofs.names.names_ends.Given as goal
+
+abbrev pub invariant-loop-i : goal.invariant-loop-i
+invariant-loop-i l = Adding l.b l.l l.n l.total l.i
+
+abbrev pub decreases-loop-i : goal.decreases-loop-i
+decreases-loop-i l = l.n - l.i

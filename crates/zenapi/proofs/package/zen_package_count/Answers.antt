@@ -1,0 +1,36 @@
+-- `zenapi::package::zen_package_count` meets its contract.
+use native.Mathlib.Omega.{arith}
+use borrow.Author.Rules.{rules}
+use Rattle.zenapi.specs.Answers.{package_in, counts}
+use Rattle.zenapi.proofs.Cells.{past}
+use Rattle.zenapi.proofs.PackageFound.{no_count, counts-are}
+use Rattle.zenapi.proofs.package.zen_package_count.Goals as goal
+
+pub returns-in-Rejected : goal.returns-in-Rejected
+returns-in-Rejected c = search no_count
+
+pub returns-in-0 : goal.returns-in-0
+returns-in-0 c = rw (counts-are _ _ c.check_package.ensures _ c.l-1.given.1, c.in-0.keys1)
+
+pub returns-in-1 : goal.returns-in-1
+returns-in-1 c =
+    rw (
+      counts-are _ _ c.check_package.ensures _ c.l-1.given.1,
+      c.in-1.keys2,
+    ) c.export_count.ensures
+
+pub returns-in-2 : goal.returns-in-2
+returns-in-2 c =
+    rw (
+      counts-are _ _ c.check_package.ensures _ c.l-1.given.1,
+      c.in-2.keys3,
+    ) c.hash_count.ensures
+
+pub returns-in-3 : goal.returns-in-3
+returns-in-3 c = rw (counts-are _ _ c.check_package.ensures _ c.l-1.given.1, c.in-3.keys4)
+
+pub returns-in_default : goal.returns-in_default
+returns-in_default c =
+    let a = c.args in
+    let e = counts-are a.b.now _ c.check_package.ensures _ c.l-1.given.1 in
+    past (counts (package_in a.b.now)) a.what (rw e (omega arith))

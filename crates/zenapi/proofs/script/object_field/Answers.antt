@@ -1,0 +1,26 @@
+-- `zenapi::script::object_field` meets its contract.
+use native.Mathlib.Omega.{arith}
+use Rattle.zenapi.specs.Answers.{object_fields}
+use Rattle.zenapi.proofs.Cells.{past}
+use borrow.Author.Rules.{rules}
+use Rattle.zenapi.proofs.script.object_field.Goals as goal
+
+pub returns-in-0 : goal.returns-in-0
+unfolding object_fields
+returns-in-0 c = rw c.in-0.keys1
+
+pub returns-in-1 : goal.returns-in-1
+unfolding object_fields
+returns-in-1 c = rw c.in-1.keys2
+
+pub returns-in-2 : goal.returns-in-2
+unfolding object_fields
+returns-in-2 c = rw c.in-2.keys3
+
+pub returns-in-3 : goal.returns-in-3
+unfolding object_fields
+returns-in-3 c = rw c.in-3.keys4
+
+pub returns-in_default : goal.returns-in_default
+unfolding object_fields
+returns-in_default c = past (object_fields c.args.e) c.args.field (omega arith)

@@ -1,0 +1,23 @@
+-- `zenapi::texts::zen_put_name` meets its contract.
+use Rattle.zenapi.proofs.TextsFound.{there, put-missing, put-short, put-there}
+use borrow.Author.Rules.{rules}
+use Rattle.zenapi.specs.Texts.{Found}
+use Rattle.zenapi.proofs.texts.zen_put_name.Goals as goal
+
+found : (c : tie.After-p) → let a = c.before.before.before.before.before.args in Found a.b.now a.which a.i c.p.given.0.0 c.p.given.0.1.0
+found c = let f = c.before.before in there f.before.before.before.args.out.now _ _ _ _ f.find-text.ensures c.p.given.1
+
+pub place_len-requires : goal.place_len-requires
+place_len-requires c = (found c.before).base
+
+pub put_place-requires : goal.put_place-requires
+put_place-requires c = ((found c.before.before.before.before).base, rw c.place_len.ensures.0 at c.if-place_len-out.true)
+
+pub returns-then-place_len-out : goal.returns-then-place_len-out
+returns-then-place_len-out c = put-there _ _ _ _ (found c.before.before.before.before.before.before.before) c.put_place.ensures
+
+pub returns-in-Missing : goal.returns-in-Missing
+returns-in-Missing c = put-missing _ _ _ _ _ c.find_text.ensures c.enum_told-1.given.1
+
+pub returns-else-place_len-out : goal.returns-else-place_len-out
+returns-else-place_len-out c = put-short _ _ _ _ (found c.before.before.before) (rw c.place_len.ensures.0 at c.if-place_len-out.false)
