@@ -1,5 +1,6 @@
 // Layer 1: CityHash64.
 
 #![tactic(auto)]
+
 pub mod word; // words of 64 bits that wrap
 pub mod city; // the hash

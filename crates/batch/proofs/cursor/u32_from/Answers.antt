@@ -8,10 +8,10 @@ use Rattle.batch.specs.declared.cursor.Word.TheVariants.{Got}
 use Rattle.batch.proofs.cursor.u32_from.Goals as goal
 
 pub returns-then-n-lt4 : goal.returns-then-n-lt4
-returns-then-n-lt4 c = c.args in sym (word-missing a.s.now a.at (omega arith))
+returns-then-n-lt4 c = let a = c.args in sym (word-missing a.s.now a.at (omega arith))
 
 pub returns-then-n-at : goal.returns-then-n-at
-returns-then-n-at c = c.args in sym (word-missing a.s.now a.at (omega arith))
+returns-then-n-at c = let a = c.args in sym (word-missing a.s.now a.at (omega arith))
 
 pub returns : goal.returns
 returns c =

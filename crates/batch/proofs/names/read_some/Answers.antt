@@ -35,7 +35,7 @@ module _ (s : List ℕ) (at n : ℕ) where
     whole w room r x q = rw (some_is s at n, le-leb (at + 4) (length s) (omega arith), le-leb (at + 4 + 8) (length s) h, ← e, eq-eqb v 0xC1640000 w, ← r) q
 
 pub returns-then-end-version : goal.returns-then-end-version
-returns-then-end-version c = c.args in short a.s.now a.at a.count (omega arith)
+returns-then-end-version c = let a = c.args in short a.s.now a.at a.count (omega arith)
 
 pub returns-then-end-next : goal.returns-then-end-next
 returns-then-end-next c = search short

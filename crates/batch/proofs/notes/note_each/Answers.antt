@@ -33,4 +33,4 @@ loop-k-preserved c =
     rw c.read_head-d.ensures.0 (each_next c.loop-k.invariant c.requires.0 c.requires.1 c.loop-k-test.true)
 
 pub returns : goal.returns
-returns c = c.loop-k.invariant in (each_end e c.requires.1 c.loop-k-test.false, e.size)
+returns c = let e = c.loop-k.invariant in (each_end e c.requires.1 c.loop-k-test.false, e.size)

@@ -3,11 +3,11 @@ use mathlib.Core.Path.{◌≡◌}
 use native.Mathlib.Omega.{arith}
 use Rattle.batch.proofs.Noting.{Near, near, near-start, start-inside}
 use borrow.Author.Rules.{rules}
+use Rattle.batch.proofs.notes.start_of.Goals.{After-step_of-step}
 use Rattle.batch.proofs.notes.start_of.Goals as goal
 
-near-at : (c : tie.After-step-of) → let s = c.before.before.before.before in
-    Near s.args.s.now s.args.n s.args.notes.now s.requires.0 s.requires.2 s.args.i s.requires.1 c.step_of_lem.result
-near-at c = near _ _ _ _ _ _ _ _ c.step_of_lem.ensures
+near-at : (c : After-step_of-step) → Near c.args.s.now c.args.n c.args.notes.now c.requires.0 c.requires.2 c.args.i c.requires.1 c.step_of-step.result
+near-at c = near _ _ _ _ _ _ _ _ c.step_of-step.ensures
 
 pub overflow_add-result : goal.overflow_add-result
 overflow_add-result c =
@@ -18,32 +18,32 @@ returns-then-n-lt-NOTES c =
     rw c.wide.ensures (near-start _ _ _ c.requires.0 c.requires.2 _ c.requires.1 c.if-n-lt-NOTES.true)
 
 pub overflow_mul-before : goal.overflow_mul-before
-overflow_mul-before c = near-at c in omega (arith, z.before)
+overflow_mul-before c = let z = near-at (goal.at.overflow_mul-before c).After-step_of-step in omega (arith, z.before)
 
 pub overflow_mul-before-2 : goal.overflow_mul-before-2
-overflow_mul-before-2 c = near-at c in omega (arith, z.head, z.before)
+overflow_mul-before-2 c = let z = near-at (goal.at.overflow_mul-before-2 c).After-step_of-step in omega (arith, z.head, z.before)
 
 pub overflow_add-n : goal.overflow_add-n
-overflow_add-n c = near-at c.before in omega (arith, z.head, z.before)
+overflow_add-n c = let z = near-at (goal.at.overflow_add-n c).After-step_of-step in omega (arith, z.head, z.before)
 
 pub offset_bounds-notes-k : goal.offset_bounds-notes-k
-offset_bounds-notes-k c = near-at c.before in omega (arith, z.few)
+offset_bounds-notes-k c = let z = near-at (goal.at.offset_bounds-notes-k c).After-step_of-step in omega (arith, z.few)
 
 pub bounds-notes-k : goal.bounds-notes-k
-bounds-notes-k c = near-at c.before in z.few
+bounds-notes-k c = let z = near-at (goal.at.bounds-notes-k c).After-step_of-step in z.few
 
 pub overflow_add-n-2 : goal.overflow_add-n-2
-overflow_add-n-2 c = near-at c.before.before.before.before in rw c.wide-2.ensures (omega (arith, z.note))
+overflow_add-n-2 c = let z = near-at (goal.at.overflow_add-n-2 c).After-step_of-step in rw c.wide-2.ensures (omega (arith, z.note))
 
 pub overflow_sub-i : goal.overflow_sub-i
-overflow_sub-i c = near-at c.before.before.before.before in omega (arith, z.before)
+overflow_sub-i c = let z = near-at (goal.at.overflow_sub-i c).After-step_of-step in omega (arith, z.before)
 
 pub name_start-requires : goal.name_start-requires
 name_start-requires c =
-    let z = near-at c.before.before.before.before in
+    let z = near-at (goal.at.name_start-requires c).After-step_of-step in
     rw c.wide-2.ensures (omega (arith, z.head, z.before), omega (arith, z.start, z.inside))
 
 pub returns : goal.returns
 returns c =
-    let z = near-at c.before.before.before.before.before in
+    let z = near-at (goal.at.returns c).After-step_of-step in
     rw (c.wide-2.ensures, z.start) at c.name_start.ensures

@@ -3,7 +3,7 @@ use borrow.Author.Rules.{rules}
 use Rattle.batch.proofs.texts.place_ends_with.Goals as goal
 
 pub ends_with-requires : goal.ends_with-requires
-ends_with-requires c = c.before.before.before in rw c.part_of.ensures (s.requires.0.well, s.requires.1)
+ends_with-requires c = rw c.part_of.ensures (c.requires.0.well, c.requires.1)
 
 pub returns : goal.returns
 returns c = rw c.part_of.ensures at c.ends_with.ensures

@@ -6,7 +6,7 @@ use borrow.Author.Rules.{rules}
 use Rattle.batch.proofs.texts.place_len.Goals as goal
 
 pub name_len-requires : goal.name_len-requires
-name_len-requires c = c.before.before in rw c.part_of.ensures (s.requires.well, simp length-take (omega (arith, s.requires.small)))
+name_len-requires c = rw c.part_of.ensures (c.requires.well, simp length-take (omega (arith, c.requires.small)))
 
 pub returns : goal.returns
 returns c =

@@ -3,7 +3,7 @@ use borrow.Author.Rules.{rules}
 use Rattle.batch.proofs.texts.place_starts_with.Goals as goal
 
 pub starts_with-requires : goal.starts_with-requires
-starts_with-requires c = c.before.before.before in rw c.part_of.ensures (s.requires.0.well, s.requires.1)
+starts_with-requires c = rw c.part_of.ensures (c.requires.0.well, c.requires.1)
 
 pub returns : goal.returns
 returns c = rw c.part_of.ensures at c.starts_with.ensures

@@ -5,7 +5,7 @@ use borrow.Author.Rules.{rules}
 use Rattle.batch.proofs.texts.put_place_text.Goals as goal
 
 pub put_name_text-requires : goal.put_name_text-requires
-put_name_text-requires c = c.before.before.before.before in rw c.part_of.ensures (s.requires.0.well, s.requires.1, omega (arith, holds-short s.requires.0 s.args.number))
+put_name_text-requires c = rw c.part_of.ensures (c.requires.0.well, c.requires.1, omega (arith, holds-short c.requires.0 c.args.number))
 
 pub returns : goal.returns
 returns c = rw c.part_of.ensures at c.put_name_text.ensures

@@ -5,7 +5,7 @@ use Rattle.decode.specs.TableLaws.{quick-one, quick-there, quick-range, quick-th
 use Rattle.decode.proofs.chars.quick_char.Goals as goal
 
 pub returns-then-a-le127 : goal.returns-then-a-le127
-returns-then-a-le127 c = c.before.before.before.before in quick-one u.args.s.now u.args.at u.requires _ c.wide-a.ensures.0 c.if-a-le127.true
+returns-then-a-le127 c = quick-one c.args.s.now c.args.at c.requires _ c.wide-a.ensures.0 c.if-a-le127.true
 
 pub overflow_add-at : goal.overflow_add-at
 overflow_add-at c =

@@ -5,4 +5,4 @@ use Rattle.decode.specs.LatinLaws.{every-word}
 use Rattle.decode.proofs.eight.is_eight.Goals as goal
 
 pub returns : goal.returns
-returns c = c.before.before.before.before.before.before.before.before in every-word ascii u.args.s.now u.args.at u.requires
+returns c = every-word ascii c.args.s.now c.args.at c.requires

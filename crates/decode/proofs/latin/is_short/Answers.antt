@@ -13,7 +13,7 @@ pub loop-i-init : goal.loop-i-init
 loop-i-init c = (omega arith, refl)
 
 pub loop-i-preserved : goal.loop-i-preserved
-loop-i-preserved c = c.loop-i in (omega arith, rw l.invariant.1 (sym (every-next low _ l.i c.loop-i-test.true)))
+loop-i-preserved c = let l = c.loop-i in (omega arith, rw l.invariant.1 (sym (every-next low _ l.i c.loop-i-test.true)))
 
 pub returns : goal.returns
 returns c =

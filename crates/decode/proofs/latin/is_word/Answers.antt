@@ -5,4 +5,4 @@ use Rattle.decode.specs.LatinLaws.{every-word}
 use Rattle.decode.proofs.latin.is_word.Goals as goal
 
 pub returns : goal.returns
-returns c = c.before.before.before.before.before.before.before.before in every-word low u.args.s.now u.args.i u.requires
+returns c = every-word low c.args.s.now c.args.i c.requires

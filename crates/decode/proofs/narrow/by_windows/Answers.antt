@@ -9,17 +9,18 @@ use borrow.Author.Tests.{leb-false, not-false}
 use lib.Dec.{leb}
 use lib.ListN.{get_or}
 use Rattle.decode.specs.NarrowLaws.{Good, good-first, good-next, good-few, good-measured, neither}
+use Rattle.decode.proofs.narrow.by_windows.Goals.{After-struct_known-in-loop-at-1}
 use Rattle.decode.proofs.narrow.by_windows.Goals as goal
 
 -- a window more
-turned : (c : tie.After-struct-known2 invariant-loop decreases-loop) →
-    let a = c.before.before.before.before.before.before.before.before.before.before.before.before.before.args in
-    let l = c.before.before.before.before.before.before.loop in
-    let w = c.before.before.before.look.result in
-    Good a.s.now a.from (l.at + c.before.before.before.before.window.result) (l.units + w.units) (l.latin && w.low)
+turned : (c : After-struct_known-in-loop-at-1) →
+    let a = c.args in
+    let l = c.loop-at in
+    let w = c.look-w.result in
+    Good a.s.now a.from (l.at + c.window-n.result) (l.units + w.units) (l.latin && w.low)
 turned c =
-    let l = c.before.before.before.before.before.before.loop in
-    good-next _ _ _ l.invariant.0 (omega arith) l.invariant.2 _ c.before.before.before.look.ensures (not-false _ c.before.if2.false)
+    let l = c.loop-at in
+    good-next _ _ _ l.invariant.0 (omega arith) l.invariant.2 _ c.look-w.ensures (not-false _ c.if-not-w.false)
 
 pub any-requires : goal.any-requires
 any-requires c = (omega arith, omega arith)
@@ -46,10 +47,10 @@ pub overflow_add-units : goal.overflow_add-units
 overflow_add-units c =
     let a = c.args in
     let l = c.loop-at in
-    omega (arith, good-few a.s.now a.from (l.at + c.window-n.result) (omega arith) (omega arith) (turned c))
+    omega (arith, good-few a.s.now a.from (l.at + c.window-n.result) (omega arith) (omega arith) (turned (goal.at.overflow_add-units c).After-struct_known-in-loop-at-1))
 
 pub loop-at-preserved : goal.loop-at-preserved
-loop-at-preserved c = (omega arith, omega arith, turned c.before)
+loop-at-preserved c = (omega arith, omega arith, turned (goal.at.loop-at-preserved c).After-struct_known-in-loop-at-1)
 
 pub returns : goal.returns
 returns c =

@@ -9,7 +9,7 @@ use Rattle.decode.specs.TailsLaws.{meant-none, meant-next}
 use Rattle.decode.proofs.pairs.look_bytes.Goals as goal
 
 pub loop-k-init : goal.loop-k-init
-loop-k-init c = c.requires in (omega arith, p.2, meant-none _ _ _)
+loop-k-init c = let p = c.requires in (omega arith, p.2, meant-none _ _ _)
 
 pub loop-k-preserved : goal.loop-k-preserved
 loop-k-preserved c =

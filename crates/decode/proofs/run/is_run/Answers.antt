@@ -5,7 +5,7 @@ use Rattle.decode.specs.RunLaws.{run_short, run_long}
 use Rattle.decode.proofs.run.is_run.Goals as goal
 
 pub returns-then-s-at-lt12 : goal.returns-then-s-at-lt12
-returns-then-s-at-lt12 c = c.args in sym (run_short a.s.now a.at c.if-s-at-lt12.true)
+returns-then-s-at-lt12 c = let a = c.args in sym (run_short a.s.now a.at c.if-s-at-lt12.true)
 
 pub returns : goal.returns
 returns c =

@@ -16,7 +16,7 @@ three_at-a-requires c =
     (omega arith, c.requires.0, l.lead-0)
 
 pub overflow_add-at : goal.overflow_add-at
-overflow_add-at c = c.before.before.before in omega (arith, (run-leads u.args.s.now u.args.at u.requires.1).there)
+overflow_add-at c = omega (arith, (run-leads c.args.s.now c.args.at c.requires.1).there)
 
 pub three_at-b-requires : goal.three_at-b-requires
 three_at-b-requires c =
@@ -24,7 +24,7 @@ three_at-b-requires c =
     (omega arith, well_3 c.args.s.now c.args.at c.requires.0 l, l.lead-3)
 
 pub overflow_add-at-2 : goal.overflow_add-at-2
-overflow_add-at-2 c = c.before.before.before.before in omega (arith, (run-leads u.args.s.now u.args.at u.requires.1).there)
+overflow_add-at-2 c = omega (arith, (run-leads c.args.s.now c.args.at c.requires.1).there)
 
 pub three_at-c-requires : goal.three_at-c-requires
 three_at-c-requires c =
@@ -32,7 +32,7 @@ three_at-c-requires c =
     (omega arith, well_6 c.args.s.now c.args.at c.requires.0 l, l.lead-6)
 
 pub overflow_add-at-3 : goal.overflow_add-at-3
-overflow_add-at-3 c = c.before.before.before.before.before in omega (arith, (run-leads u.args.s.now u.args.at u.requires.1).there)
+overflow_add-at-3 c = omega (arith, (run-leads c.args.s.now c.args.at c.requires.1).there)
 
 pub three_at-d-requires : goal.three_at-d-requires
 three_at-d-requires c =

@@ -7,10 +7,10 @@ use Rattle.decode.specs.RunLaws.{three-range, three-there, three-small}
 use Rattle.decode.proofs.run.three_at.Goals as goal
 
 pub bounds-s-at-2 : goal.bounds-s-at-2
-bounds-s-at-2 c = c.before.before.before.before in omega (arith, three-there u.args.s.now u.args.at u.requires.0 u.requires.1 u.requires.2)
+bounds-s-at-2 c = omega (arith, three-there c.args.s.now c.args.at c.requires.0 c.requires.1 c.requires.2)
 
 pub bounds-s-at-3 : goal.bounds-s-at-3
-bounds-s-at-3 c = c.before.before.before.before.before.before in omega (arith, three-there u.args.s.now u.args.at u.requires.0 u.requires.1 u.requires.2)
+bounds-s-at-3 c = omega (arith, three-there c.args.s.now c.args.at c.requires.0 c.requires.1 c.requires.2)
 
 pub three-requires : goal.three-requires
 three-requires c =

@@ -18,7 +18,7 @@ bounds-out-n c =
     omega (arith, filling_room k c.loop-i-test.true, k.room, k.same)
 
 pub overflow_add-n : goal.overflow_add-n
-overflow_add-n c = filling_byte c.loop-i.invariant.1 c.loop-i-test.true in omega (arith, k.size, k.room)
+overflow_add-n c = let k = filling_byte c.loop-i.invariant.1 c.loop-i-test.true in omega (arith, k.size, k.room)
 
 pub loop-i-preserved : goal.loop-i-preserved
 loop-i-preserved c = (omega arith, rw c.raised.ensures (filling_byte c.loop-i.invariant.1 c.loop-i-test.true))

@@ -5,7 +5,7 @@ use Rattle.decode.specs.TwosLaws.{twos-short, twos-long}
 use Rattle.decode.proofs.twos.is_twos.Goals as goal
 
 pub returns-then-s-at-lt8 : goal.returns-then-s-at-lt8
-returns-then-s-at-lt8 c = c.args in sym (twos-short a.s.now a.at c.if-s-at-lt8.true)
+returns-then-s-at-lt8 c = let a = c.args in sym (twos-short a.s.now a.at c.if-s-at-lt8.true)
 
 pub returns : goal.returns
 returns c =

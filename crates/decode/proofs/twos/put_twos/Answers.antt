@@ -16,7 +16,7 @@ two_at-a-requires c =
     (omega arith, c.requires.0, l.lead-0)
 
 pub overflow_add-at : goal.overflow_add-at
-overflow_add-at c = c.before.before.before in omega (arith, (twos-leads u.args.s.now u.args.at u.requires.1).there)
+overflow_add-at c = omega (arith, (twos-leads c.args.s.now c.args.at c.requires.1).there)
 
 pub two_at-b-requires : goal.two_at-b-requires
 two_at-b-requires c =
@@ -24,7 +24,7 @@ two_at-b-requires c =
     (omega arith, well_2 c.args.s.now c.args.at c.requires.0 l, l.lead-2)
 
 pub overflow_add-at-2 : goal.overflow_add-at-2
-overflow_add-at-2 c = c.before.before.before.before in omega (arith, (twos-leads u.args.s.now u.args.at u.requires.1).there)
+overflow_add-at-2 c = omega (arith, (twos-leads c.args.s.now c.args.at c.requires.1).there)
 
 pub two_at-c-requires : goal.two_at-c-requires
 two_at-c-requires c =
@@ -32,7 +32,7 @@ two_at-c-requires c =
     (omega arith, well_4 c.args.s.now c.args.at c.requires.0 l, l.lead-4)
 
 pub overflow_add-at-3 : goal.overflow_add-at-3
-overflow_add-at-3 c = c.before.before.before.before.before in omega (arith, (twos-leads u.args.s.now u.args.at u.requires.1).there)
+overflow_add-at-3 c = omega (arith, (twos-leads c.args.s.now c.args.at c.requires.1).there)
 
 pub two_at-d-requires : goal.two_at-d-requires
 two_at-d-requires c =

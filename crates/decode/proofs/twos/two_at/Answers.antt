@@ -7,7 +7,7 @@ use Rattle.decode.specs.TwosLaws.{two-range, two-there, two-small}
 use Rattle.decode.proofs.twos.two_at.Goals as goal
 
 pub bounds-s-at-2 : goal.bounds-s-at-2
-bounds-s-at-2 c = c.before.before.before.before in omega (arith, two-there u.args.s.now u.args.at u.requires.0 u.requires.1 u.requires.2)
+bounds-s-at-2 c = omega (arith, two-there c.args.s.now c.args.at c.requires.0 c.requires.1 c.requires.2)
 
 pub two-requires : goal.two-requires
 two-requires c =

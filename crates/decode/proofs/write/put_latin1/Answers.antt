@@ -13,46 +13,46 @@ use Rattle.decode.specs.NarrowLaws.{neither}
 use Rattle.decode.specs.Tails.{Filling}
 use Rattle.decode.specs.TailsLaws.{filling_none, filling_room, filling_here, filling_then, filling_wrote}
 use Rattle.decode.specs.TailsLaws.{bytes_tailed, bytes-kept, kept-room, part-first}
+use Rattle.decode.proofs.write.put_latin1.Goals.{Else-to-s}
 use Rattle.decode.proofs.write.put_latin1.Goals as goal
 
 -- the text has two bytes or more, and 33 follow it
-far : (c : tie.Else1 invariant-loop decreases-loop) → let a = c.before.before.before.before.args in (2 ≤ a.to) × (33 ≤ length a.s.now - a.to)
+far : (c : Else-to-s) → let a = c.args in (2 ≤ a.to) × (33 ≤ length a.s.now - a.to)
 far c =
-    let a = c.before.before.before.before.args in
-    let e = neither (ltb a.to 2) (ltb (length a.s.now - a.to) 33) c.if1.false in
+    let a = c.args in
+    let e = neither (ltb a.to 2) (ltb (length a.s.now - a.to) 33) c.if-to-s.false in
     (ltb-false a.to 2 e.0, ltb-false (length a.s.now - a.to) 33 e.1)
 
 -- its first byte is written
-begun : (c : tie.Else1 invariant-loop decreases-loop) → let a = c.before.before.before.before.args in
+begun : (c : Else-to-s) → let a = c.args in
     Filling a.out.now (take a.to a.s.now) (set a.out.now 0 (get_or a.s.now 0 0)) 1 (bool_byte (ltb (get_or a.s.now 0 0) 0xC0)) (get_or a.s.now 0 0)
 begun c =
-    let u = c.before.before.before.before in
-    part-first u.args.s.now u.args.to (omega (arith, (far c).0)) u.requires.0 u.requires.1 u.requires.2 u.args.out.now u.requires.3
+    part-first c.args.s.now c.args.to (omega (arith, (far c).0)) c.requires.0 c.requires.1 c.requires.2 c.args.out.now c.requires.3
 
 pub slice_bounds-text-end : goal.slice_bounds-text-end
-slice_bounds-text-end c = c.before.before.before in omega (arith, length-take-le u.args.to u.args.s.now u.requires.0)
+slice_bounds-text-end c = omega (arith, length-take-le c.args.to c.args.s.now c.requires.0)
 
 pub put_each-requires : goal.put_each-requires
-put_each-requires c = c.requires in (bytes_tailed _ p.1, kept-room _ p.1 p.2 _ p.3)
+put_each-requires c = let p = c.requires in (bytes_tailed _ p.1, kept-room _ p.1 p.2 _ p.3)
 
 pub returns-then-to-s : goal.returns-then-to-s
-returns-then-to-s c = c.requires in wrote_as c.put_each.ensures (bytes-kept _ p.1 p.2)
+returns-then-to-s c = let p = c.requires in wrote_as c.put_each.ensures (bytes-kept _ p.1 p.2)
 
 pub bounds-s-0 : goal.bounds-s-0
-bounds-s-0 c = omega (arith, (far c.before).0)
+bounds-s-0 c = omega (arith, (far (goal.at.bounds-s-0 c).Else-to-s).0)
 
 pub bounds-out-0 : goal.bounds-out-0
 bounds-out-0 c =
     let s = take c.args.to c.args.s.now in
     let k = filling_none c.args.out.now s (bytes_tailed s c.requires.1) (kept-room s c.requires.1 c.requires.2 _ c.requires.3) in
-    omega (arith, filling_room k (omega (arith, (far c.before).0, length-take-le c.args.to c.args.s.now c.requires.0)), k.room)
+    omega (arith, filling_room k (omega (arith, (far (goal.at.bounds-out-0 c).Else-to-s).0, length-take-le c.args.to c.args.s.now c.requires.0)), k.room)
 
 pub loop-i-init : goal.loop-i-init
-loop-i-init c = (omega arith, omega (arith, (far c.before).0), filling_here (begun c.before))
+loop-i-init c = (omega arith, omega (arith, (far (goal.at.loop-i-init c).Else-to-s).0), filling_here (begun (goal.at.loop-i-init c).Else-to-s))
 
 pub put_pairs-n-requires : goal.put_pairs-n-requires
 put_pairs-n-requires c =
-    (omega arith, omega arith, omega arith, omega (arith, (far c.before.before.before.before.before).1), filling_here c.loop-i.invariant.2)
+    (omega arith, omega arith, omega arith, omega (arith, (far (goal.at.put_pairs-n-requires c).Else-to-s).1), filling_here c.loop-i.invariant.2)
 
 pub loop-i-preserved : goal.loop-i-preserved
 loop-i-preserved c = (omega arith, omega arith, filling_then c.loop-i.invariant.2 c.put_pairs-n.ensures)
@@ -69,9 +69,9 @@ put_last-requires c =
 
 pub shape_of-out : goal.shape_of-out
 shape_of-out c =
-    wrote-length (filling_wrote (filling_then (begun c.before.before.before.before.before.before.before) c.loop-i.invariant.2) c.put_last.ensures)
+    wrote-length (filling_wrote (filling_then (begun (goal.at.shape_of-out c).Else-to-s) c.loop-i.invariant.2) c.put_last.ensures)
 
 pub returns : goal.returns
 returns c =
     let p = c.requires in
-    wrote_as (filling_wrote (filling_then (begun c.before.before.before.before.before.before.before) c.loop-i.invariant.2) c.put_last.ensures) (bytes-kept _ p.1 p.2)
+    wrote_as (filling_wrote (filling_then (begun (goal.at.returns c).Else-to-s) c.loop-i.invariant.2) c.put_last.ensures) (bytes-kept _ p.1 p.2)

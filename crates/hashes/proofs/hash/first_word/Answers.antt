@@ -13,8 +13,7 @@ use Rattle.hashes.specs.TurnLaws.{word_bytes}
 use Rattle.hashes.proofs.hash.first_word.Goals as goal
 
 pub returns : goal.returns
-returns c = c.before.before.before.before.before.before in
-    let us : List ℕ = chain_units s.args.s.now s.args.chain.now s.args.depth in
+returns c = let us : List ℕ = chain_units c.args.s.now c.args.chain.now c.args.depth in
     let e : c.put_path_units.new.out ≡ unit_bytes (take 4 us) =
-    wrote-full c.put_path_units.ensures (window-size s.requires.0 0 4 (omega arith)) in
+    wrote-full c.put_path_units.ensures (window-size c.requires.0 0 4 (omega arith)) in
     c.le64.ensures ∙ ap (λ (l : List ℕ). le_at 8 l 0) e ∙ word_bytes us

@@ -26,7 +26,7 @@ pub loop-left-smaller : goal.loop-left-smaller
 loop-left-smaller c = omega (arith, c.at_once-count.ensures.2 c.loop-left-test.true)
 
 pub loop-left-preserved : goal.loop-left-preserved
-loop-left-preserved c = c.loop-left in
+loop-left-preserved c = let l = c.loop-left in
     let a = c.args in (
       omega arith,
       rw c.turns_from-t.ensures
@@ -35,7 +35,7 @@ loop-left-preserved c = c.loop-left in
     )
 
 pub returns : goal.returns
-returns c = c.loop-left in
+returns c = let l = c.loop-left in
     let a = c.args in
     let us : List ℕ = chain_units a.s.now a.chain.now a.depth in
     rw (

@@ -14,9 +14,8 @@ pub slice_bounds-city_hash64-end : goal.slice_bounds-city_hash64-end
 slice_bounds-city_hash64-end c = taken-length c.put_path_units-size.ensures
 
 pub returns : goal.returns
-returns c = c.before.before.before.before.before.before in
-    let a = s.args in
-    let n = chain_length a.s.now a.chain.now a.depth a.n s.requires.0.count in
+returns c = let a = c.args in
+    let n = chain_length a.s.now a.chain.now a.depth a.n c.requires.0.count in
     c.city_hash64.ensures
     ∙ ap city_hash64 (wrote-taken c.put_path_units-size.ensures
     ∙ ap unit_bytes (take_all a.n (chain_units a.s.now a.chain.now a.depth) (omega arith)))

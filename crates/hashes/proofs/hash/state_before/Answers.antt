@@ -12,10 +12,9 @@ use Rattle.hashes.specs.TurnLaws.{last-bytes}
 use Rattle.hashes.proofs.hash.state_before.Goals as goal
 
 pub returns : goal.returns
-returns c = c.before.before.before.before.before.before.before in
-    let n = s.args.n in
-    let us : List ℕ = chain_units s.args.s.now s.args.chain.now s.args.depth in
+returns c = let n = c.args.n in
+    let us : List ℕ = chain_units c.args.s.now c.args.chain.now c.args.depth in
     let e : c.put_path_units.new.out ≡ take 64 (drop (2 * n - 64) (unit_bytes us)) =
-    wrote-full c.put_path_units.ensures (window-size s.requires.0 (n - 32) 32 (omega arith))
+    wrote-full c.put_path_units.ensures (window-size c.requires.0 (n - 32) 32 (omega arith))
     ∙ last-bytes us n (omega arith) in
     c.first_state.ensures ∙ rw (e, c.first_word-first.ensures)

@@ -15,11 +15,10 @@ pub slice_bounds-turns_over-end : goal.slice_bounds-turns_over-end
 slice_bounds-turns_over-end c = taken-length c.put_path_units-size.ensures
 
 pub turns_over-requires : goal.turns_over-requires
-turns_over-requires c = c.before.before.before.before.before in
-    let w = c.put_path_units-size.ensures in
-    omega (arith, taken-length w, w.size, window-size s.requires.0 s.args.from (32 * s.args.count) (omega arith))
+turns_over-requires c = let w = c.put_path_units-size.ensures in
+    omega (arith, taken-length w, w.size, window-size c.requires.0 c.args.from (32 * c.args.count) (omega arith))
 
 pub returns : goal.returns
-returns c = c.args in
+returns c = let a = c.args in
     c.turns_over.ensures ∙ ap (λ (l : List ℕ). turns a.count l a.t) (wrote-taken c.put_path_units-size.ensures)
     ∙ turns-window a.count a.from (chain_units a.s.now a.chain.now a.depth) a.t

@@ -20,10 +20,10 @@ pub one_turn-u-requires : goal.one_turn-u-requires
 one_turn-u-requires c = simp (length-take, length-drop) (omega arith)
 
 pub loop-left-preserved : goal.loop-left-preserved
-loop-left-preserved c = c.loop-left in
+loop-left-preserved c = let l = c.loop-left in
     let s = c.args.window.now in
     (omega arith, cc (turns_at l.left s l.at l.u c.loop-left-test.true, turn-front (drop l.at s) l.u, rest s l.at))
 
 pub returns : goal.returns
-returns c = c.loop-left in
+returns c = let l = c.loop-left in
     cc (turns_end l.left (drop l.at c.args.window.now) l.u c.loop-left-test.false)

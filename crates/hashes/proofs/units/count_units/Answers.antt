@@ -14,7 +14,7 @@ pub loop-k-init : goal.loop-k-init
 loop-k-init c = (omega arith, omega arith, λ b y d. sym (ap length (pieces_none b c.args.chain.now)))
 
 pub loop-k-preserved : goal.loop-k-preserved
-loop-k-preserved c = c.loop-k in
+loop-k-preserved c = let l = c.loop-k in
     let a = c.args in (
       omega arith,
       omega arith,
@@ -24,7 +24,7 @@ loop-k-preserved c = c.loop-k in
     )
 
 pub returns : goal.returns
-returns c = c.loop-k in
+returns c = let l = c.loop-k in
     let a = c.args in
     let e : l.k ≡ a.depth = omega arith in
     (λ b y d. l.invariant.2 b y d ∙ ap (λ (n : ℕ). length (pieces b a.chain.now n)) e, omega arith)

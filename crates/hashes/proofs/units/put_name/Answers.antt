@@ -12,8 +12,7 @@ pub slice_bounds-put_units-end : goal.slice_bounds-put_units-end
 slice_bounds-put_units-end c = taken-length c.put_suffix-k.ensures
 
 pub put_units-requires : goal.put_units-requires
-put_units-requires c = c.before.before.before.before.before.before.before.before in
-    rw (c.part_of.ensures, wrote-taken c.put_suffix-k.ensures) (s.requires.0.well, s.requires.1, s.requires.2)
+put_units-requires c = rw (c.part_of.ensures, wrote-taken c.put_suffix-k.ensures) (c.requires.0.well, c.requires.1, c.requires.2)
 
 pub returns : goal.returns
 returns c =

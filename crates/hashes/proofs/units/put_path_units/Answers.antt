@@ -14,7 +14,7 @@ use Rattle.hashes.specs.SlashLaws.{slashed-wrote}
 use Rattle.hashes.proofs.units.put_path_units.Goals as goal
 
 pub returns : goal.returns
-returns c = c.args in
+returns c = let a = c.args in
     let us : List ℕ = take a.n (drop (a.from + 1) (pieces a.s.now a.chain.now a.depth)) in
     let n = length-take-le a.n (drop (a.from + 1) (pieces a.s.now a.chain.now a.depth)) (simp length-drop (omega arith)) in
     wrote_as (slashed-wrote us c.put_pieces-size.ensures n c.slash_units.ensures)

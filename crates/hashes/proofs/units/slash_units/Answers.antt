@@ -16,7 +16,7 @@ pub bounds-out-at-in-loop-left-3 : goal.bounds-out-at-in-loop-left-3
 bounds-out-at-in-loop-left-3 c = simp length-set (omega arith)
 
 pub loop-left-preserved : goal.loop-left-preserved
-loop-left-preserved c = c.loop-left in
+loop-left-preserved c = let l = c.loop-left in
     let e : suc (l.left - 1) ≡ l.left = omega arith in (
       simp length-set (omega arith),
       simp length-set (omega arith),
@@ -25,4 +25,4 @@ loop-left-preserved c = c.loop-left in
     )
 
 pub returns : goal.returns
-returns c = c.loop-left in sym (slash_end l.out l.at l.left c.loop-left-test.false) ∙ l.invariant.2
+returns c = let l = c.loop-left in sym (slash_end l.out l.at l.left c.loop-left-test.false) ∙ l.invariant.2

@@ -8,16 +8,16 @@ use Rattle.header.proofs.Rooms.{within}
 use Rattle.header.proofs.call.put_summary.Goals as goal
 
 pub overflow_cast-hashes : goal.overflow_cast-hashes
-overflow_cast-hashes c = c.before.before.before in omega (arith, (within u.args.s.now u.requires.0 u.args.g u.requires.1).hashes)
+overflow_cast-hashes c = omega (arith, (within c.args.s.now c.requires.0 c.args.g c.requires.1).hashes)
 
 pub overflow_cast-exports : goal.overflow_cast-exports
-overflow_cast-exports c = c.before.before.before.before in omega (arith, (within u.args.s.now u.requires.0 u.args.g u.requires.1).exports)
+overflow_cast-exports c = omega (arith, (within c.args.s.now c.requires.0 c.args.g c.requires.1).exports)
 
 pub overflow_cast-imported : goal.overflow_cast-imported
-overflow_cast-imported c = c.before.before.before.before.before in omega (arith, (within u.args.s.now u.requires.0 u.args.g u.requires.1).imported)
+overflow_cast-imported c = omega (arith, (within c.args.s.now c.requires.0 c.args.g c.requires.1).imported)
 
 pub overflow_cast-numbers : goal.overflow_cast-numbers
-overflow_cast-numbers c = c.before.before.before.before.before.before in omega (arith, (within u.args.s.now u.requires.0 u.args.g u.requires.1).size)
+overflow_cast-numbers c = omega (arith, (within c.args.s.now c.requires.0 c.args.g c.requires.1).size)
 
 pub be32-requires : goal.be32-requires
 be32-requires c = omega (arith, c.requires.0.front)

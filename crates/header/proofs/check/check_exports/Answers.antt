@@ -24,4 +24,4 @@ loop-left-preserved c =
     (omega arith, l.invariant.1 ∙ named-pass _ _ l.at l.left _ (omega arith) c.size_at.ensures.0 c.if-count-size_at.false)
 
 pub returns : goal.returns
-returns c = c.loop-left in sym (l.invariant.1 ∙ named_none _ _ l.at l.left (omega arith))
+returns c = let l = c.loop-left in sym (l.invariant.1 ∙ named_none _ _ l.at l.left (omega arith))

@@ -18,10 +18,10 @@ pub overflow_add-imported : goal.overflow_add-imported
 overflow_add-imported c = omega (arith, batch-most _ _ c.requires.strings)
 
 pub overflow_add-size : goal.overflow_add-size
-overflow_add-size c = c.requires in omega (arith, batch-most _ _ p.strings, batch-most _ _ p.spelt)
+overflow_add-size c = let p = c.requires in omega (arith, batch-most _ _ p.strings, batch-most _ _ p.spelt)
 
 pub overflow_add-size-2 : goal.overflow_add-size-2
-overflow_add-size-2 c = c.requires in omega (arith, batch-most _ _ p.strings, batch-most _ _ p.spelt)
+overflow_add-size-2 c = let p = c.requires in omega (arith, batch-most _ _ p.strings, batch-most _ _ p.spelt)
 
 pub returns : goal.returns
 unfolding regions_of

@@ -7,19 +7,20 @@ use borrow.Author.Rules.{rules}
 use Rattle.header.specs.declared.check.Sized.TheVariants.{To}
 use Rattle.header.specs.Parts.{sized_text, sized_texts}
 use Rattle.header.specs.PartsLaws.{sized-to, text_bound, turn-none, turn-bad, turn_more}
+use Rattle.header.proofs.check.sized_texts.Goals.{In-To}
 use Rattle.header.proofs.check.sized_texts.Goals as goal
 
 -- what a turn passes
-passed : (c : tie.After-known-told invariant-loop decreases-loop)
-    → let l = c.before.before.before.before.before.loop in
-    let u = c.before.before.before.before.before.before.before.args in
-    sized_text u.more u.s.now l.at ≡ To c.before.next.given.0.0 c.before.next.given.0.1.0
-passed c = sym c.before.before.before.sized-text.ensures ∙ c.before.next.given.1
+passed : (c : In-To)
+    → let l = c.loop-left in
+    let u = c.args in
+    sized_text u.more u.s.now l.at ≡ To c.next-1.given.0.0 c.next-1.given.0.1.0
+passed c = sym c.sized_text.ensures ∙ c.next-1.given.1
 
-small : (c : tie.After-known-told invariant-loop decreases-loop) → c.before.next.given.0.1.0 ≤ 65534
+small : (c : In-To) → c.next-1.given.0.1.0 ≤ 65534
 small c =
-    let l = c.before.before.before.before.before.loop in
-    let u = c.before.before.before.before.before.before.before.args in
+    let l = c.loop-left in
+    let u = c.args in
     let (f, p, q) = sized-to u.more u.s.now l.at (passed c) in
     omega (arith, text_bound u.more u.s.now l.at f)
 
@@ -30,17 +31,17 @@ pub sized_text-requires : goal.sized_text-requires
 sized_text-requires c = (search rules, search rules)
 
 pub overflow_add-size : goal.overflow_add-size
-overflow_add-size c = omega (arith, small c)
+overflow_add-size c = omega (arith, small (goal.at.overflow_add-size c).In-To)
 
 pub loop-left-preserved : goal.loop-left-preserved
 loop-left-preserved c =
     let l = c.loop-left in
     let u = c.args in
-    let (f, p, q) = sized-to u.more u.s.now l.at (passed c) in (
+    let (f, p, q) = sized-to u.more u.s.now l.at (passed (goal.at.loop-left-preserved c).In-To) in (
       omega (arith, f.next),
       omega arith,
-      omega (arith, small c),
-      turn_more u.more u.s.now l.size l.at l.left (search rules) (passed c) ∙ l.invariant.3,
+      omega (arith, small (goal.at.loop-left-preserved c).In-To),
+      turn_more u.more u.s.now l.size l.at l.left (search rules) (passed (goal.at.loop-left-preserved c).In-To) ∙ l.invariant.3,
     )
 
 pub returns-in-Bad : goal.returns-in-Bad

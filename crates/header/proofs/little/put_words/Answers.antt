@@ -12,23 +12,24 @@ use Rattle.base.specs.Number.{le_bytes}
 use Rattle.base.specs.NumberLaws.{length-le_bytes}
 use Rattle.base.specs.OutputLaws.{wrote-length}
 use Rattle.decode.specs.WriteLaws.{Partly, partly_none, partly_all, partly_room, partly_next}
+use Rattle.header.proofs.little.put_words.Goals.{In-loop-i}
 use Rattle.header.proofs.little.put_words.Invariants.{left}
 use Rattle.header.proofs.little.put_words.Goals as goal
 
 next : (words : List ℕ) (i : ℕ) → i < length words → left words i ≡ le_bytes 4 (get_or words i 0) ++ left words (i + 1)
 next words i h = rw (drop-cons words i 0 h, add-one)
 
-fits : (c : tie.In-loop invariant-loop decreases-loop) → c.before.loop.n ≤ length c.before.loop.out
-fits c = omega (arith, c.before.loop.invariant.2.wrote.fits)
+fits : (c : In-loop-i) → c.loop-i.n ≤ length c.loop-i.out
+fits c = omega (arith, c.loop-i.invariant.2.wrote.fits)
 
 pub loop-i-init : goal.loop-i-init
 loop-i-init c = (omega arith, refl, partly_none _ _)
 
 pub slice_bounds-put_le32-count : goal.slice_bounds-put_le32-count
-slice_bounds-put_le32-count c = fits c
+slice_bounds-put_le32-count c = fits (goal.at.slice_bounds-put_le32-count c).In-loop-i
 
 pub slice_bounds-put_le32-start : goal.slice_bounds-put_le32-start
-slice_bounds-put_le32-start c = fits c
+slice_bounds-put_le32-start c = fits (goal.at.slice_bounds-put_le32-start c).In-loop-i
 
 pub put_le32-n-requires : goal.put_le32-n-requires
 put_le32-n-requires c =

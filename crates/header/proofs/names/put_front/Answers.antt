@@ -8,7 +8,7 @@ use Rattle.header.specs.Parts.{front_bytes}
 use Rattle.header.proofs.names.put_front.Goals as goal
 
 pub put_le32-requires : goal.put_le32-requires
-put_le32-requires c = c.put_le32-a.ensures in wrote-room w 4 (omega (arith, w.size ∙ length-le_bytes 4 _))
+put_le32-requires c = let w = c.put_le32-a.ensures in wrote-room w 4 (omega (arith, w.size ∙ length-le_bytes 4 _))
 
 pub put_le64-requires : goal.put_le64-requires
 put_le64-requires c =

@@ -8,17 +8,18 @@ use borrow.Author.Rules.{rules}
 use Rattle.base.specs.OutputLaws.{wrote_as}
 use Rattle.decode.specs.Measure.{text_of, fits_latin1}
 use Rattle.header.specs.WritingLaws.{string_latin, string_wide, plain-room, plain-put}
+use Rattle.header.proofs.names.put_string.Goals.{Else-is_latin1, Then-is_latin1}
 use Rattle.header.proofs.names.put_string.Goals as goal
 
 -- what the second test says
-latin : (c : tie.Then2) → let a = c.before.before.before.before.before.before.before.args in fits_latin1 (text_of (take a.to a.s.now)) ≡ true
-latin c = sym c.before.is-latin1.ensures ∙ c.if2.true
+latin : (c : Then-is_latin1) → let a = c.args in fits_latin1 (text_of (take a.to a.s.now)) ≡ true
+latin c = sym c.is_latin1.ensures ∙ c.if-is_latin1.true
 
-wide : (c : tie.Else2) → let a = c.before.before.before.before.before.before.before.args in fits_latin1 (text_of (take a.to a.s.now)) ≡ false
-wide c = sym c.before.is-latin1.ensures ∙ c.if2.false
+wide : (c : Else-is_latin1) → let a = c.args in fits_latin1 (text_of (take a.to a.s.now)) ≡ false
+wide c = sym c.is_latin1.ensures ∙ c.if-is_latin1.false
 
 pub slice_bounds-text-end : goal.slice_bounds-text-end
-slice_bounds-text-end c = c.before.before.before in omega (arith, length-take-le u.args.to u.args.s.now u.requires.0)
+slice_bounds-text-end c = omega (arith, length-take-le c.args.to c.args.s.now c.requires.0)
 
 pub put_plain-requires : goal.put_plain-requires
 put_plain-requires c =
@@ -31,19 +32,19 @@ returns-then-is_plain c =
 
 pub put_latin1-size-requires : goal.put_latin1-size-requires
 put_latin1-size-requires c =
-    let l = latin c.before in
+    let l = latin (goal.at.put_latin1-size-requires c).Then-is_latin1 in
     (c.requires.0, c.requires.1, l, omega (arith, c.requires.2, ap length (string_latin (text_of (take c.args.to c.args.s.now)) l)))
 
 pub returns-then-is_latin1 : goal.returns-then-is_latin1
 returns-then-is_latin1 c =
-    let l = latin c.before.before.before.before in
+    let l = latin (goal.at.returns-then-is_latin1 c).Then-is_latin1 in
     (wrote_as c.put_latin1-size.ensures (sym (string_latin _ l)), sym l)
 
 pub put_utf16le-size-requires : goal.put_utf16le-size-requires
 put_utf16le-size-requires c =
-    (c.requires.1, omega (arith, c.requires.2, ap length (string_wide (text_of (take c.args.to c.args.s.now)) (wide c.before))))
+    (c.requires.1, omega (arith, c.requires.2, ap length (string_wide (text_of (take c.args.to c.args.s.now)) (wide (goal.at.put_utf16le-size-requires c).Else-is_latin1))))
 
 pub returns : goal.returns
 returns c =
-    let l = wide c.before.before.before.before in
+    let l = wide (goal.at.returns c).Else-is_latin1 in
     (wrote_as c.put_utf16le-size.ensures (sym (string_wide _ l)), sym l)

@@ -9,22 +9,21 @@ use Rattle.header.specs.Places.{text_at, texts_from}
 use Rattle.header.specs.PartsLaws.{Fitting}
 use Rattle.header.specs.TextLoops.{texts-count}
 use Rattle.header.specs.LaidLaws.{Upto, heads-room, upto_none, upto_all, upto_first, upto_room, upto_next}
+use Rattle.header.proofs.names.put_texts.Goals.{In-loop-i}
 use Rattle.header.proofs.names.put_texts.Goals as goal
 
 -- the text at hand, and room for it
-first : (c : tie.In-loop invariant-loop decreases-loop) → Fitting c.before.before.before.before.args.more c.before.before.before.before.args.s.now
-    c.before.loop.at
+first : (c : In-loop-i) → Fitting c.args.more c.args.s.now
+    c.loop-i.at
 first c =
-    let u = c.before.before.before.before in
-    let a = u.args in
-    upto_first a.more a.s.now a.from a.count a.out.now u.requires.1 c.before.loop.invariant (search rules)
+    let a = c.args in
+    upto_first a.more a.s.now a.from a.count a.out.now c.requires.1 c.loop-i.invariant (search rules)
 
-room : (c : tie.In-loop invariant-loop decreases-loop) → let a = c.before.before.before.before.args in let l = c.before.loop in
+room : (c : In-loop-i) → let a = c.args in let l = c.loop-i in
     (2 * l.i + 2 ≤ l.n) × (l.n + length (string_bytes (text_at a.s.now l.at)) ≤ length a.out.now)
 room c =
-    let u = c.before.before.before.before in
-    let a = u.args in
-    upto_room a.more a.s.now a.from a.count a.out.now u.requires.1 c.before.loop.invariant (search rules)
+    let a = c.args in
+    upto_room a.more a.s.now a.from a.count a.out.now c.requires.1 c.loop-i.invariant (search rules)
 
 pub overflow_mul-n : goal.overflow_mul-n
 overflow_mul-n c =
@@ -37,19 +36,19 @@ loop-i-init c =
     upto_none a.more a.s.now a.from a.count a.out.now c.requires.1 c.requires.0
 
 pub overflow_mul-i : goal.overflow_mul-i
-overflow_mul-i c = omega (arith, (room c.before).0, (room c.before).1)
+overflow_mul-i c = omega (arith, (room (goal.at.overflow_mul-i c).In-loop-i).0, (room (goal.at.overflow_mul-i c).In-loop-i).1)
 
 pub put_text-n-requires : goal.put_text-n-requires
 put_text-n-requires c =
-    let f = first l in
-    (f.there, omega (arith, f.next), f.well, f.units, (room l).0, omega (arith, (room l).1, wrote-length c.loop-i.invariant.between.wrote))
+    let f = first (goal.at.put_text-n-requires c).In-loop-i in
+    (f.there, omega (arith, f.next), f.well, f.units, (room (goal.at.put_text-n-requires c).In-loop-i).0, omega (arith, (room (goal.at.put_text-n-requires c).In-loop-i).1, wrote-length c.loop-i.invariant.between.wrote))
 
 pub overflow_add-n : goal.overflow_add-n
 overflow_add-n c =
-    omega (arith, (room p.before.before).1, c.put_text-n.ensures.0)
+    omega (arith, (room (goal.at.overflow_add-n c).In-loop-i).1, c.put_text-n.ensures.0)
 
 pub next_text-at-requires : goal.next_text-at-requires
-next_text-at-requires c = first c.before.before.before.before in record { there = f.there; next = f.next }
+next_text-at-requires c = let f = first (goal.at.next_text-at-requires c).In-loop-i in record { there = f.there; next = f.next }
 
 pub loop-i-preserved : goal.loop-i-preserved
 loop-i-preserved c =

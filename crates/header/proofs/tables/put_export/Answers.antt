@@ -10,8 +10,8 @@ use Rattle.header.proofs.tables.put_export.Goals as goal
 
 pub put_longs-requires : goal.put_longs-requires
 unfolding le_bytes
-put_longs-requires c = c.before.before.before.before.before.before.before.before.before.before in omega
-    (arith, u.requires.1, length-export (export_in u.args.s.now u.args.at))
+put_longs-requires c = omega
+    (arith, c.requires.1, length-export (export_in c.args.s.now c.args.at))
 
 pub returns : goal.returns
 returns c =

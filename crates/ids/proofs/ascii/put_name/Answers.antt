@@ -12,24 +12,24 @@ use Rattle.text.specs.Name.{base}
 use Rattle.ids.specs.LoweredUnits.{name_units}
 use Rattle.ids.proofs.NameUnits.{name-length}
 use Rattle.ids.proofs.AsciiUnits.{ascii-name}
+use Rattle.ids.proofs.ascii.put_name.Goals.{After-shared_slice_known-1}
 use Rattle.ids.proofs.ascii.put_name.Goals as goal
 
 -- how many units the name has
-count : (k : tie.After-shared-slice-known)
-    → length (name_units (base true k.before.before.args.part.now) k.before.before.args.suffix.now)
-    ≡ length (units_of true k.before.before.args.part.now) + length k.before.before.args.suffix.now
+count : (k : After-shared_slice_known-1)
+    → length (name_units (base true k.args.part.now) k.args.suffix.now)
+    ≡ length (units_of true k.args.part.now) + length k.args.suffix.now
 count k =
-    let s = k.before.before in
-    name-length true s.args.part.now (λ j. (k.shared-slice-known.given j).fits) s.requires.0 s.args.suffix.now
+    name-length true k.args.part.now (λ j. (k.shared_slice_known-1.given j).fits) k.requires.0 k.args.suffix.now
 
 pub put_lowered-requires : goal.put_lowered-requires
-put_lowered-requires c = (c.unit_count-k.ensures, omega (arith, count c.before.before.before))
+put_lowered-requires c = (c.unit_count-k.ensures, omega (arith, count (goal.at.put_lowered-requires c).After-shared_slice_known-1))
 
 pub returns-then-put_lowered-gt127 : goal.returns-then-put_lowered-gt127
 returns-then-put_lowered-gt127 c = λ e. never (cc)
 
 pub put_number-requires : goal.put_number-requires
-put_number-requires c = wrote-room c.put_lowered.ensures.1 (length c.args.suffix.now) (omega (arith, count c.before.before.before.before.before.before.before.before))
+put_number-requires c = wrote-room c.put_lowered.ensures.1 (length c.args.suffix.now) (omega (arith, count (goal.at.put_number-requires c).After-shared_slice_known-1))
 
 pub returns : goal.returns
 returns c =
@@ -39,4 +39,4 @@ returns c =
     wrote_count
     (wrote_as (wrote-rest p.1 c.put_number.ensures)
     (ascii-name a.part.now (λ j. (c.shared_slice_known-1.given j).fits) c.requires.0 (p.0 (omega arith)) a.suffix.now))
-    (omega (arith, count k))
+    (omega (arith, count (goal.at.returns c).After-shared_slice_known-1))

@@ -10,15 +10,15 @@ use Rattle.text.specs.Name.{base}
 use Rattle.city.specs.City.{city_hash64}
 use Rattle.ids.specs.LoweredUnits.{name_units}
 use Rattle.ids.proofs.NameUnits.{wrote-all}
+use Rattle.ids.proofs.id.chunk_hash.Goals.{After-put_units-size}
 use Rattle.ids.proofs.id.chunk_hash.Goals as goal
 
 -- the bytes of all units are in front of the chunk
-written : (c : tie.After-put-units)
-    → take c.put-units.result c.put-units.new.0
-    ≡ unit_bytes (name_units (base true c.before.before.before.before.args.part.now) c.before.before.before.before.args.suffix.now)
+written : (c : After-put_units-size)
+    → take c.put_units-size.result c.put_units-size.new.out
+    ≡ unit_bytes (name_units (base true c.args.part.now) c.args.suffix.now)
 written c =
-    let s = c.before.before.before.before in
-    wrote-all (name_units (base true s.args.part.now) s.args.suffix.now) s.args.n c.put-units.ensures (omega arith)
+    wrote-all (name_units (base true c.args.part.now) c.args.suffix.now) c.args.n c.put_units-size.ensures (omega arith)
 
 pub slice_bounds-hash_len0to32-end : goal.slice_bounds-hash_len0to32-end
 slice_bounds-hash_len0to32-end c = taken-length c.put_units-size.ensures
@@ -27,7 +27,7 @@ pub hash_len0to32-requires : goal.hash_len0to32-requires
 hash_len0to32-requires c = omega (arith, taken-length c.put_units-size.ensures)
 
 pub returns-then-size-le32 : goal.returns-then-size-le32
-returns-then-size-le32 c = c.hash_len0to32.ensures ∙ ap city_hash64 (written c.before.before.before.before)
+returns-then-size-le32 c = c.hash_len0to32.ensures ∙ ap city_hash64 (written (goal.at.returns-then-size-le32 c).After-put_units-size)
 
 pub slice_bounds-hash_len33up-end : goal.slice_bounds-hash_len33up-end
 slice_bounds-hash_len33up-end c = taken-length c.put_units-size.ensures
@@ -36,4 +36,4 @@ pub hash_len33up-requires : goal.hash_len33up-requires
 hash_len33up-requires c = omega (arith, taken-length c.put_units-size.ensures)
 
 pub returns : goal.returns
-returns c = c.hash_len33up.ensures ∙ ap city_hash64 (written c.before.before.before.before)
+returns c = c.hash_len33up.ensures ∙ ap city_hash64 (written (goal.at.returns c).After-put_units-size)

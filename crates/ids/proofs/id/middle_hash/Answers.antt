@@ -12,15 +12,16 @@ use Rattle.lower.specs.Lower.{lowered}
 use Rattle.city.specs.City.{city_hash64}
 use Rattle.ids.specs.LowerLaws.{lowered-length}
 use Rattle.ids.proofs.ShortUnits.{narrow-length}
+use Rattle.ids.proofs.id.middle_hash.Goals.{After-put_end}
 use Rattle.ids.proofs.id.middle_hash.Goals as goal
 
 -- the bytes of all units are in front of the chunk
-written : (c : tie.After-put-end)
-    → take (2 * c.before.before.before.before.before.before.before.args.n) c.put-end.new.0
-    ≡ unit_bytes (lowered c.before.before.before.before.before.before.before.args.part.now ++ c.before.before.before.before.before.before.before.args.suffix.now)
+written : (c : After-put_end)
+    → take (2 * c.args.n) c.put_end.new.out
+    ≡ unit_bytes (lowered c.args.part.now ++ c.args.suffix.now)
 written c =
-    let a = c.before.before.before.before.before.before.before.args in
-    wrote-taken c.put-end.ensures
+    let a = c.args in
+    wrote-taken c.put_end.ensures
     ∙ ap unit_bytes (take_all a.n (lowered a.part.now ++ a.suffix.now) (omega (arith, narrow-length a.part.now a.suffix.now)))
 
 pub put_end-requires : goal.put_end-requires
@@ -41,4 +42,4 @@ pub hash_len33up-requires : goal.hash_len33up-requires
 hash_len33up-requires c = omega (arith, taken-length c.put_end.ensures)
 
 pub returns : goal.returns
-returns c = c.hash_len33up.ensures ∙ ap city_hash64 (written c.before.before.before)
+returns c = c.hash_len33up.ensures ∙ ap city_hash64 (written (goal.at.returns c).After-put_end)

@@ -9,7 +9,7 @@ use Rattle.ids.specs.LowerLaws.{low-lowered}
 use Rattle.ids.proofs.lowered.lower_trailing.Goals as goal
 
 pub overflow_sub-result : goal.overflow_sub-result
-overflow_sub-result c = c.args in rw c.lower_pair.ensures (lower_double (of_pair a.before a.u) (omega arith)).0
+overflow_sub-result c = let a = c.args in rw c.lower_pair.ensures (lower_double (of_pair a.before a.u) (omega arith)).0
 
 pub returns : goal.returns
 returns c =

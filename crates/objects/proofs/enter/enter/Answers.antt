@@ -21,13 +21,13 @@ loop-i-init c =
     (omega arith, fault-first a.b.now a.l, rw c.clear.ensures (entered-none a.b.now a.l a.w.now c.requires.w_len.0 (omega arith)))
 
 pub overflow_mul-i : goal.overflow_mul-i
-overflow_mul-i c = c.before.before.before.before.before.before.before.before in omega (arith, open_fits s.args.b.now s.requires.0.0)
+overflow_mul-i c = omega (arith, open_fits c.args.b.now c.requires.b_value.0)
 
 pub overflow_add-l : goal.overflow_add-l
-overflow_add-l c = c.before.before.before.before.before.before.before.before.before in omega (arith, open_fits s.args.b.now s.requires.0.0)
+overflow_add-l c = omega (arith, open_fits c.args.b.now c.requires.b_value.0)
 
 pub entry_in-e-requires : goal.entry_in-e-requires
-entry_in-e-requires c = c.before.before.before.before.before.before.before.before.before in omega (arith, open_fits s.args.b.now s.requires.0.0)
+entry_in-e-requires c = omega (arith, open_fits c.args.b.now c.requires.b_value.0)
 
 pub shape_of-w-then-fault-ne0 : goal.shape_of-w-then-fault-ne0
 shape_of-w-then-fault-ne0 c = omega (arith, c.loop-i.invariant.2.size)

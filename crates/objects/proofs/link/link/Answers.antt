@@ -15,19 +15,19 @@ pub loop-i-init : goal.loop-i-init
 loop-i-init c = (omega arith, c.requires.1, λ q o read j m. absurd (omega arith))
 
 pub overflow_mul-i : goal.overflow_mul-i
-overflow_mul-i c = c.before.before.before.before.before in omega (arith, entries-there s.args.b.now s.args.l s.requires.0)
+overflow_mul-i c = omega (arith, entries-there c.args.b.now c.args.l c.requires.0)
 
 pub overflow_add-l : goal.overflow_add-l
-overflow_add-l c = c.before.before.before.before.before.before in omega (arith, entries-there s.args.b.now s.args.l s.requires.0)
+overflow_add-l c = omega (arith, entries-there c.args.b.now c.args.l c.requires.0)
 
 pub overflow_add-l-in-loop-i : goal.overflow_add-l-in-loop-i
-overflow_add-l-in-loop-i c = c.before.before.before.before.before.before in omega (arith, entries-there s.args.b.now s.args.l s.requires.0)
+overflow_add-l-in-loop-i c = omega (arith, entries-there c.args.b.now c.args.l c.requires.0)
 
 pub le64-requires : goal.le64-requires
-le64-requires c = c.before.before.before.before.before.before in omega (arith, entries-there s.args.b.now s.args.l s.requires.0)
+le64-requires c = omega (arith, entries-there c.args.b.now c.args.l c.requires.0)
 
 pub link_of-k-requires : goal.link_of-k-requires
-link_of-k-requires c = c.before.before.before.before.before.before.before in all-keyed s.args.b.now s.args.l s.requires.0 c.loop-i.invariant.1
+link_of-k-requires c = all-keyed c.args.b.now c.args.l c.requires.0 c.loop-i.invariant.1
 
 pub record_at-requires : goal.record_at-requires
 record_at-requires c = omega (arith, c.loop-i.invariant.1.size)

@@ -3,7 +3,7 @@ use borrow.Author.Rules.{rules}
 use Rattle.objects.proofs.path.put_name.Goals as goal
 
 pub put_place-requires : goal.put_place-requires
-put_place-requires c = c.before.before.before.before in rw c.place_of.ensures (s.requires.0, s.requires.1)
+put_place-requires c = rw c.place_of.ensures (c.requires.0, c.requires.1)
 
 pub returns : goal.returns
 returns c = rw c.place_of.ensures at c.put_place.ensures

@@ -15,6 +15,7 @@ use Rattle.objects.specs.ToldLaws.{written_none, written-first}
 use Rattle.objects.specs.Work.{Stands}
 use Rattle.objects.specs.PutLaws.{stands-holds, stands-top, up-stands, up_room, up-lost, up-wrote, up-deep, up_next, up_more}
 use Rattle.objects.specs.declared.path.Path.TheVariants.{Known}
+use Rattle.objects.proofs.path.put_two.Goals.{After-put_name-at}
 use Rattle.objects.proofs.path.put_two.Goals as goal
 
 -- more than one object may come
@@ -22,30 +23,28 @@ more : (n : ℕ) → (n ≡ 0 → ⊥) → (n ≡ 1 → ⊥) → n - 1 ≡ 0 →
 more n a b z = omega arith
 
 -- the outer's path is written
-first : (c : tie.After-put-name) (q : Objects) (w : List ℕ) (j : ℕ) → Stands c.before.before.before.before.before.args.b.now q w j c.before.before.before.before.before.args.v
-    → length (path_bytes (path_no (c.before.before.before.before.before.args.limit - 1) q j)) ≤ length c.before.before.before.before.before.args.out.now
+first : (c : After-put_name-at) (q : Objects) (w : List ℕ) (j : ℕ) → Stands c.args.b.now q w j c.args.v
+    → length (path_bytes (path_no (c.args.limit - 1) q j)) ≤ length c.args.out.now
     → Written
-    (path_no (c.before.before.before.before.before.args.limit - 1) q j)
-    c.before.before.before.before.before.args.out.now
-    c.put-name.new.0
-    (Known c.put-name.result 1)
+    (path_no (c.args.limit - 1) q j)
+    c.args.out.now
+    c.put_name-at.new.out
+    (Known c.put_name-at.result 1)
 first c q w j st room =
-    let s = c.before.before.before.before.before in
-    written-first (stands-top st (s.args.limit - 1) (more s.args.limit s.requires.read.some c.before.before.if1.false) s.requires.top) c.put-name.ensures
+    written-first (stands-top st (c.args.limit - 1) (more c.args.limit c.requires.read.some c.if-limit-eq1.false) c.requires.top) c.put_name-at.ensures
 
-outer-wrote : (c : tie.After-put-name)
+outer-wrote : (c : After-put_name-at)
     → Wrote
-    c.before.before.before.before.before.args.out.now
+    c.args.out.now
     (path_bytes (path_no
-    (c.before.before.before.before.before.args.limit - 1)
-    c.before.before.before.before.before.requires.objects
-    (c.before.before.before.before.before.args.u.outer - 2)))
-    c.put-name.new.0
-    c.put-name.result
+    (c.args.limit - 1)
+    c.requires.objects
+    (c.args.u.outer - 2)))
+    c.put_name-at.new.out
+    c.put_name-at.result
 outer-wrote c =
-    let s = c.before.before.before.before.before in
-    let r = s.requires in
-    up-wrote r.stands r.read s.args.out.now r.room (λ q j. first c q r.work j) _ 1 refl
+    let r = c.requires in
+    up-wrote r.stands r.read c.args.out.now r.room (λ q j. first c q r.work j) _ 1 refl
 
 pub returns-then-limit-eq1 : goal.returns-then-limit-eq1
 returns-then-limit-eq1 c = λ o w i st a room.
@@ -59,24 +58,24 @@ put_name-at-requires c =
     (stands-holds v (λ j. (c.shared_slice_known-1.given j).fits), rw e at (up_room r.stands r.read c.args.out.now r.room))
 
 pub slice_bounds-put_next-count : goal.slice_bounds-put_next-count
-slice_bounds-put_next-count c = outer-wrote c.before.before in omega (arith, w.fits, wrote-length w)
+slice_bounds-put_next-count c = let w = outer-wrote (goal.at.slice_bounds-put_next-count c).After-put_name-at in omega (arith, w.fits, wrote-length w)
 
 pub slice_bounds-put_next-start : goal.slice_bounds-put_next-start
-slice_bounds-put_next-start c = outer-wrote c.before.before in omega (arith, w.fits, wrote-length w)
+slice_bounds-put_next-start c = let w = outer-wrote (goal.at.slice_bounds-put_next-start c).After-put_name-at in omega (arith, w.fits, wrote-length w)
 
 pub put_next-n-requires : goal.put_next-n-requires
 put_next-n-requires c =
     let r = c.requires in
-    let d = up-deep r.stands r.read c.args.out.now r.room (λ q j. first p q r.work j) _ 1 refl in
-    let n = up_next r.stands r.read c.args.out.now r.room (λ q j. first p q r.work j) _ 1 refl in
+    let d = up-deep r.stands r.read c.args.out.now r.room (λ q j. first (goal.at.put_next-n-requires c).After-put_name-at q r.work j) _ 1 refl in
+    let n = up_next r.stands r.read c.args.out.now r.room (λ q j. first (goal.at.put_next-n-requires c).After-put_name-at q r.work j) _ 1 refl in
     ((stands-holds r.stands (λ j. (c.shared_slice_known-1.given j).fits), d.0), n)
 
 pub overflow_add-result : goal.overflow_add-result
-overflow_add-result c = omega (arith, (wrote-rest (outer-wrote c.before.before.before.before.before.before) c.put_next-n.ensures).fits)
+overflow_add-result c = omega (arith, (wrote-rest (outer-wrote (goal.at.overflow_add-result c).After-put_name-at) c.put_next-n.ensures).fits)
 
 pub shape_of-out : goal.shape_of-out
-shape_of-out c = wrote-length (wrote-rest (outer-wrote c.before.before.before.before.before.before) c.put_next-n.ensures)
+shape_of-out c = wrote-length (wrote-rest (outer-wrote (goal.at.shape_of-out c).After-put_name-at) c.put_next-n.ensures)
 
 pub returns : goal.returns
 returns c = λ o w i st a room.
-    up_more st a c.args.out.now room (λ q j. first p q w j) _ 1 refl c.put_next-n.ensures
+    up_more st a c.args.out.now room (λ q j. first (goal.at.returns c).After-put_name-at q w j) _ 1 refl c.put_next-n.ensures

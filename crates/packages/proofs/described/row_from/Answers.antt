@@ -9,7 +9,7 @@ place_from-place-requires c =
     (c.requires.0, named _ _ c.requires.0 c.args.i _ q c.requires.1, own-start _ _ c.args.i 0 _ c.args.own q c.requires.2)
 
 pub export_at-u-requires : goal.export_at-u-requires
-export_at-u-requires c = c.before.before.before.before.before in (s.requires.0, search outer-there)
+export_at-u-requires c = (c.requires.0, search outer-there)
 
 pub place_from-above-requires : goal.place_from-above-requires
 place_from-above-requires c =

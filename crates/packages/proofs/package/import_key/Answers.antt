@@ -21,10 +21,10 @@ module _ (b : List ℕ) (x i h id hash number : ℕ) (place : Place) (w : Words)
   key_is_lem ei eh d en eid ehash ew = rw (← ei, ← eh, ew, eid, ehash, d.text, en)
 
 pub imported_at-place-requires : goal.imported_at-place-requires
-imported_at-place-requires c = c.before.before.before in (s.requires.0, s.requires.1, rw c.import_name-i.ensures s.requires.2)
+imported_at-place-requires c = (c.requires.0, c.requires.1, rw c.import_name-i.ensures c.requires.2)
 
 pub imported_number-number-requires : goal.imported_number-number-requires
-imported_number-number-requires c = c.before.before.before.before in (s.requires.0, rw c.import_name-i.ensures s.requires.2)
+imported_number-number-requires c = (c.requires.0, rw c.import_name-i.ensures c.requires.2)
 
 pub hash_at-requires : goal.hash_at-requires
 hash_at-requires c =

@@ -3,7 +3,7 @@ use Rattle.packages.specs.PackageLaws.{imported-held, imported-holds}
 use Rattle.packages.proofs.package.imported_at.Goals as goal
 
 pub place_at-requires : goal.place_at-requires
-place_at-requires c = c.before in (imported-held s.requires.0 (λ j. (c.shared_slice_known-1.given j).fits), s.requires.2, s.requires.1)
+place_at-requires c = (imported-held c.requires.0 (λ j. (c.shared_slice_known-1.given j).fits), c.requires.2, c.requires.1)
 
 pub returns : goal.returns
 returns c =

@@ -4,19 +4,20 @@ use Prim.Native.Nat.{◌+◌, ◌*◌, ◌≤◌}
 use native.Mathlib.Omega.{arith}
 use lib.ListN.{length}
 use Rattle.packages.specs.PackageLaws.{number-room, number-here}
+use Rattle.packages.proofs.package.imported_number.Goals.{Start}
 use Rattle.packages.proofs.package.imported_number.Goals as goal
 
-there : (s : tie.Start) → s.args.p.imported.«end» + 4 * s.args.i + 4 ≤ length s.args.b.now
+there : (s : Start) → s.args.p.imported.«end» + 4 * s.args.i + 4 ≤ length s.args.b.now
 there s = number-room s.requires.0 s.args.i s.requires.1
 
 pub overflow_mul-i : goal.overflow_mul-i
-overflow_mul-i c = omega (arith, there c.before)
+overflow_mul-i c = omega (arith, there (goal.at.overflow_mul-i c).Start)
 
 pub overflow_add-p : goal.overflow_add-p
-overflow_add-p c = omega (arith, there c.before.before)
+overflow_add-p c = omega (arith, there (goal.at.overflow_add-p c).Start)
 
 pub le32-requires : goal.le32-requires
-le32-requires c = there c.before.before
+le32-requires c = there (goal.at.le32-requires c).Start
 
 pub returns : goal.returns
-returns c = c.before.before.before in c.le32.ensures ∙ number-here s.requires.0 s.args.i s.requires.1
+returns c = c.le32.ensures ∙ number-here c.requires.0 c.args.i c.requires.1

@@ -3,7 +3,7 @@ use Rattle.packages.specs.PackageLaws.{names-held, name-holds}
 use Rattle.packages.proofs.package.name_at.Goals as goal
 
 pub place_at-requires : goal.place_at-requires
-place_at-requires c = c.before in (names-held s.requires.0 (λ j. (c.shared_slice_known-1.given j).fits), s.requires.2, s.requires.1)
+place_at-requires c = (names-held c.requires.0 (λ j. (c.shared_slice_known-1.given j).fits), c.requires.2, c.requires.1)
 
 pub returns : goal.returns
 returns c =

@@ -26,10 +26,10 @@ size b i n e place q d g =
     omega (arith, all, ap (λ (t : List ℕ). length (utf8 t)) name, g.0)
 
 pub export_at-e-requires : goal.export_at-e-requires
-export_at-e-requires c = c.before in (s.requires.0, s.requires.2)
+export_at-e-requires c = (c.requires.0, c.requires.2)
 
 pub name_at-place-requires : goal.name_at-place-requires
-name_at-place-requires c = c.before.before in (s.requires.0, s.requires.1, rw c.export_at-e.ensures (export-named s.requires.0 s.args.i s.requires.2))
+name_at-place-requires c = (c.requires.0, c.requires.1, rw c.export_at-e.ensures (export-named c.requires.0 c.args.i c.requires.2))
 
 pub place_len-requires : goal.place_len-requires
 place_len-requires c = holds-own c.name_at-place.ensures.1

@@ -31,10 +31,10 @@ size b x i n number place e d f g =
     omega (arith, all, ap (λ (t : List ℕ). length (utf8 t)) name, length-hex 16 (get_or (read_in b).hashes (import_hash x) 0), g.0)
 
 pub imported_at-place-requires : goal.imported_at-place-requires
-imported_at-place-requires c = c.before.before in (s.requires.0, s.requires.1, rw c.import_name-i.ensures s.requires.2)
+imported_at-place-requires c = (c.requires.0, c.requires.1, rw c.import_name-i.ensures c.requires.2)
 
 pub imported_number-requires : goal.imported_number-requires
-imported_number-requires c = c.before.before.before in (s.requires.0, rw c.import_name-i.ensures s.requires.2)
+imported_number-requires c = (c.requires.0, rw c.import_name-i.ensures c.requires.2)
 
 pub place_len-requires : goal.place_len-requires
 place_len-requires c = holds-own c.imported_at-place.ensures.1

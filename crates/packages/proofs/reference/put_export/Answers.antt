@@ -29,10 +29,10 @@ module _ (b : List ℕ) (i : ℕ) (e : Export) (place : Place) (q : e ≡ get_or
   done s o n w = rw is w
 
 pub export_at-e-requires : goal.export_at-e-requires
-export_at-e-requires c = c.before.before in (s.requires.0, s.requires.2)
+export_at-e-requires c = (c.requires.0, c.requires.2)
 
 pub name_at-place-requires : goal.name_at-place-requires
-name_at-place-requires c = c.before.before.before in (s.requires.0, s.requires.1, rw c.export_at-e.ensures (export-named s.requires.0 s.args.i s.requires.2))
+name_at-place-requires c = (c.requires.0, c.requires.1, rw c.export_at-e.ensures (export-named c.requires.0 c.args.i c.requires.2))
 
 pub put_behind-requires : goal.put_behind-requires
 put_behind-requires c = (holds-own c.name_at-place.ensures.1, search fits)

@@ -37,13 +37,13 @@ module _ (b : List ℕ) (x i j hash number : ℕ) (place : Place) (e : i ≡ imp
     done t m w = rw is (wrote-rest v w)
 
 pub imported_at-place-requires : goal.imported_at-place-requires
-imported_at-place-requires c = c.before.before.before in (s.requires.0, s.requires.1, rw c.import_name-i.ensures s.requires.2)
+imported_at-place-requires c = (c.requires.0, c.requires.1, rw c.import_name-i.ensures c.requires.2)
 
 pub imported_number-number-requires : goal.imported_number-number-requires
-imported_number-number-requires c = c.before.before.before.before in (s.requires.0, rw c.import_name-i.ensures s.requires.2)
+imported_number-number-requires c = (c.requires.0, rw c.import_name-i.ensures c.requires.2)
 
 pub hash_at-hash-requires : goal.hash_at-hash-requires
-hash_at-hash-requires c = c.before.before.before.before.before.before in (s.requires.0, rw c.import_hash.ensures s.requires.3)
+hash_at-hash-requires c = (c.requires.0, rw c.import_hash.ensures c.requires.3)
 
 pub put_behind-n-requires : goal.put_behind-n-requires
 put_behind-n-requires c = (holds-own c.imported_at-place.ensures.1, search front-room)

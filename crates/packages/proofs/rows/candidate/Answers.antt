@@ -45,10 +45,10 @@ named : (b : List ℕ) (p : Parts) → PackageIn b p → (i : ℕ) (e : Export) 
 named b p a i e q h = rw q (export-named a i h)
 
 pub export_at-e-requires : goal.export_at-e-requires
-export_at-e-requires c = c.before in (s.requires.0, s.requires.2)
+export_at-e-requires c = (c.requires.0, c.requires.2)
 
 pub name_at-own-requires : goal.name_at-own-requires
-name_at-own-requires c = c.before.before in (s.requires.0, s.requires.1, named _ _ s.requires.0 s.args.i _ c.export_at-e.ensures s.requires.2)
+name_at-own-requires c = (c.requires.0, c.requires.1, named _ _ c.requires.0 c.args.i _ c.export_at-e.ensures c.requires.2)
 
 pub place_ends_with-requires : goal.place_ends_with-requires
 place_ends_with-requires c = (holds-own c.name_at-own.ensures.1, refl)
@@ -57,7 +57,7 @@ pub returns-then-place_ends_with : goal.returns-then-place_ends_with
 returns-then-place_ends_with c = search one
 
 pub export_at-u-requires : goal.export_at-u-requires
-export_at-u-requires c = c.before.before.before.before.before.before.before.before in (s.requires.0, search outer-there)
+export_at-u-requires c = (c.requires.0, search outer-there)
 
 pub name_at-outer-requires : goal.name_at-outer-requires
 name_at-outer-requires c =

@@ -4,13 +4,13 @@ use Rattle.packages.proofs.RowMade.{alone, nested, outer-there, named}
 use Rattle.packages.proofs.rows.row_at.Goals as goal
 
 pub export_at-e-requires : goal.export_at-e-requires
-export_at-e-requires c = c.before in (s.requires.0, s.requires.2)
+export_at-e-requires c = (c.requires.0, c.requires.2)
 
 pub name_at-place-requires : goal.name_at-place-requires
-name_at-place-requires c = c.before.before in (s.requires.0, s.requires.1, named _ _ s.requires.0 s.args.i _ c.export_at-e.ensures s.requires.2)
+name_at-place-requires c = (c.requires.0, c.requires.1, named _ _ c.requires.0 c.args.i _ c.export_at-e.ensures c.requires.2)
 
 pub export_at-u-requires : goal.export_at-u-requires
-export_at-u-requires c = c.before.before.before.before.before in (s.requires.0, search outer-there)
+export_at-u-requires c = (c.requires.0, search outer-there)
 
 pub name_at-above-requires : goal.name_at-above-requires
 name_at-above-requires c =

@@ -11,20 +11,19 @@ use Rattle.objects.specs.Work.{place_of}
 use Rattle.objects.specs.declared.path.Path.TheVariants.{Known}
 use Rattle.pool.specs.ComposeLaws.{told-alone, told-nowhere, told_below, below-short}
 use borrow.Author.Rules.{rules}
+use Rattle.pool.proofs.compose.measure.Goals.{After-path_len-above, After-place_len-own}
 use Rattle.pool.proofs.compose.measure.Goals as goal
 
 -- the own name's length, by the columns
-own : (l : tie.After-place-len) → let a = l.before.before.before.before.before.before.args in l.place-len.result ≡ length (utf8 (name_at a.b.now (place_of a.u) a.u.number))
-own l = rw l.before.place-of.ensures at l.place-len.ensures.0
+own : (l : After-place_len-own) → let a = l.args in l.place_len-own.result ≡ length (utf8 (name_at a.b.now (place_of a.u) a.u.number))
+own l = rw l.place_of.ensures at l.place_len-own.ensures.0
 
 -- the outer's path is no longer than names can be
-short : (p : tie.After-path-len) → let l = p.before.before in let s = l.before.before.before.before.before.before in (k d : ℕ) → p.path-len.result ≡ Known k d → (k ≤ 131090 * s.args.limit) × (d ≤ s.args.limit)
+short : (p : After-path_len-above) → (k d : ℕ) → p.path_len-above.result ≡ Known k d → (k ≤ 131090 * p.args.limit) × (d ≤ p.args.limit)
 short p k d e =
-    let l = p.before.before in
-    let s = l.before.before.before.before.before.before in
-    let st = s.requires.0.stands in
-    below-short st s.args.limit l.before.before.before.if1.false (own l) l.before.before.if2.false p.before.if3.false (p.path-len.ensures _ _ st.holds)
-    (λ i. (l.before.before.before.before.before.shared-slice-known.given i).fits) e
+    let st = p.requires.0.stands in
+    below-short st p.args.limit p.if-limit-eq0.false (own p.before.before) p.if-outer-eq0.false p.if-outer-eq1.false (p.path_len-above.ensures _ _ st.holds)
+    (λ i. (p.shared_slice_known-1.given i).fits) e
 
 pub returns-then-limit-eq0 : goal.returns-then-limit-eq0
 returns-then-limit-eq0 c = λ o i st. rw (path_end c.args.limit o i (omega arith))
@@ -37,7 +36,7 @@ place_len-own-requires c = rw c.place_of.ensures (stands-holds c.requires.0.stan
 
 pub returns-then-outer-eq1 : goal.returns-then-outer-eq1
 returns-then-outer-eq1 c = λ o i st.
-    told-alone st c.args.limit c.if-limit-eq0.false (own l) c.if-outer-eq1.true
+    told-alone st c.args.limit c.if-limit-eq0.false (own (goal.at.returns-then-outer-eq1 c).After-place_len-own) c.if-outer-eq1.true
 
 pub path_len-above-requires : goal.path_len-above-requires
 path_len-above-requires c =
@@ -46,16 +45,16 @@ path_len-above-requires c =
 
 pub overflow_add-result-in-Known : goal.overflow_add-result-in-Known
 overflow_add-result-in-Known c =
-    omega (arith, (short p _ _ c.above-1.given.1).0, c.place_len-own.ensures.1, c.requires.1)
+    omega (arith, (short (goal.at.overflow_add-result-in-Known c).After-path_len-above _ _ c.above-1.given.1).0, c.place_len-own.ensures.1, c.requires.1)
 
 pub overflow_add-result-in-Known-2 : goal.overflow_add-result-in-Known-2
 overflow_add-result-in-Known-2 c =
-    omega (arith, (short p _ _ c.above-1.given.1).1, c.requires.1)
+    omega (arith, (short (goal.at.overflow_add-result-in-Known-2 c).After-path_len-above _ _ c.above-1.given.1).1, c.requires.1)
 
 pub returns-in-Unknown : goal.returns-in-Unknown
 returns-in-Unknown c = λ o i st.
-    told-nowhere st c.args.limit c.if-limit-eq0.false (own l) c.if-outer-eq0.false c.if-outer-eq1.false (c.path_len-above.ensures _ o st.holds) c.enum_told-1.given.1
+    told-nowhere st c.args.limit c.if-limit-eq0.false (own (goal.at.returns-in-Unknown c).After-place_len-own) c.if-outer-eq0.false c.if-outer-eq1.false (c.path_len-above.ensures _ o st.holds) c.enum_told-1.given.1
 
 pub returns-in-Known : goal.returns-in-Known
 returns-in-Known c = λ o i st.
-    told_below st c.args.limit c.if-limit-eq0.false (own l) c.if-outer-eq0.false c.if-outer-eq1.false (c.path_len-above.ensures _ o st.holds) c.above-1.given.1
+    told_below st c.args.limit c.if-limit-eq0.false (own (goal.at.returns-in-Known c).After-place_len-own) c.if-outer-eq0.false c.if-outer-eq1.false (c.path_len-above.ensures _ o st.holds) c.above-1.given.1

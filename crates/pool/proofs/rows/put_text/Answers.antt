@@ -11,7 +11,7 @@ use borrow.Author.Rules.{rules}
 use Rattle.pool.proofs.rows.put_text.Goals as goal
 
 pub slice_bounds-compose-end-3 : goal.slice_bounds-compose-end-3
-slice_bounds-compose-end-3 c = c.args in sym (length-take-le (48 * a.n) a.w.now (omega arith))
+slice_bounds-compose-end-3 c = let a = c.args in sym (length-take-le (48 * a.n) a.w.now (omega arith))
 
 pub returns-then-end-free : goal.returns-then-end-free
 returns-then-end-free c = record { kept = kept-none _ _ _; within = omega arith; small = λ ne. absurd (ne refl); few = omega arith; is = λ ne o i st. absurd (ne refl) }
@@ -20,7 +20,7 @@ pub returns-then-free-gt4294967295 : goal.returns-then-free-gt4294967295
 returns-then-free-gt4294967295 c = record { kept = kept-none _ _ _; within = omega arith; small = λ ne. absurd (ne refl); few = omega arith; is = λ ne o i st. absurd (ne refl) }
 
 pub slice_bounds-put_plain-end-2 : goal.slice_bounds-put_plain-end-2
-slice_bounds-put_plain-end-2 c = c.compose-k in sym (length-take-le k.result k.new.0 (omega (arith, k.ensures.0, k.auto.0)))
+slice_bounds-put_plain-end-2 c = let k = c.compose-k in sym (length-take-le k.result k.new.0 (omega (arith, k.ensures.0, k.auto.0)))
 
 pub put_plain-requires : goal.put_plain-requires
 put_plain-requires c =

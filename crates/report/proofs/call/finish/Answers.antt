@@ -5,21 +5,22 @@ use Rattle.resolve.specs.MarkLaws.{marks_then}
 use Rattle.resolve.specs.Marks.{MarksKept}
 use Rattle.walk.specs.OpenLaws.{begun-sites, begun-few}
 use Rattle.report.proofs.Finished.{gathered-classes, gathered-kept, gathered-linked, gathered-marks, Summed, finish-beyond, finish-outside, finish_roomy, finish-room, finish-report}
+use Rattle.report.proofs.call.finish.Goals.{After-resolve_all}
 use Rattle.report.proofs.call.finish.Goals as goal
 
 -- what the rows come to
-summed : (c : tie.After-resolve-all) → let a = c.before.before.before.before.before.before.before.before.before.before.args in
-    Summed a.lookups a.objects a.c.now a.f a.s.now a.n a.t a.w.now c.before.before.before.before.link-classes.new.0 c.resolve-all.new.0 c.resolve-all.result
+summed : (c : After-resolve_all) → let a = c.args in
+    Summed a.lookups a.objects a.c.now a.f a.s.now a.n a.t a.w.now c.link_classes.new.w c.resolve_all.new.w c.resolve_all.result
 summed c =
-    let (b, a, g, l) = c.before.before.before.before.before.before.before.before.before.before.requires.0 in
-    record { begun = b; packages = a; gathered = g; links = c.before.before.before.before.link-classes.ensures.0; resolves = c.resolve-all.ensures.0 }
+    let (b, a, g, l) = c.requires.begun in
+    record { begun = b; packages = a; gathered = g; links = c.link_classes.ensures.kept; resolves = c.resolve_all.ensures.is }
 
 -- the rows' marks are as the walk left them
-marked : (c : tie.After-resolve-all) → let a = c.before.before.before.before.before.before.before.before.before.before.args in
-    MarksKept a.n a.t.rows a.w.now c.resolve-all.new.0
+marked : (c : After-resolve_all) → let a = c.args in
+    MarksKept a.n a.t.rows a.w.now c.resolve_all.new.w
 marked c =
-    let k = c.before.before.before.before.link-classes in
-    marks_then (gathered-linked (summed c).gathered k.ensures.1 k.auto.0) c.resolve-all.ensures.1.1
+    let k = c.link_classes in
+    marks_then (gathered-linked (summed c).gathered k.ensures.1 k.auto.0) c.resolve_all.ensures.few.1
 
 pub link_classes-requires : goal.link_classes-requires
 link_classes-requires c = gathered-classes c.requires.begun.2
@@ -31,33 +32,33 @@ resolve_all-requires c =
 
 pub overflow_add-size : goal.overflow_add-size
 overflow_add-size c =
-    let g = (summed c.before.before.before).gathered in
+    let g = (summed (goal.at.overflow_add-size c).After-resolve_all).gathered in
     omega (arith, g.few.0, g.few.1, c.resolve_all.ensures.few.0)
 
 pub returns-then-size-gt4294967299 : goal.returns-then-size-gt4294967299
-returns-then-size-gt4294967299 c = finish-beyond (summed c.before.before.before.before.before) c.if-size-gt4294967299.true c.refuse.ensures
+returns-then-size-gt4294967299 c = finish-beyond (summed (goal.at.returns-then-size-gt4294967299 c).After-resolve_all) c.if-size-gt4294967299.true c.refuse.ensures
 
 pub returns-then-report-size : goal.returns-then-report-size
-returns-then-report-size c = finish-outside (summed c.before.before.before.before.before.before) c.if-report-size.true c.refuse-then-report-size.ensures
+returns-then-report-size c = finish-outside (summed (goal.at.returns-then-report-size c).After-resolve_all) c.if-report-size.true c.refuse-then-report-size.ensures
 
 pub pool_texts-requires : goal.pool_texts-requires
 pool_texts-requires c =
-    (finish_roomy (summed r) c.link_classes.auto.0, c.requires.begun.3)
+    (finish_roomy (summed (goal.at.pool_texts-requires c).After-resolve_all) c.link_classes.auto.0, c.requires.begun.3)
 
 pub overflow_add-f : goal.overflow_add-f
-overflow_add-f c = omega (arith, (begun-few (summed c.before.before.before.before.before.before.before.before.before.before.before).begun).1)
+overflow_add-f c = omega (arith, (begun-few (summed (goal.at.overflow_add-f c).After-resolve_all).begun).1)
 
 pub put_report-requires : goal.put_report-requires
 put_report-requires c =
-    let z = summed r in
+    let z = summed (goal.at.put_report-requires c).After-resolve_all in
     let (names, imported) = c.requires.names_len in (
       (begun-sites z.begun, z.packages, omega (arith, (begun-few z.begun).0), names, imported),
       (
         finish-room z c.pool_texts.ensures.is _ c.if-size-gt4294967299.false c.if-report-size.false,
-        gathered-marks z.gathered (marks_then (marked r) c.pool_texts.ensures.marks),
+        gathered-marks z.gathered (marks_then (marked (goal.at.put_report-requires c).After-resolve_all) c.pool_texts.ensures.marks),
       ),
     )
 
 pub returns : goal.returns
 returns c =
-    finish-report (summed e.before.before.before.before.before) c.pool_texts.ensures.is c.if-size-gt4294967299.false c.if-report-size.false c.put_report.ensures
+    finish-report (summed (goal.at.returns c).After-resolve_all) c.pool_texts.ensures.is c.if-size-gt4294967299.false c.if-report-size.false c.put_report.ensures

@@ -72,7 +72,7 @@ pub returns-then-x-eq0 : goal.returns-then-x-eq0
 returns-then-x-eq0 c = λ s b o xs r t m q. onward_nowhere (c.loop-k.invariant.1 s b o xs r t m q) (omega arith) t (omega arith) c.if-x-eq0.true
 
 pub slice_bounds-find-end : goal.slice_bounds-find-end
-slice_bounds-find-end c = c.requires.some.holds.room in rw length-take-le
+slice_bounds-find-end c = let h = c.requires.some.holds.room in rw length-take-le
 
 pub find-requires : goal.find-requires
 find-requires c = record { block = _; objects = _; holds = c.requires.some.holds.objects.all }

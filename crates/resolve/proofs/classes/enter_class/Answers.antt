@@ -34,7 +34,7 @@ class_path_len-len-requires c =
     (rw c.home_at-home.ensures (home-holds p.0 y), rw c.row_at-row.ensures (class-holds p.0 y c.args.i p.3))
 
 pub meaning-m-requires : goal.meaning-m-requires
-meaning-m-requires c = c.requires.package_in in (p.0, p.2)
+meaning-m-requires c = let p = c.requires.package_in in (p.0, p.2)
 
 pub record_at-requires : goal.record_at-requires
 record_at-requires c =

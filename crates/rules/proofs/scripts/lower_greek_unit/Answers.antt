@@ -5,17 +5,18 @@ use native.Mathlib.Omega.{arith}
 use Rattle.rules.specs.Scripts.{lower_greek}
 use Rattle.rules.specs.ScriptLaws.{greek_unit}
 use borrow.Author.Rules.{rules}
+use Rattle.rules.proofs.scripts.lower_greek_unit.Goals.{After-greek_step}
 use Rattle.rules.proofs.scripts.lower_greek_unit.Goals as goal
 
-sum : (c : tie.After-greek-step) → c.before.before.before.args.u + (c.before.pick.result + c.greek-step.result) ≡ lower_greek c.before.before.before.args.u
+sum : (c : After-greek_step) → c.args.u + (c.pick.result + c.greek_step.result) ≡ lower_greek c.args.u
 unfolding lower_greek
-sum c = rw (c.greek-step.ensures.0, c.before.pick.ensures.0, c.before.before.greek-capital.ensures)
+sum c = rw (c.greek_step.ensures.0, c.pick.ensures.0, c.greek_capital.ensures)
 
-unit : (c : tie.After-greek-step) → lower_greek c.before.before.before.args.u < 65536
-unit c = greek_unit _ c.before.before.before.ranges.u.fits
+unit : (c : After-greek_step) → lower_greek c.args.u < 65536
+unit c = greek_unit _ c.ranges.u.fits
 
 pub overflow_add-result-2 : goal.overflow_add-result-2
-overflow_add-result-2 c = record { fits = omega (arith, sum c, unit c) }
+overflow_add-result-2 c = record { fits = omega (arith, sum (goal.at.overflow_add-result-2 c).After-greek_step, unit (goal.at.overflow_add-result-2 c).After-greek_step) }
 
 pub returns : goal.returns
-returns c = (sum c, omega (arith, sum c, unit c))
+returns c = (sum (goal.at.returns c).After-greek_step, omega (arith, sum (goal.at.returns c).After-greek_step, unit (goal.at.returns c).After-greek_step))

@@ -45,13 +45,13 @@ module _ (s : List ℕ) (l : Layout) (a : script_answer (run script 0 s) ≡ Acc
     numbered o q n = rw (← same o q) (name_numbered_lem o u n)
 
 pub entry_at-e-requires : goal.entry_at-e-requires
-entry_at-e-requires c = c.requires in (p.0.0, inside _ _ p.0.0 _ p.1)
+entry_at-e-requires c = let p = c.requires in (p.0.0, inside _ _ p.0.0 _ p.1)
 
 pub returns-then-e-ne0 : goal.returns-then-e-ne0
 returns-then-e-ne0 c = λ o q. let p = c.requires in sym (numbered _ _ p.0.0 _ p.1 _ c.entry_at-e.ensures o q c.if-e-ne0.true)
 
 pub object_place-requires : goal.object_place-requires
-object_place-requires c = c.requires in (p.0.0, named _ _ p.0.0 _ p.1 _ c.entry_at-e.ensures, p.0.1)
+object_place-requires c = let p = c.requires in (p.0.0, named _ _ p.0.0 _ p.1 _ c.entry_at-e.ensures, p.0.1)
 
 pub place_ends_with-requires : goal.place_ends_with-requires
 place_ends_with-requires c =

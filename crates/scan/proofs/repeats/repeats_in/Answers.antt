@@ -24,10 +24,10 @@ unfolding repeats_in
 whole limit o c at i here id b p h e q k = rw (export_count_lem k, q, e, h)
 
 pub id_at-id-requires : goal.id_at-id-requires
-id_at-id-requires c = c.requires in (site-here p.0 p.2 (omega arith)).0
+id_at-id-requires c = let p = c.requires in (site-here p.0 p.2 (omega arith)).0
 
 pub block_at-b-requires : goal.block_at-b-requires
-block_at-b-requires c = c.requires in site-here p.0 p.2 (omega arith)
+block_at-b-requires c = let p = c.requires in site-here p.0 p.2 (omega arith)
 
 pub parts_in-p-requires : goal.parts_in-p-requires
 parts_in-p-requires c =

@@ -5,13 +5,13 @@ use Rattle.scriptblock.specs.ScriptAccepted.{listed}
 use Rattle.scriptblock.proofs.script.entry_at.Goals as goal
 
 pub overflow_mul-i : goal.overflow_mul-i
-overflow_mul-i c = c.before in omega (arith, (listed a.args.b.now a.args.l a.args.i a.requires.0 a.requires.1).0)
+overflow_mul-i c = omega (arith, (listed c.args.b.now c.args.l c.args.i c.requires.0 c.requires.1).0)
 
 pub overflow_add-l : goal.overflow_add-l
-overflow_add-l c = c.before.before in omega (arith, (listed a.args.b.now a.args.l a.args.i a.requires.0 a.requires.1).0)
+overflow_add-l c = omega (arith, (listed c.args.b.now c.args.l c.args.i c.requires.0 c.requires.1).0)
 
 pub entry_in-requires : goal.entry_in-requires
-entry_in-requires c = c.before.before in (listed a.args.b.now a.args.l a.args.i a.requires.0 a.requires.1).0
+entry_in-requires c = (listed c.args.b.now c.args.l c.args.i c.requires.0 c.requires.1).0
 
 pub returns : goal.returns
 returns c =

@@ -6,7 +6,7 @@ use Rattle.scriptblock.specs.ScriptFaults.{fault-index, fault-kind, fault_no}
 use Rattle.scriptblock.proofs.script.entry_fault.Goals as goal
 
 pub returns-then-names-e : goal.returns-then-names-e
-returns-then-names-e c = c.args in sym (fault-index a.e a.names (omega arith))
+returns-then-names-e c = let a = c.args in sym (fault-index a.e a.names (omega arith))
 
 pub returns-then-index_kind-ne1 : goal.returns-then-index_kind-ne1
 returns-then-index_kind-ne1 c =

@@ -19,7 +19,7 @@ found : (b : List ℕ) (r : NameBatch) {n : Names} → r ≡ batched (walk batch
 found b r {n} e q = found_at b 0 n (omega arith) (sym e ∙ q)
 
 pub overflow_sub-b : goal.overflow_sub-b
-overflow_sub-b c = c.before.before.before in (found a.before.before.args.b.now _ a.read-batch.ensures c.n-1.given.1).inside
+overflow_sub-b c = (found c.args.b.now _ c.read_batch.ensures c.n-1.given.1).inside
 
 pub returns-then-b-at-lt4 : goal.returns-then-b-at-lt4
 returns-then-b-at-lt4 c =

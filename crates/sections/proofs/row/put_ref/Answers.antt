@@ -5,28 +5,29 @@ use borrow.Author.Rules.{rules}
 use lib.ListN.{length}
 use Rattle.packages.specs.RefBytes.{ref_bytes}
 use Rattle.sections.specs.WrittenLaws.{behind-length, again-length, first-size, first-wrote}
+use Rattle.sections.proofs.row.put_ref.Goals.{Start}
 use Rattle.sections.proofs.row.put_ref.Goals as goal
 
-room : (c : tie.Start) → 4 + length (ref_bytes c.args.b.now c.args.index) ≤ length c.args.out.now
+room : (c : Start) → 4 + length (ref_bytes c.args.b.now c.args.index) ≤ length c.args.out.now
 room c = first-size (ref_bytes c.args.b.now c.args.index) c.requires.4
 
 pub slice_bounds-put_reference-count : goal.slice_bounds-put_reference-count
-slice_bounds-put_reference-count c = omega (arith, room c.before.before)
+slice_bounds-put_reference-count c = omega (arith, room (goal.at.slice_bounds-put_reference-count c).Start)
 
 pub slice_bounds-put_reference-start : goal.slice_bounds-put_reference-start
-slice_bounds-put_reference-start c = omega (arith, room c.before.before)
+slice_bounds-put_reference-start c = omega (arith, room (goal.at.slice_bounds-put_reference-start c).Start)
 
 pub put_reference-n-requires : goal.put_reference-n-requires
 put_reference-n-requires c =
-    let r = room s in
+    let r = room (goal.at.put_reference-n-requires c).Start in
     (c.requires.0, c.requires.1, c.requires.2, c.requires.3, omega (arith, behind-length 4 c.args.out.now (omega arith)))
 
 pub put_length-requires : goal.put_length-requires
 put_length-requires c =
-    let r = room s in
+    let r = room (goal.at.put_length-requires c).Start in
     omega (arith, again-length 4 c.args.out.now c.put_reference-n.new.out (omega arith) c.put_reference-n.auto.0)
 
 pub returns : goal.returns
 returns c =
-    let r = room c.before.before.before.before.before.before.before.before.before.before in
+    let r = room (goal.at.returns c).Start in
     first-wrote (omega arith) c.put_reference-n.ensures c.put_length.ensures

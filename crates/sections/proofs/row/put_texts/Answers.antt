@@ -22,6 +22,7 @@ use Rattle.sections.specs.Pieces.{row_texts, reference_text, row_no, RowDue, Tex
 use Rattle.sections.specs.PieceLaws.{due-holds, texts-are}
 use Rattle.resolve.specs.declared.rows.Led.{Led}
 use Rattle.sections.specs.declared.texts.Both.{Both}
+use Rattle.sections.proofs.row.put_texts.Goals.{After-struct_known-1}
 use Rattle.sections.proofs.row.put_texts.Goals as goal
 
 -- what is due, and its texts in the order in which they are written
@@ -71,15 +72,12 @@ module _ {s b : List ℕ} {n objects : ℕ} {w d : List ℕ} {p : Parts} {v : Ro
         done = record { wrote = rw (texts-are a due y) (wrote-rest both-wrote w₃); class = both-put.class; native = both-put.native }
 
 -- names and classes are written
-second : (c : tie.After-struct-known) → let p = c.before.before.before in let n = p.before.before.before.before in let k = n.put-names.result + p.put_both.result.size in
-    (k ≤ length n.before.before.before.before.before.before.before.args.out.now) × (k ≤ length (again n.put-names.result n.put-names.new.0 p.put_both.new.0))
+second : (c : After-struct_known-1) → let k = c.put_names-first.result + c.put_both-both.result.size in
+    (k ≤ length c.args.out.now) × (k ≤ length (again c.put_names-first.result c.put_names-first.new.out c.put_both-both.new.out))
 second c =
-    let p = c.before.before.before in
-    let n = p.before.before.before.before in
-    let s = n.before.before.before.before.before.before.before in
-    let r = s.requires.1 in
-    let y : Bytes s.args.b.now = λ j. (n.before.before.shared-slice-known4.given j).fits in
-    both_in s.requires.0.0 y r.due s.args.out.now r.room n.put-names.ensures p.put_both.ensures
+    let r = c.requires.texts_room in
+    let y : Bytes c.args.b.now = λ j. (c.shared_slice_known-4-1.given j).fits in
+    both_in c.requires.package_in.0 y r.due c.args.out.now r.room c.put_names-first.ensures c.put_both-both.ensures
 
 pub put_names-first-requires : goal.put_names-first-requires
 put_names-first-requires c =
@@ -102,13 +100,13 @@ put_both-both-requires c =
     }
 
 pub overflow_add-second : goal.overflow_add-second
-overflow_add-second c = omega (arith, (second c).0)
+overflow_add-second c = omega (arith, (second (goal.at.overflow_add-second c).After-struct_known-1).0)
 
 pub slice_bounds-put_ref-count : goal.slice_bounds-put_ref-count
-slice_bounds-put_ref-count c = (second c).1
+slice_bounds-put_ref-count c = (second (goal.at.slice_bounds-put_ref-count c).After-struct_known-1).1
 
 pub slice_bounds-put_ref-start : goal.slice_bounds-put_ref-start
-slice_bounds-put_ref-start c = (second c).1
+slice_bounds-put_ref-start c = (second (goal.at.slice_bounds-put_ref-start c).After-struct_known-1).1
 
 pub put_ref-requires : goal.put_ref-requires
 put_ref-requires c =

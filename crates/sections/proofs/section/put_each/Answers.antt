@@ -19,17 +19,18 @@ use Rattle.sections.specs.MarkedLaws.{RowTold, rows_inside, rows-there, row_told
 use Rattle.sections.specs.SectionLaws.{filled_none, filled-inside, item_room, item-filled, item-sums, filled-all}
 use Rattle.sections.specs.Sections.{How, export_row, export_refs, Filled, ExportRoom, EachRoom}
 use Rattle.sections.specs.declared.section.Section.{Section}
+use Rattle.sections.proofs.section.put_each.Goals.{After-mark_at-mark, At-loop-rows, In-loop-rows}
 use Rattle.sections.proofs.section.put_each.Invariants.{Upto, mark-is}
 use Rattle.sections.proofs.section.put_each.Goals as goal
 
 -- what was written fits
-holds-size : (c : tie.At-loop invariant-loop decreases-loop)
-    → (c.loop.size ≤ length c.loop.out) × (length c.loop.out ≡ length c.before.before.before.before.before.before.before.args.out.now)
-holds-size c = let (id, h, a) = c.before.before.before.before.before.before.before.requires.1.0 in filled-inside (c.loop.invariant.1 id h a)
+holds-size : (c : At-loop-rows)
+    → (c.loop-rows.size ≤ length c.loop-rows.out) × (length c.loop-rows.out ≡ length c.args.out.now)
+holds-size c = let (id, h, a) = c.requires.by_index.0 in filled-inside (c.loop-rows.invariant.1 id h a)
 
 -- the part before the rows is there
-front-there : (c : tie.In-loop invariant-loop decreases-loop) → let u = c.before.before.before.before.before.before.before.before.args in 48 * u.n ≤ length u.w.now
-front-there c = c.before.before.before.before.before.before.before.before.requires.1.0.2.resolved.tables.room
+front-there : (c : In-loop-rows) → let u = c.args in 48 * u.n ≤ length u.w.now
+front-there c = c.requires.by_index.0.2.resolved.tables.room
 
 pub overflow_mul-front : goal.overflow_mul-front
 overflow_mul-front c =
@@ -50,10 +51,10 @@ overflow_add-first c =
     record { fits = omega (arith, c.loop-rows.invariant.0, rows_inside c.requires.by_index.1.0, c.ranges) }
 
 pub slice_bounds-mark_at-count : goal.slice_bounds-mark_at-count
-slice_bounds-mark_at-count c = front-there c
+slice_bounds-mark_at-count c = front-there (goal.at.slice_bounds-mark_at-count c).In-loop-rows
 
 pub slice_bounds-mark_at-start : goal.slice_bounds-mark_at-start
-slice_bounds-mark_at-start c = front-there c
+slice_bounds-mark_at-start c = front-there (goal.at.slice_bounds-mark_at-start c).In-loop-rows
 
 pub overflow_add-first-in-loop-rows : goal.overflow_add-first-in-loop-rows
 overflow_add-first-in-loop-rows c = record { fits = omega (arith, c.loop-rows-test.true, c.ranges) }
@@ -63,22 +64,22 @@ mark_at-mark-requires c =
     rw (lent-part (48 * c.args.n) c.args.w.now) (omega (arith, rows-there c.requires.by_index.1.0, c.loop-rows-test.true))
 
 pub shape_of-out-then-end-mark : goal.shape_of-out-then-end-mark
-shape_of-out-then-end-mark c = (holds-size c.before.before.before.before).1
+shape_of-out-then-end-mark c = (holds-size (goal.at.shape_of-out-then-end-mark c).At-loop-rows).1
 
 pub returns-then-end-mark : goal.returns-then-end-mark
 returns-then-end-mark c =
     let l = c.loop-rows in
     let u = start c.before in
     let b = u.args.b.now in
-    let z = row_other u.pre.1.1.0 l.rows (mark-is c.before) (omega (arith, c.if-end-mark.true, export_count_lem u.pre.0.0)) in
+    let z = row_other u.pre.1.1.0 l.rows (mark-is (goal.at.returns-then-end-mark c).After-mark_at-mark) (omega (arith, c.if-end-mark.true, export_count_lem u.pre.0.0)) in
     let e : l.rows ≡ length (candidates (read_in b)) = omega (arith, z, l.invariant.0) in
     filled-all (export_refs (package_in id b)) (export_row u.args.objects h (package_in id b)) (candidates (read_in b)) l.rows e (l.invariant.1 id h a)
 
 pub slice_bounds-put_export-count : goal.slice_bounds-put_export-count
-slice_bounds-put_export-count c = (holds-size c.before.before.before.before).0
+slice_bounds-put_export-count c = (holds-size (goal.at.slice_bounds-put_export-count c).At-loop-rows).0
 
 pub slice_bounds-put_export-start : goal.slice_bounds-put_export-start
-slice_bounds-put_export-start c = (holds-size c.before.before.before.before).0
+slice_bounds-put_export-start c = (holds-size (goal.at.slice_bounds-put_export-start c).At-loop-rows).0
 
 pub overflow_sub-mark : goal.overflow_sub-mark
 overflow_sub-mark c = (told c.before.before c.if-end-mark.false).low
@@ -125,7 +126,7 @@ loop-rows-preserved c =
     )
 
 pub shape_of-out : goal.shape_of-out
-shape_of-out c = (holds-size c.before).1
+shape_of-out c = (holds-size (goal.at.shape_of-out c).At-loop-rows).1
 
 pub returns : goal.returns
 returns c =

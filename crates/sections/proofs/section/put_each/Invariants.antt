@@ -43,11 +43,11 @@ module _ (objects id : ℕ) (b : List ℕ) (size k : ℕ) {c s : List ℕ} {n : 
     sum : size + j ≤ length out
     sum = (item-sums (export_refs (package_in id b)) (export_row objects h (package_in id b)) (candidates (read_in b)) k no_export inside a t item).0
 
-pub mark-is : (c : tie.After-mark-at invariant-loop decreases-loop) → let m = c.before.before in let u = m.before.before.before.before.before.before.before.before.args in
-    c.mark-at.result ≡ le_at 4 (drop (48 * u.n) u.w.now) (row_at (drop (48 * u.n) u.w.now) (u.first + m.before.loop.rows) + 28)
+pub mark-is : (c : After-mark_at-mark) → let u = c.args in
+    c.mark_at-mark.result ≡ le_at 4 (drop (48 * u.n) u.w.now) (row_at (drop (48 * u.n) u.w.now) (u.first + c.loop-rows.rows) + 28)
 mark-is c =
-    let u = c.before.before.before.before.before.before.before.before.before.before.args in
-    rw (lent-part (48 * u.n) u.w.now) at c.mark-at.ensures
+    let u = c.args in
+    rw (lent-part (48 * u.n) u.w.now) at c.mark_at-mark.ensures
 
 -- a mark below the end: a candidate is left, and the mark tells which
 module _ (c : tie.After-mark-at invariant-loop decreases-loop) where

@@ -17,6 +17,7 @@ use Rattle.sections.specs.SectionLaws.{row_target}
 use Rattle.sections.specs.Sections.{How, ExportRoom}
 use Rattle.sections.specs.Written.{Target, RowRoom}
 use Rattle.resolve.specs.declared.rows.Led.{Led}
+use Rattle.sections.proofs.section.put_export.Goals.{After-row_at-v}
 use Rattle.sections.proofs.section.put_export.Goals as goal
 
 module _ (objects id : ℕ) (d : List ℕ) (i : ℕ) {c s : List ℕ} {n : ℕ} {w : List ℕ} {r : ℕ} {out : List ℕ} {h : How} (a : ExportRoom c s n w objects r id d i out h) where
@@ -42,34 +43,34 @@ module _ (objects id : ℕ) (d : List ℕ) (i : ℕ) {c s : List ℕ} {n : ℕ} 
     }
 
 -- the row as its kind has it
-row_is : (c : tie.After-row-at) → let a = c.before.before.before.before.before.before.args in
-    c.row_at.result ≡ row_in a.b.now a.p (candidate_kind (read_in a.b.now) (export_no a.b.now a.i)) a.i
-row_is c = let u = c.before.before.before.before.before.before in rw (← u.requires.1.0) c.row_at.ensures
+row_is : (c : After-row_at-v) → let a = c.args in
+    c.row_at-v.result ≡ row_in a.b.now a.p (candidate_kind (read_in a.b.now) (export_no a.b.now a.i)) a.i
+row_is c = rw (← c.requires.kind_value.0) c.row_at-v.ensures
 
-start-room : (c : tie.After-row-at) → let a = c.before.before.before.before.before.before.args in
+start-room : (c : After-row_at-v) → let a = c.args in
     (48 * a.n ≤ length a.w.now) × (32 * (a.r + 1) ≤ length (take (length a.w.now - 48 * a.n) (drop (48 * a.n) a.w.now)))
-start-room c = let u = c.before.before.before.before.before.before in there u.args.objects u.requires.1.1.0 u.args.b.now u.args.i u.requires.1.1.2
+start-room c = there c.args.objects c.requires.kind_value.1.0 c.args.b.now c.args.i c.requires.kind_value.1.2
 
 pub overflow_mul-front : goal.overflow_mul-front
-overflow_mul-front c = c.well_formed.1.1.1.0.0 in record { fits = omega (arith, (start-room c).0) }
+overflow_mul-front c = let g = c.well_formed.1.1.1.0.0 in record { fits = omega (arith, (start-room (goal.at.overflow_mul-front c).After-row_at-v).0) }
 
 pub slice_bounds-led_at-count : goal.slice_bounds-led_at-count
-slice_bounds-led_at-count c = (start-room c).0
+slice_bounds-led_at-count c = (start-room (goal.at.slice_bounds-led_at-count c).After-row_at-v).0
 
 pub slice_bounds-led_at-start : goal.slice_bounds-led_at-start
-slice_bounds-led_at-start c = (start-room c).0
+slice_bounds-led_at-start c = (start-room (goal.at.slice_bounds-led_at-start c).After-row_at-v).0
 
 pub led_at-l-requires : goal.led_at-l-requires
-led_at-l-requires c = (start-room c.before).1
+led_at-l-requires c = (start-room (goal.at.led_at-l-requires c).After-row_at-v).1
 
 pub put_row-requires : goal.put_row-requires
 put_row-requires c =
     (
       (c.requires.package_in.0, c.requires.package_in.1, c.requires.package_in.2),
-      row_room c.args.objects c.requires.kind_value.1.0 c.args.b.now c.args.i c.requires.kind_value.1.2 c.led_at-l.ensures c.requires.package_in.3 (row_is v),
+      row_room c.args.objects c.requires.kind_value.1.0 c.args.b.now c.args.i c.requires.kind_value.1.2 c.led_at-l.ensures c.requires.package_in.3 (row_is (goal.at.put_row-requires c).After-row_at-v),
     )
 
 pub returns : goal.returns
 returns c =
-    c.put_row.ensures h.objects h.classes h.lookups id c.args.i c.requires.package_in.3 (row_is v)
+    c.put_row.ensures h.objects h.classes h.lookups id c.args.i c.requires.package_in.3 (row_is (goal.at.returns c).After-row_at-v)
     (target c.args.objects id c.args.b.now c.args.i a c.led_at-l.ensures) a.room

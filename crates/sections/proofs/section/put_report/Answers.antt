@@ -21,6 +21,7 @@ use Rattle.resolve.specs.Rows.{limits_of}
 use Rattle.sections.specs.SectionLaws.{report-is}
 use Rattle.sections.specs.Sections.{How, front_of, sections_of, SectionsRoom}
 use Rattle.sections.specs.Written.{report_at, Ready}
+use Rattle.sections.proofs.section.put_report.Goals.{After-put_sections-size, After-shared_slice_known-3-1}
 use Rattle.sections.proofs.section.put_report.Goals as goal
 
 module _ (c : List ℕ) (at count lookups objects : ℕ) (o : Objects) where
@@ -66,27 +67,25 @@ module _ (c : List ℕ) (at count lookups objects : ℕ) (o : Objects) where
         wrote_count (wrote_as f (ap (λ (j : ℕ). front_of j count ++ sections) e ∙ sym parts)) (omega arith)
 
 -- the nine bytes are there
-nine : (c : tie.After-shared-slice-known3) → 9 ≤ length c.before.before.before.before.args.out.now
+nine : (c : After-shared_slice_known-3-1) → 9 ≤ length c.args.out.now
 nine c =
-    let u = c.before.before.before.before in
-    let r = u.requires.1.0 in
-    omega (arith, r.room, size u.args.c.now u.args.at u.args.count r.lookups u.args.objects r.read)
+    let r = c.requires.report_room.0 in
+    omega (arith, r.room, size c.args.c.now c.args.at c.args.count r.lookups c.args.objects r.read)
 
 -- the length of what follows fits four bytes
-short : (c : tie.After-put-sections) → c.put-sections.result + 5 < 2 ^ 32
+short : (c : After-put_sections-size) → c.put_sections-size.result + 5 < 2 ^ 32
 short c =
-    let u = c.before.before.before.before.before.before.before.before in
-    let a = u.args in
-    let r = u.requires.1.0 in
+    let a = c.args in
+    let r = c.requires.report_room.0 in
     let h = how a.c.now a.at a.count r.lookups a.objects r.read in
-    let v = c.put-sections.ensures h (room a.c.now a.at a.count r.lookups a.objects r.read a.out.now r.ready r.room) in
+    let v = c.put_sections-size.ensures h (room a.c.now a.at a.count r.lookups a.objects r.read a.out.now r.ready r.room) in
     omega (arith, v.size, r.small, size a.c.now a.at a.count r.lookups a.objects r.read)
 
 pub slice_bounds-put_sections-count : goal.slice_bounds-put_sections-count
-slice_bounds-put_sections-count c = nine c
+slice_bounds-put_sections-count c = nine (goal.at.slice_bounds-put_sections-count c).After-shared_slice_known-3-1
 
 pub slice_bounds-put_sections-start : goal.slice_bounds-put_sections-start
-slice_bounds-put_sections-start c = nine c
+slice_bounds-put_sections-start c = nine (goal.at.slice_bounds-put_sections-start c).After-shared_slice_known-3-1
 
 pub put_sections-size-requires : goal.put_sections-size-requires
 put_sections-size-requires c =
@@ -103,18 +102,18 @@ put_sections-size-requires c =
     )
 
 pub overflow_add-size : goal.overflow_add-size
-overflow_add-size c = record { fits = omega (arith, short c.before.before.before) }
+overflow_add-size c = record { fits = omega (arith, short (goal.at.overflow_add-size c).After-put_sections-size) }
 
 pub overflow_cast-size : goal.overflow_cast-size
-overflow_cast-size c = record { fits = omega (arith, short c.before.before.before) }
+overflow_cast-size c = record { fits = omega (arith, short (goal.at.overflow_cast-size c).After-put_sections-size) }
 
 pub put_front-requires : goal.put_front-requires
 put_front-requires c =
     let out = c.args.out.now in
-    rw (length-append (take 9 out), length-take-le 9 out (nine k)) (omega arith)
+    rw (length-append (take 9 out), length-take-le 9 out (nine (goal.at.put_front-requires c).After-shared_slice_known-3-1)) (omega arith)
 
 pub overflow_add-result : goal.overflow_add-result
-overflow_add-result c = record { fits = omega (arith, short c.before.before.before.before.before.before) }
+overflow_add-result c = record { fits = omega (arith, short (goal.at.overflow_add-result c).After-put_sections-size) }
 
 pub returns : goal.returns
 returns c =

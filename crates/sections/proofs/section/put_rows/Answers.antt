@@ -17,6 +17,7 @@ use Rattle.resolve.specs.Lent.{lent-part}
 use Rattle.sections.specs.RefsLaws.{refs-each, refs-count, candidates-few}
 use Rattle.sections.specs.Sections.{How, behind_of, each_row, EachRoom, EachFilled, RowsRoom, RowsFilled}
 use Rattle.sections.specs.declared.section.Section.{Section}
+use Rattle.sections.proofs.section.put_rows.Goals.{After-put_be32-k, After-shared_slice_known-4-1}
 use Rattle.sections.proofs.section.put_rows.Goals as goal
 
 module _ (objects id : ℕ) (b : List ℕ) {c s : List ℕ} {n : ℕ} {w : List ℕ} {first : ℕ} {out : List ℕ} {h : How} (a : RowsRoom c s n w objects first id b out h) where
@@ -41,23 +42,20 @@ module _ (objects id : ℕ) (b : List ℕ) {c s : List ℕ} {n : ℕ} {w : List 
         record { wrote = wrote_count (wrote_as f (rw counted)) (omega arith); rows = counted ∙ sym (refs-count (package_in id b)) }
 
 -- the count's four bytes are there
-room : (c : tie.After-shared-slice-known4) → 4 ≤ length c.before.before.before.before.before.args.out.now
-room c = let u = c.before.before.before.before.before in omega (arith, size u.args.objects u.requires.1.0.0 u.args.b.now u.requires.1.0.2)
+room : (c : After-shared_slice_known-4-1) → 4 ≤ length c.args.out.now
+room c = omega (arith, size c.args.objects c.requires.by_index.0.0 c.args.b.now c.requires.by_index.0.2)
 
-done : (c : tie.After-put-be32) → let z = c.before.before.before.before.before in let u = z.before.before.before.before.before.before.before in
-    (id : ℕ) (h : How) → RowsRoom u.args.c.now u.args.s.now u.args.n u.args.w.now u.args.objects u.args.first id u.args.b.now u.args.out.now h
-    → RowsFilled u.args.objects id u.args.b.now h u.args.out.now c.put-be32.new.0
-    (behind_of c.put-be32.result z.put-each.result)
+done : (c : After-put_be32-k) → (id : ℕ) (h : How) → RowsRoom c.args.c.now c.args.s.now c.args.n c.args.w.now c.args.objects c.args.first id c.args.b.now c.args.out.now h
+    → RowsFilled c.args.objects id c.args.b.now h c.args.out.now c.put_be32-k.new.out
+    (behind_of c.put_be32-k.result c.put_each-z.result)
 done c id h a =
-    let z = c.before.before.before.before.before in
-    let u = z.before.before.before.before.before.before.before in
-    filled u.args.objects id u.args.b.now a (z.put-each.ensures id h (each u.args.objects id u.args.b.now a)) c.put-be32.ensures
+    filled c.args.objects id c.args.b.now a (c.put_each-z.ensures id h (each c.args.objects id c.args.b.now a)) c.put_be32-k.ensures
 
 pub slice_bounds-put_each-count : goal.slice_bounds-put_each-count
-slice_bounds-put_each-count c = room c
+slice_bounds-put_each-count c = room (goal.at.slice_bounds-put_each-count c).After-shared_slice_known-4-1
 
 pub slice_bounds-put_each-start : goal.slice_bounds-put_each-start
-slice_bounds-put_each-start c = room c
+slice_bounds-put_each-start c = room (goal.at.slice_bounds-put_each-start c).After-shared_slice_known-4-1
 
 pub put_each-z-requires : goal.put_each-z-requires
 put_each-z-requires c =
@@ -74,13 +72,13 @@ overflow_cast-z c =
 pub put_be32-k-requires : goal.put_be32-k-requires
 put_be32-k-requires c =
     let out = c.args.out.now in
-    rw (length-append (take 4 out), length-take-le 4 out (room k)) (omega arith)
+    rw (length-append (take 4 out), length-take-le 4 out (room (goal.at.put_be32-k-requires c).After-shared_slice_known-4-1)) (omega arith)
 
 pub behind-requires : goal.behind-requires
 behind-requires c =
     let (id, h, a) = c.requires.by_index.0 in
     let g = c.well_formed.0.0 in
-    omega (arith, (done k id h a).wrote.fits)
+    omega (arith, (done (goal.at.behind-requires c).After-put_be32-k id h a).wrote.fits)
 
 pub returns : goal.returns
-returns c = rw c.behind.ensures (done c.before.before.before id h a)
+returns c = rw c.behind.ensures (done (goal.at.returns c).After-put_be32-k id h a)

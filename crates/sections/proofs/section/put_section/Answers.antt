@@ -20,6 +20,7 @@ use Rattle.sections.specs.MarkedLaws.{Small, step_small, step-first}
 use Rattle.sections.specs.SectionLaws.{section-is}
 use Rattle.sections.specs.Sections.{How, behind_of, head_of, all_rows, section_of, refs_of, RowsMarked, Room, Filled, SectionRoom, SectionFilled}
 use Rattle.sections.specs.declared.section.Section.{Section}
+use Rattle.sections.proofs.section.put_section.Goals.{After-id_at, After-parts_of-p, After-put_rows-z}
 use Rattle.sections.proofs.section.put_section.Goals as goal
 
 -- the rows behind the head, of any package
@@ -60,51 +61,38 @@ module _ (c : List ℕ) (objects at id : ℕ) (d : List ℕ) (e : d ≡ block_at
       → SectionFilled c objects at h out o z
   filled-here y = rw (e, f) at y
 
-here : (c : tie.After-parts-of) → let u = c.before.before.before.before.before.before.before.args in
-    Here u.c.now u.at c.before.before.block_at.result.now c.parts-of.result
+here : (c : After-parts_of-p) → let u = c.args in
+    Here u.c.now u.at c.block_at-b.result.now c.parts_of-p.result
 here c =
-    let l = c.before in
-    let b = l.before in
-    let y = b.before.before.before in
-    let u = y.before.before in
-    let t = u.requires.0.0 in
+    let t = c.requires.site.0 in
     let k = site-small t in
-    let e = b.block_at.ensures in
-    let site : Site u.args.c.now u.args.at b.block_at.result.now = record { starts = t.starts; stops = t.stops; small = t.small; is = e } in
-    let q = package_in_lem b.block_at.result.now l.layout_of.result c.parts-of.result l.layout_of.ensures c.parts-of.ensures in
-    record { block = e; read = q; bytes = rw e (k.2 (λ j. (y.shared-slice-known.given j).fits)); small = step_small site q }
+    let e = c.block_at-b.ensures in
+    let site : Site c.args.c.now c.args.at c.block_at-b.result.now = record { starts = t.starts; stops = t.stops; small = t.small; is = e } in
+    let q = package_in_lem c.block_at-b.result.now c.layout_of.result c.parts_of-p.result c.layout_of.ensures c.parts_of-p.ensures in
+    record { block = e; read = q; bytes = rw e (k.2 (λ j. (c.shared_slice_known-1.given j).fits)); small = step_small site q }
 
 -- the section's room as the head's and the rows'
-room : (c : tie.After-id-at)
-    → let p = c.before.before.before.before.before.before.before in
-    let b = p.before.before in
-    let u = b.before.before.before.before.before.args in
+room : (c : After-id_at)
+    → let u = c.args in
     (h : How) → SectionRoom u.c.now u.s.now u.n u.w.now u.objects u.first u.at u.out.now h
-    → Room u.c.now u.s.now u.n u.w.now u.objects u.first (refs_of (package_in c.id-at.result b.block_at.result.now))
-    (section_of u.objects h (package_in c.id-at.result b.block_at.result.now)) u.out.now h
+    → Room u.c.now u.s.now u.n u.w.now u.objects u.first (refs_of (package_in c.id_at.result c.block_at-b.result.now))
+    (section_of u.objects h (package_in c.id_at.result c.block_at-b.result.now)) u.out.now h
 room c h a =
-    let p = c.before.before.before.before.before.before.before in
-    let b = p.before.before in
-    let u = b.before.before.before.before.before.args in
-    room-here u.c.now u.objects u.at c.id-at.result b.block_at.result.now (here p).block c.id-at.ensures h a
+    let u = c.args in
+    room-here u.c.now u.objects u.at c.id_at.result c.block_at-b.result.now (here c.before.before.before.before.before.before.before.before).block c.id_at.ensures h a
 
-done : (c : tie.After-put-rows)
-    → let x = c.before.before.before.before.before.before.before in
-    let u = x.before.before.before.before.before.before.before.before.before.before.before.before.before.before.before.args in
+done : (c : After-put_rows-z)
+    → let u = c.args in
     (h : How) → SectionRoom u.c.now u.s.now u.n u.w.now u.objects u.first u.at u.out.now h
     → SectionFilled u.c.now u.objects u.at h u.out.now
-    (take x.put-head.result x.put-head.new.0 ++ (c.put-rows.new.0 ++ drop (length x.put-head.new.0 - x.put-head.result) (drop x.put-head.result x.put-head.new.0)))
-    (behind_of x.put-head.result c.put-rows.result)
+    (take c.put_head-k.result c.put_head-k.new.out ++ (c.put_rows-z.new.out ++ drop (length c.put_head-k.new.out - c.put_head-k.result) (drop c.put_head-k.result c.put_head-k.new.out)))
+    (behind_of c.put_head-k.result c.put_rows-z.result)
 done c h a =
-    let x = c.before.before.before.before.before.before.before in
-    let i = x.before in
-    let p = i.before.before.before.before.before.before.before in
-    let b = p.before.before in
-    let u = b.before.before.before.before.before.args in
-    let d = package_in i.id-at.result b.block_at.result.now in
-    let r = room i h a in
-    filled-here u.c.now u.objects u.at i.id-at.result b.block_at.result.now (here p).block i.id-at.ensures h
-    (filled u.objects d r x.put-head.ensures (c.put-rows.ensures i.id-at.result h (rows-room u.objects d r x.put-head.ensures)))
+    let u = c.args in
+    let d = package_in c.id_at.result c.block_at-b.result.now in
+    let r = room c.before.before.before.before.before.before h a in
+    filled-here u.c.now u.objects u.at c.id_at.result c.block_at-b.result.now (here c.before.before.before.before.before.before.before.before.before.before.before.before.before.before).block c.id_at.ensures h
+    (filled u.objects d r c.put_head-k.ensures (c.put_rows-z.ensures c.id_at.result h (rows-room u.objects d r c.put_head-k.ensures)))
 
 pub layout_of-requires : goal.layout_of-requires
 layout_of-requires c =
@@ -113,12 +101,12 @@ layout_of-requires c =
 
 pub note_names-requires : goal.note_names-requires
 note_names-requires c =
-    let k = here c.before in
+    let k = here (goal.at.note_names-requires c).After-parts_of-p in
     (names-held k.read k.bytes, c.requires.site.2)
 
 pub note_names-requires-2 : goal.note_names-requires-2
 note_names-requires-2 c =
-    let k = here c.before.before.before in
+    let k = here (goal.at.note_names-requires-2 c).After-parts_of-p in
     (imported-held k.read k.bytes, c.requires.site.3)
 
 pub id_at-requires : goal.id_at-requires
@@ -126,26 +114,26 @@ id_at-requires c = c.requires.site.0.starts
 
 pub put_head-k-requires : goal.put_head-k-requires
 put_head-k-requires c =
-    let k = here p in (
+    let k = here (goal.at.put_head-k-requires c).After-parts_of-p in (
       k.read,
       c.note_names.ensures.0,
       k.small.count,
-      head-fits c.args.objects (package_in c.id_at.result c.block_at-b.result.now) (room c c.requires.section_room.0.0 c.requires.section_room.0.1),
+      head-fits c.args.objects (package_in c.id_at.result c.block_at-b.result.now) (room (goal.at.put_head-k-requires c).After-id_at c.requires.section_room.0.0 c.requires.section_room.0.1),
     )
 
 pub step_of-requires : goal.step_of-requires
-step_of-requires c = (here c.before.before.before.before.before.before.before.before.before.before.before.before.before).small.start
+step_of-requires c = (here (goal.at.step_of-requires c).After-parts_of-p).small.start
 
 pub put_rows-z-requires : goal.put_rows-z-requires
 put_rows-z-requires c =
-    let k = here p in
+    let k = here (goal.at.put_rows-z-requires c).After-parts_of-p in
     let e = c.step_of.ensures in (
       (k.read, c.note_names.ensures.0, c.note_names-2.ensures.0, k.small.count),
       (
         (
           c.id_at.result,
           c.requires.section_room.0.0,
-          rows-room c.args.objects (package_in c.id_at.result c.block_at-b.result.now) (room i c.requires.section_room.0.0 c.requires.section_room.0.1) c.put_head-k.ensures,
+          rows-room c.args.objects (package_in c.id_at.result c.block_at-b.result.now) (room (goal.at.put_rows-z-requires c).After-id_at c.requires.section_room.0.0 c.requires.section_room.0.1) c.put_head-k.ensures,
         ),
         (
           marked-here c.args.c.now c.args.at k.block (e ∙ step-first c.args.c.now c.args.at k.block k.read) c.requires.section_room.1,
@@ -157,8 +145,8 @@ put_rows-z-requires c =
 pub behind-requires : goal.behind-requires
 behind-requires c =
     let g = c.well_formed.0.0 in
-    omega (arith, (done k c.requires.section_room.0.0 c.requires.section_room.0.1).wrote.fits)
+    omega (arith, (done (goal.at.behind-requires c).After-put_rows-z c.requires.section_room.0.0 c.requires.section_room.0.1).wrote.fits)
 
 pub returns : goal.returns
 returns c =
-    (λ h a. rw c.behind.ensures (done c.before.before.before h a), (c.note_names.ensures.1, c.note_names-2.ensures.1))
+    (λ h a. rw c.behind.ensures (done (goal.at.returns c).After-put_rows-z h a), (c.note_names.ensures.1, c.note_names-2.ensures.1))

@@ -16,6 +16,7 @@ use Rattle.sections.specs.MarkedLaws.{marks-first, marks-next, rows-marked}
 use Rattle.sections.specs.SectionLaws.{filled_none, filled-inside, item_room, item-filled, item-sums, filled-all}
 use Rattle.sections.specs.Sections.{How, section_of, refs_of, Filled, SectionRoom, SectionFilled, SectionsRoom}
 use Rattle.sections.specs.declared.section.Section.{Section}
+use Rattle.sections.proofs.section.put_sections.Goals.{After-put_section-z, At-loop}
 use Rattle.sections.proofs.section.put_sections.Invariants.{Upto, Sofar}
 use Rattle.sections.proofs.section.put_sections.Goals as goal
 
@@ -52,19 +53,18 @@ rows-room : {ms : List ℕ} {all : ℕ} (n : ℕ) (w : List ℕ) → MarksIn ms 
 rows-room n w m e = omega (arith, m.room, e, length-drop (48 * n) w)
 
 -- what was written fits
-holds-size : (c : tie.At-loop invariant-loop decreases-loop)
-    → (c.loop.size ≤ length c.loop.out) × (length c.loop.out ≡ length c.before.before.before.before.before.args.out.now)
-holds-size c = let u = c.before.before.before.before.before in filled-inside (c.loop.invariant.0.filled u.requires.1.0.0 u.requires.1.0.1)
+holds-size : (c : At-loop)
+    → (c.loop.size ≤ length c.loop.out) × (length c.loop.out ≡ length c.args.out.now)
+holds-size c = filled-inside (c.loop.invariant.0.filled c.requires.sections_room.0.0 c.requires.sections_room.0.1)
 
-summed : (c : tie.After-put-section invariant-loop decreases-loop)
-    → let l = c.before.before.before.before.before.before.before.loop in
-    let u = c.before.before.before.before.before.before.before.before.before.before.before.before.args in
-    (l.size + c.put-section.result.size ≤ length u.out.now) × (l.rows + c.put-section.result.rows ≤ length u.w.now)
+summed : (c : After-put_section-z)
+    → let l = c.loop in
+    let u = c.args in
+    (l.size + c.put_section-z.result.size ≤ length u.out.now) × (l.rows + c.put_section-z.result.rows ≤ length u.w.now)
 summed c =
-    let m = c.before.before.before.before.before.before in
-    let t = m.before.loop.invariant.0 in
-    let (h, a) = m.before.before.before.before.before.before.requires.1.0 in
-    sums t m.loop-test.true h a (c.put-section.ensures.0 h (room t m.loop-test.true h a))
+    let t = c.loop.invariant.0 in
+    let (h, a) = c.requires.sections_room.0 in
+    sums t c.loop-test.true h a (c.put_section-z.ensures.is h (room t c.loop-test.true h a))
 
 pub loop-init : goal.loop-init
 loop-init c =
@@ -80,10 +80,10 @@ look_ahead-ahead-requires c =
     (rows-room c.args.n c.args.w.now c.requires.sections_room.1.0 c.requires.sections_room.1.1, l.invariant.1)
 
 pub slice_bounds-put_section-count : goal.slice_bounds-put_section-count
-slice_bounds-put_section-count c = (holds-size c.before.before.before).0
+slice_bounds-put_section-count c = (holds-size (goal.at.slice_bounds-put_section-count c).At-loop).0
 
 pub slice_bounds-put_section-start : goal.slice_bounds-put_section-start
-slice_bounds-put_section-start c = (holds-size c.before.before.before).0
+slice_bounds-put_section-start c = (holds-size (goal.at.slice_bounds-put_section-start c).At-loop).0
 
 pub put_section-z-requires : goal.put_section-z-requires
 put_section-z-requires c =
@@ -104,12 +104,12 @@ put_section-z-requires c =
 pub overflow_add-size : goal.overflow_add-size
 overflow_add-size c =
     let g = c.well_formed.0.0 in
-    record { fits = omega (arith, (summed c.before.before.before).0) }
+    record { fits = omega (arith, (summed (goal.at.overflow_add-size c).After-put_section-z).0) }
 
 pub overflow_add-rows : goal.overflow_add-rows
 overflow_add-rows c =
     let g = c.well_formed.1.1.1.1.1.0.0 in
-    record { fits = omega (arith, (summed c.before.before.before.before).1) }
+    record { fits = omega (arith, (summed (goal.at.overflow_add-rows c).After-put_section-z).1) }
 
 pub next_at-at-requires : goal.next_at-at-requires
 next_at-at-requires c =
@@ -142,7 +142,7 @@ loop-preserved c =
     )
 
 pub shape_of-out : goal.shape_of-out
-shape_of-out c = (holds-size c.before).1
+shape_of-out c = (holds-size (goal.at.shape_of-out c).At-loop).1
 
 pub returns : goal.returns
 returns c =

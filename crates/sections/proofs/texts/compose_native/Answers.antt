@@ -6,10 +6,11 @@ use lib.ListN.{length}
 use Rattle.resolve.specs.Rows.{limits_of}
 use Rattle.sections.specs.Written.{native_text}
 use Rattle.sections.specs.WrittenLaws.{again-length, text-least, unknown-room, native-none, native_roomy, native-lost-room, native-lost, native-found-room, native-found}
+use Rattle.sections.proofs.texts.compose_native.Goals.{Start}
 use Rattle.sections.proofs.texts.compose_native.Goals as goal
 
 -- there is room for a length
-four : (c : tie.Start) → 4 ≤ length c.args.out.now
+four : (c : Start) → 4 ≤ length c.args.out.now
 four c = omega (arith, text-least (native_text (limits_of c.requires.lookups c.args.objects) c.requires.classes c.requires.read c.requires.ref), c.requires.room)
 
 pub put_unknown-requires : goal.put_unknown-requires
@@ -21,10 +22,10 @@ returns-then-u-eq0 c = λ q o xs lookups r t room.
     rw (native-none t c.if-u-eq0.true) c.put_unknown.ensures
 
 pub slice_bounds-put_path-count : goal.slice_bounds-put_path-count
-slice_bounds-put_path-count c = four c.before.before.before.before.before.before
+slice_bounds-put_path-count c = four (goal.at.slice_bounds-put_path-count c).Start
 
 pub slice_bounds-put_path-start : goal.slice_bounds-put_path-start
-slice_bounds-put_path-start c = four c.before.before.before.before.before.before
+slice_bounds-put_path-start c = four (goal.at.slice_bounds-put_path-start c).Start
 
 pub put_path-path-requires : goal.put_path-path-requires
 put_path-path-requires c =
@@ -36,7 +37,7 @@ put_unknown-requires-in-Unknown c =
 
 pub put_length-requires : goal.put_length-requires
 put_length-requires c =
-    omega (arith, again-length 4 c.args.out.now c.put_path-path.new.out (four s) c.put_path-path.auto.0, four s)
+    omega (arith, again-length 4 c.args.out.now c.put_path-path.new.out (four (goal.at.put_length-requires c).Start) c.put_path-path.auto.0, four (goal.at.put_length-requires c).Start)
 
 pub overflow_add-result : goal.overflow_add-result
 overflow_add-result c =

@@ -21,6 +21,7 @@ use Rattle.sections.specs.Written.{is_some, Put, Target, class_of, native_text, 
 use Rattle.sections.specs.WrittenLaws.{behind, again, kept-inside, kept-size, kept-is, class_same, class_in, class-some}
 use Rattle.resolve.specs.declared.rows.Led.{Led}
 use Rattle.sections.specs.declared.texts.Told.{Told}
+use Rattle.sections.proofs.texts.put_both.Goals.{After-struct_known-3-1}
 use Rattle.sections.proofs.texts.put_both.Goals as goal
 
 -- there is room for both texts
@@ -95,17 +96,16 @@ module _ (p : tie.After-put-class) where
       class_end_lem r.target s.args.out.now r.room left (p.put-class.ensures r.classes r.target.tables.classes (class_in r.target left))
 
 -- and the native class's
-both : (c : tie.After-struct-known3) → let p = c.before.before.before.before.before.before.before in let s = start p in
+both : (c : After-struct_known-3-1) → let s = start p in
     (o : Objects) (xs : List Class) (lookups : ℕ) (r : Ref) → Target s.args.c.now s.args.s.now o s.args.n xs lookups s.args.objects s.args.w.now r s.args.l
     → length (both_texts (limits_of lookups s.args.objects) xs o r) ≤ length s.args.out.now
-    → BothPut (limits_of lookups s.args.objects) xs o r s.args.out.now (again p.put-class.result p.put-class.new.0 c.before.before.before.put-native2.new.0)
-    (record { size = p.put-class.result + c.before.before.before.put-native2.result.size; class = true; native = c.before.before.before.put-native2.result.known })
+    → BothPut (limits_of lookups s.args.objects) xs o r s.args.out.now (again c.put_class-first.result c.put_class-first.new.out c.put_native-t-2.new.out)
+    (record { size = c.put_class-first.result + c.put_native-t-2.result.size; class = true; native = c.put_native-t-2.result.known })
 both c o xs lookups r t room =
-    let p = c.before.before.before.before.before.before.before in
     let s = start p in
-    let v = p.put-class.ensures xs t.tables.classes (class_in t (left p)) in
+    let v = c.put_class-first.ensures xs t.tables.classes (class_in t (left p)) in
     both-put t s.args.out.now room (left p) v
-    (c.before.before.before.put-native2.ensures s.args.c.now o xs lookups r t (native-next t s.args.out.now room (left p) v))
+    (c.put_native-t-2.ensures s.args.c.now o xs lookups r t (native-next t s.args.out.now room (left p) v))
 
 pub put_native-t-requires : goal.put_native-t-requires
 put_native-t-requires c =
@@ -162,7 +162,7 @@ pub overflow_add-result : goal.overflow_add-result
 overflow_add-result c =
     let s = start c.before.before.before.before.before.before.before in
     let r = s.pre in
-    omega (arith, (both c r.read r.classes r.lookups r.ref r.target r.room).wrote.fits)
+    omega (arith, (both (goal.at.overflow_add-result c).After-struct_known-3-1 r.read r.classes r.lookups r.ref r.target r.room).wrote.fits)
 
 pub returns : goal.returns
-returns c = both c
+returns c = both (goal.at.returns c).After-struct_known-3-1

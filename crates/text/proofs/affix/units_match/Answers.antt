@@ -31,7 +31,7 @@ pub loop-i-init : goal.loop-i-init
 loop-i-init c = (omega arith, rw add-zero)
 
 pub overflow_add-from : goal.overflow_add-from
-overflow_add-from c = c.args in omega (arith, count-le a.wide a.part.now)
+overflow_add-from c = let a = c.args in omega (arith, count-le a.wide a.part.now)
 
 pub wide-requires : goal.wide-requires
 wide-requires c = tt

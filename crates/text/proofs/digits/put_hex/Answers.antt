@@ -34,7 +34,7 @@ finish s o t k n rest left z h e f =
     record { size = sym (length-hex k n); fits = h; is = f ∙ rw (z, length-hex k n, all) }
 
 pub loop-left-init : goal.loop-left-init
-loop-left-init c = c.args in (omega arith, refl, ([], sym (append-nil _), sym (take-append-drop a.k a.out.now)))
+loop-left-init c = let a = c.args in (omega arith, refl, ([], sym (append-nil _), sym (take-append-drop a.k a.out.now)))
 
 pub loop-left-preserved : goal.loop-left-preserved
 loop-left-preserved c =

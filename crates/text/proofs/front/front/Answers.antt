@@ -35,7 +35,7 @@ returns-then-k-lt4 c =
     rw (not-false a.wide c.if-not-wide.false) (some (units_of true a.part.now) a.i _ c.unit_front-k.ensures c.if-k-lt4.true)
 
 pub overflow_add-i : goal.overflow_add-i
-overflow_add-i c = c.before.before.before.before in omega (arith, units_of_bound s.args.wide s.args.part.now)
+overflow_add-i c = omega (arith, units_of_bound c.args.wide c.args.part.now)
 
 pub unit_front-requires : goal.unit_front-requires
 unit_front-requires c = omega (arith, rw (not-false c.args.wide c.if-not-wide.false) at c.requires)

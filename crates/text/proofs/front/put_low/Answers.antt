@@ -9,25 +9,25 @@ use Rattle.text.specs.FrontLaws.{lows-eight, eight-length}
 use Rattle.text.proofs.front.put_low.Goals as goal
 
 pub overflow_add-i : goal.overflow_add-i
-overflow_add-i c = c.args in omega (arith, units_of_bound a.wide a.part.now)
+overflow_add-i c = let a = c.args in omega (arith, units_of_bound a.wide a.part.now)
 
 pub overflow_add-i-2 : goal.overflow_add-i-2
-overflow_add-i-2 c = c.args in omega (arith, units_of_bound a.wide a.part.now)
+overflow_add-i-2 c = let a = c.args in omega (arith, units_of_bound a.wide a.part.now)
 
 pub overflow_add-i-3 : goal.overflow_add-i-3
-overflow_add-i-3 c = c.args in omega (arith, units_of_bound a.wide a.part.now)
+overflow_add-i-3 c = let a = c.args in omega (arith, units_of_bound a.wide a.part.now)
 
 pub overflow_add-i-4 : goal.overflow_add-i-4
-overflow_add-i-4 c = c.args in omega (arith, units_of_bound a.wide a.part.now)
+overflow_add-i-4 c = let a = c.args in omega (arith, units_of_bound a.wide a.part.now)
 
 pub overflow_add-i-5 : goal.overflow_add-i-5
-overflow_add-i-5 c = c.args in omega (arith, units_of_bound a.wide a.part.now)
+overflow_add-i-5 c = let a = c.args in omega (arith, units_of_bound a.wide a.part.now)
 
 pub overflow_add-i-6 : goal.overflow_add-i-6
-overflow_add-i-6 c = c.args in omega (arith, units_of_bound a.wide a.part.now)
+overflow_add-i-6 c = let a = c.args in omega (arith, units_of_bound a.wide a.part.now)
 
 pub overflow_add-i-7 : goal.overflow_add-i-7
-overflow_add-i-7 c = c.args in omega (arith, units_of_bound a.wide a.part.now)
+overflow_add-i-7 c = let a = c.args in omega (arith, units_of_bound a.wide a.part.now)
 
 pub bounds-out-1 : goal.bounds-out-1
 bounds-out-1 c = simp length-set (omega arith)

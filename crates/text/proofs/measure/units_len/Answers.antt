@@ -17,10 +17,10 @@ pub window_len-at-requires : goal.window_len-at-requires
 window_len-at-requires c = (omega arith, omega arith)
 
 pub overflow_add-at : goal.overflow_add-at
-overflow_add-at c = c.args in omega (arith, units_of_bound a.wide a.part.now)
+overflow_add-at c = let a = c.args in omega (arith, units_of_bound a.wide a.part.now)
 
 pub overflow_add-i : goal.overflow_add-i
-overflow_add-i c = c.args in omega (arith, units_of_bound a.wide a.part.now)
+overflow_add-i c = let a = c.args in omega (arith, units_of_bound a.wide a.part.now)
 
 pub loop-i-preserved : goal.loop-i-preserved
 loop-i-preserved c = (omega arith, omega arith, omega arith)

@@ -16,7 +16,7 @@ pub loop-i-init : goal.loop-i-init
 loop-i-init c = let e : c.args.from + 0 ≡ c.args.from = omega arith in (omega arith, omega arith, rw e (omega arith))
 
 pub overflow_add-from : goal.overflow_add-from
-overflow_add-from c = c.args in omega (arith, units_of_bound a.wide a.part.now)
+overflow_add-from c = let a = c.args in omega (arith, units_of_bound a.wide a.part.now)
 
 pub loop-i-preserved : goal.loop-i-preserved
 loop-i-preserved c =

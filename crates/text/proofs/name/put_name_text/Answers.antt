@@ -9,25 +9,26 @@ use Rattle.text.specs.Utf8.{utf8}
 use Rattle.text.specs.Name.{rendered, text_bytes}
 use Rattle.text.specs.NameLaws.{text_bytes-length}
 use borrow.Author.Rules.{rules}
+use Rattle.text.proofs.name.put_name_text.Goals.{Start}
 use Rattle.text.proofs.name.put_name_text.Goals as goal
 
 -- there is room for the text
-room : (c : tie.Start) → 4 + length (utf8 (rendered c.args.wide c.args.part.now c.args.number)) ≤ length c.args.out.now
+room : (c : Start) → 4 + length (utf8 (rendered c.args.wide c.args.part.now c.args.number)) ≤ length c.args.out.now
 room c = rw text_bytes-length at c.requires.1
 
 pub slice_bounds-put_name-count : goal.slice_bounds-put_name-count
-slice_bounds-put_name-count c = omega (arith, room c.before.before)
+slice_bounds-put_name-count c = omega (arith, room (goal.at.slice_bounds-put_name-count c).Start)
 
 pub slice_bounds-put_name-start : goal.slice_bounds-put_name-start
-slice_bounds-put_name-start c = omega (arith, room c.before.before)
+slice_bounds-put_name-start c = omega (arith, room (goal.at.slice_bounds-put_name-start c).Start)
 
 pub put_name-n-requires : goal.put_name-n-requires
-put_name-n-requires c = (c.requires.0, simp (length-take, length-drop) (omega (arith, room c.before.before.before)))
+put_name-n-requires c = (c.requires.0, simp (length-take, length-drop) (omega (arith, room (goal.at.put_name-n-requires c).Start)))
 
 pub put_be32-requires : goal.put_be32-requires
 put_be32-requires c =
     simp (length-append, length-take, length-drop)
-    (omega (arith, room c.before.before.before.before.before.before.before, c.put_name-n.auto.0))
+    (omega (arith, room (goal.at.put_be32-requires c).Start, c.put_name-n.auto.0))
 
 pub returns : goal.returns
 unfolding text_bytes be_bytes
@@ -37,6 +38,6 @@ returns c =
     let four : c.put_be32.result ≡ 4 = w.size in
     wrote_as
     (wrote_count
-    (wrote-front v (omega (arith, room c.before.before.before.before.before.before.before.before.before.before)) (wrote_count w four))
+    (wrote-front v (omega (arith, room (goal.at.returns c).Start)) (wrote_count w four))
     (omega arith))
     (rw v.size)

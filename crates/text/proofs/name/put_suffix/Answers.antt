@@ -7,11 +7,12 @@ use Rattle.base.specs.Output.{Wrote}
 use Rattle.base.specs.OutputLaws.{wrote_none, wrote_as, wrote-sets, wrote-rest, wrote-room, wrote-length}
 use Rattle.text.specs.NameLaws.{suffix-none, suffix-more}
 use borrow.Author.Rules.{rules}
+use Rattle.text.proofs.name.put_suffix.Goals.{Else-number-eq0}
 use Rattle.text.proofs.name.put_suffix.Goals as goal
 
 -- the mark is written
-mark : (c : tie.Else1) → Wrote c.before.before.args.out.now (95 ∷ []) (set c.before.before.args.out.now 0 95) 1
-mark c = wrote-sets _ (95 ∷ []) (omega (arith, ap length (suffix-more c.before.before.args.number c.if1.false)))
+mark : (c : Else-number-eq0) → Wrote c.args.out.now (95 ∷ []) (set c.args.out.now 0 95) 1
+mark c = wrote-sets _ (95 ∷ []) (omega (arith, ap length (suffix-more c.args.number c.if-number-eq0.false)))
 
 pub returns-then-number-eq0 : goal.returns-then-number-eq0
 returns-then-number-eq0 c = wrote_as (wrote_none _) (sym (suffix-none c.if-number-eq0.true))
@@ -27,15 +28,15 @@ slice_bounds-put_decimal-start c = simp length-set (omega (arith, ap length (suf
 
 pub put_decimal-requires : goal.put_decimal-requires
 put_decimal-requires c =
-    wrote-room (mark c.before) _ (omega (arith, ap length (suffix-more c.args.number c.if-number-eq0.false)))
+    wrote-room (mark (goal.at.put_decimal-requires c).Else-number-eq0) _ (omega (arith, ap length (suffix-more c.args.number c.if-number-eq0.false)))
 
 pub overflow_add-result : goal.overflow_add-result
-overflow_add-result c = omega (arith, (wrote-rest (mark c.before.before.before.before) c.put_decimal.ensures).fits)
+overflow_add-result c = omega (arith, (wrote-rest (mark (goal.at.overflow_add-result c).Else-number-eq0) c.put_decimal.ensures).fits)
 
 pub shape_of-out : goal.shape_of-out
-shape_of-out c = wrote-length (wrote-rest (mark c.before.before.before.before) c.put_decimal.ensures)
+shape_of-out c = wrote-length (wrote-rest (mark (goal.at.shape_of-out c).Else-number-eq0) c.put_decimal.ensures)
 
 pub returns : goal.returns
 returns c =
-    wrote_as (wrote-rest (mark c.before.before.before.before) c.put_decimal.ensures)
+    wrote_as (wrote-rest (mark (goal.at.returns c).Else-number-eq0) c.put_decimal.ensures)
     (sym (suffix-more _ c.if-number-eq0.false))

@@ -13,7 +13,7 @@ pub loop-i-init : goal.loop-i-init
 loop-i-init c = (omega arith, refl)
 
 pub loop-i-preserved : goal.loop-i-preserved
-loop-i-preserved c = c.loop-i in (omega arith, ascii-next _ l.i l.all c.loop-i-test.true l.invariant.1)
+loop-i-preserved c = let l = c.loop-i in (omega arith, ascii-next _ l.i l.all c.loop-i-test.true l.invariant.1)
 
 pub returns : goal.returns
 returns c =

@@ -15,6 +15,7 @@ use Rattle.text.specs.Units.{units_of, scalar_of}
 use Rattle.text.specs.UnitsLaws.{words-drop, units_of-words, units_of_bound, decoded-units, scalar-one, scalar-two, scalar-ill, two_fits, utf16-none, is_well-more}
 use Rattle.text.specs.declared.utf16.Scalar.{Scalar}
 use Rattle.text.specs.declared.utf16.Scalar.TheVariants.{One, Two, Ill}
+use Rattle.text.proofs.utf16.is_paired.Goals.{In-Two}
 use Rattle.text.proofs.utf16.is_paired.Goals as goal
 
 -- the scalar value r that unit i starts, where the part has n units: whether the part is a text shows from the units behind it
@@ -39,8 +40,8 @@ module _ (part : List ℕ) (n : ℕ) (k : n ≡ length (units_of true part)) (i 
         omega (arith, rw length-drop at (two_fits (drop i us) (words-drop i us (units_of-words true part (λ j. (b j).fits))) (sym e ∙ q)).0)
 
 -- the second unit of a pair is there
-room : (c : tie.After-enum-told2 invariant-loop decreases-loop)
-    → c.before.before.before.before.loop.i + 2 ≤ c.before.before.before.before.before.unit-count.result
+room : (c : In-Two)
+    → c.loop-i.i + 2 ≤ c.unit_count-n.result
 room c = search second
 
 pub unit_count-n-requires : goal.unit_count-n-requires
@@ -61,13 +62,13 @@ loop-i-preserved-in-One c = (omega arith, search one)
 
 pub overflow_add-i-in-Two : goal.overflow_add-i-in-Two
 overflow_add-i-in-Two c =
-    omega (arith, room c, units_of_bound true c.args.part.now, c.unit_count-n.ensures)
+    omega (arith, room (goal.at.overflow_add-i-in-Two c).In-Two, units_of_bound true c.args.part.now, c.unit_count-n.ensures)
 
 pub loop-i-smaller : goal.loop-i-smaller
-loop-i-smaller c = omega (arith, room c)
+loop-i-smaller c = omega (arith, room (goal.at.loop-i-smaller c).In-Two)
 
 pub loop-i-preserved : goal.loop-i-preserved
-loop-i-preserved c = (room c, search two)
+loop-i-preserved c = (room (goal.at.loop-i-preserved c).In-Two, search two)
 
 pub returns-in-Ill : goal.returns-in-Ill
 returns-in-Ill c = search none

@@ -44,7 +44,7 @@ pub returns-then-u-ge56320 : goal.returns-then-u-ge56320
 returns-then-u-ge56320 c = search stray
 
 pub overflow_add-next : goal.overflow_add-next
-overflow_add-next c = c.before.before.before.before.before in omega (arith, units_of_bound s.args.wide s.args.part.now)
+overflow_add-next c = omega (arith, units_of_bound c.args.wide c.args.part.now)
 
 pub returns-then-unit_count-next : goal.returns-then-unit_count-next
 returns-then-unit_count-next c = search cut

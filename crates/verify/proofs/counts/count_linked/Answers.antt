@@ -10,7 +10,7 @@ pub loop-i-init : goal.loop-i-init
 loop-i-init c = (counted_none c.requires.0, refl)
 
 pub entry_at-e-requires : goal.entry_at-e-requires
-entry_at-e-requires c = c.loop-i.invariant.0 in (k.accepted, counted-entry k c.loop-i-test.true)
+entry_at-e-requires c = let k = c.loop-i.invariant.0 in (k.accepted, counted-entry k c.loop-i-test.true)
 
 pub path_hash-path-requires : goal.path_hash-path-requires
 path_hash-path-requires c =

@@ -13,6 +13,7 @@ use Rattle.packages.specs.PackageLaws.{accepted-by, package_in_lem}
 use Rattle.packages.specs.Row.{home_in, base_at, whole_at}
 use Rattle.packages.specs.declared.names.Name.{Name}
 use Rattle.packages.specs.declared.package.Parts.{Parts}
+use Rattle.verify.proofs.flags.home_id.Goals.{After-parts_of}
 use Rattle.verify.proofs.flags.home_id.Goals as goal
 
 module _ {b : List ℕ} {p : Parts} (k : PackageIn b p) (y : Bytes b) {home : Name} (e : home ≡ home_in b p) where
@@ -23,19 +24,19 @@ module _ {b : List ℕ} {p : Parts} (k : PackageIn b p) (y : Bytes b) {home : Na
   named q = q ∙ ap id_of (ap (whole_at b) e ∙ home-name k y)
 
 -- the parts of the package
-read : (c : tie.After-parts-of) → PackageIn c.before.before.before.args.b.now c.parts-of.result
-read c = package_in_lem _ _ _ c.before.layout_of.ensures c.parts-of.ensures
+read : (c : After-parts_of) → PackageIn c.args.b.now c.parts_of.result
+read c = package_in_lem _ _ _ c.layout_of.ensures c.parts_of.ensures
 
 pub layout_of-requires : goal.layout_of-requires
-layout_of-requires c = c.args.b.now in ((read_in b).layout, accepted-by b (read_in b) c.requires)
+layout_of-requires c = let b = c.args.b.now in ((read_in b).layout, accepted-by b (read_in b) c.requires)
 
 pub home_of-home-requires : goal.home_of-home-requires
-home_of-home-requires c = read c
+home_of-home-requires c = read (goal.at.home_of-home-requires c).After-parts_of
 
 pub place_id-requires : goal.place_id-requires
 place_id-requires c =
-    held (read p) (λ j. (c.shared_slice_known-1.given j).fits) c.home_of-home.ensures
+    held (read (goal.at.place_id-requires c).After-parts_of) (λ j. (c.shared_slice_known-1.given j).fits) c.home_of-home.ensures
 
 pub returns : goal.returns
 returns c =
-    named (read p) (λ j. (c.shared_slice_known-1.given j).fits) c.home_of-home.ensures c.place_id.ensures
+    named (read (goal.at.returns c).After-parts_of) (λ j. (c.shared_slice_known-1.given j).fits) c.home_of-home.ensures c.place_id.ensures

@@ -11,6 +11,7 @@ use Rattle.batch.specs.PlacesLaws.{start-le}
 use Rattle.packages.specs.Package.{read_in, PackageIn}
 use Rattle.packages.specs.PackageLaws.{names-held, home-room, home-index, home-number, home-named}
 use Rattle.packages.specs.declared.package.Parts.{Parts}
+use Rattle.verify.proofs.flags.home_of.Goals.{After-u30_le-index}
 use Rattle.verify.proofs.flags.home_of.Goals as goal
 
 -- the name's header and start lie in the block
@@ -25,27 +26,27 @@ module _ {b : List ℕ} {p : Parts} (k : PackageIn b p) (y : Bytes b) {i : ℕ} 
       rw e (omega (arith, start-le b p.names.headers p.names.strings i₀ p.names.count (omega (arith, home-named k)), n.inside, n.ends))
 
 -- the package and the name's number, once it is read
-known : (c : tie.After-u30-le) → let a = c.before.before.args in
-    (c.u30-le.result ≡ (read_in a.b.now).layout.summary.index) × Bytes a.b.now
-known c = (c.u30-le.ensures.0 ∙ home-index c.before.before.requires, λ j. (c.before.shared-slice-known.given j).fits)
+known : (c : After-u30_le-index) → let a = c.args in
+    (c.u30_le-index.result ≡ (read_in a.b.now).layout.summary.index) × Bytes a.b.now
+known c = (c.u30_le-index.ensures.0 ∙ home-index c.requires, λ j. (c.shared_slice_known-1.given j).fits)
 
 pub u30_le-index-requires : goal.u30_le-index-requires
 u30_le-index-requires c = omega (arith, home-room c.requires)
 
 pub name_start-start-requires : goal.name_start-start-requires
 name_start-start-requires c =
-    let (e, y) = known c in
+    let (e, y) = known (goal.at.name_start-start-requires c).After-u30_le-index in
     let k = c.requires in
     (omega (arith, head-inside k y e), start-inside k y e)
 
 pub overflow_add-p : goal.overflow_add-p
 overflow_add-p c =
-    let (e, y) = known u in
+    let (e, y) = known (goal.at.overflow_add-p c).After-u30_le-index in
     omega (arith, head-inside c.requires y e)
 
 pub read_head-d-requires : goal.read_head-d-requires
 read_head-d-requires c =
-    let (e, y) = known u in
+    let (e, y) = known (goal.at.read_head-d-requires c).After-u30_le-index in
     omega (arith, head-inside c.requires y e)
 
 pub le32-requires : goal.le32-requires

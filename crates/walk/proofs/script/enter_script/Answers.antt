@@ -6,20 +6,19 @@ use lib.ListN.{length}
 use Rattle.scriptblock.specs.ScriptLaws.{open_fits, script-fault, script-left, script-accepted}
 use Rattle.scriptblock.specs.declared.script.Script.TheVariants.{Rejected}
 use Rattle.walk.proofs.Tabled.{front_length, Filled, filled-front, linked-after, linked-length}
+use Rattle.walk.proofs.script.enter_script.Goals.{Else-l-s}
 use Rattle.walk.proofs.script.enter_script.Goals as goal
 
 -- the objects that were entered, of an accepted block
-filled : (c : tie.Else2) → let x = c.before.before.before.before.before.before in
-    let a = x.before.before.before.before.before.args in
-    Filled a.s.now a.l a.w.now x.enter.new.1.1.1.0
+filled : (c : Else-l-s) → let a = c.args in
+    Filled a.s.now a.l a.w.now c.enter-fault.new.1.1.1.0
 filled c =
-    let x = c.before.before.before.before.before.before in
-    let (q, n, r, small) = x.before.before.before.before.before.requires in
-    let none = c.before.before.before.if1.false in
+    let (q, n, r, small) = c.requires in
+    let none = c.if-fault-ne0.false in
     record {
       room = r;
-      accepted = script-accepted _ q (sym x.enter.ensures.0 ∙ none) c.if2.false;
-      entered = x.enter.ensures.1 none;
+      accepted = script-accepted _ q (sym c.enter-fault.ensures.fault ∙ none) c.if-l-s.false;
+      entered = c.enter-fault.ensures.entered none;
     }
 
 pub slice_bounds-enter-end-2 : goal.slice_bounds-enter-end-2
@@ -49,15 +48,15 @@ returns-then-l-s c =
 
 pub slice_bounds-link-end-2 : goal.slice_bounds-link-end-2
 slice_bounds-link-end-2 c =
-    let z = filled c.before in
+    let z = filled (goal.at.slice_bounds-link-end-2 c).Else-l-s in
     sym (ap length (filled-front z) ∙ z.entered.size)
 
 pub link-requires : goal.link-requires
 link-requires c =
-    let z = filled x in
+    let z = filled (goal.at.link-requires c).Else-l-s in
     (z.accepted, rw (filled-front z) z.entered, c.requires.3)
 
 pub returns : goal.returns
 returns c =
-    let z = filled x in
+    let z = filled (goal.at.returns c).Else-l-s in
     (λ some. absurd (some refl), λ none. (z.accepted, linked-after z c.link.ensures, linked-length z c.link.ensures))

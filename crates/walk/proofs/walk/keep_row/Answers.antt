@@ -82,11 +82,11 @@ pub overflow_mul-size : goal.overflow_mul-size
 overflow_mul-size c = omega (arith, c.requires.open_value.1)
 
 pub returns-then-kind-eq0 : goal.returns-then-kind-eq0
-returns-then-kind-eq0 c = c.before.before.before.before in (
-  no_candidate s.args.n s.args.id s.args.i s.args.b.now s.args.t s.args.w.now c.candidate-kind.ensures c.if-kind-eq0.true,
+returns-then-kind-eq0 c = (
+  no_candidate c.args.n c.args.id c.args.i c.args.b.now c.args.t c.args.w.now c.candidate-kind.ensures c.if-kind-eq0.true,
   (
     (refl, omega arith, omega arith),
-    (refl, no_mark s.args.n s.args.step s.args.i s.args.b.now s.args.t s.args.w.now c.candidate-kind.ensures c.if-kind-eq0.true),
+    (refl, no_mark c.args.n c.args.step c.args.i c.args.b.now c.args.t c.args.w.now c.candidate-kind.ensures c.if-kind-eq0.true),
   ),
 )
 

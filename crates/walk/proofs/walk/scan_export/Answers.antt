@@ -80,7 +80,7 @@ module _ (n limit : ℕ) (v : Visit) (i : ℕ) (d b : List ℕ) {t r : Census} {
             )
 
 pub overflow_mul-size : goal.overflow_mul-size
-overflow_mul-size c = c.requires.open_value in omega (arith, room-is q.1 q.0)
+overflow_mul-size c = let q = c.requires.open_value in omega (arith, room-is q.1 q.0)
 
 pub keep_row-r-requires : goal.keep_row-r-requires
 keep_row-r-requires c =

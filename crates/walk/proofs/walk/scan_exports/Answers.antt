@@ -28,7 +28,7 @@ grown-more : {m i : ℕ} {t₀ t : Census} → i ≤ m → Grown i t₀ t → Gr
 grown-more h g = record { classes = omega (arith, g.classes); rows = omega (arith, g.rows); size = omega (arith, g.size) }
 
 pub loop-i-init : goal.loop-i-init
-loop-i-init c = c.before.before.before in (omega arith, begun s.args.b.now s.args.s.now s.args.n s.args.limit s.args.v s.args.step s.requires.1.0)
+loop-i-init c = (omega arith, begun c.args.b.now c.args.s.now c.args.n c.args.limit c.args.v c.args.step c.requires.some_state.0)
 
 pub shape_of-w-then-not-t : goal.shape_of-w-then-not-t
 shape_of-w-then-not-t c = c.loop-i.invariant.1.size

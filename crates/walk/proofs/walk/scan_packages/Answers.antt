@@ -38,13 +38,13 @@ few : {x m : ℕ} {t : Census} → Small x t → x ≤ m → m < 2 ^ 32 + 4 → 
 few h l r = (omega (arith, h.rows), omega (arith, h.size))
 
 pub overflow_mul-size : goal.overflow_mul-size
-overflow_mul-size c = c.before.before.before in omega (arith, s.requires.1.0.room)
+overflow_mul-size c = omega (arith, c.requires.linked.0.room)
 
 pub slice_bounds-clear-count : goal.slice_bounds-clear-count
-slice_bounds-clear-count c = c.before.before.before in omega (arith, s.requires.1.0.room)
+slice_bounds-clear-count c = omega (arith, c.requires.linked.0.room)
 
 pub overflow_mul-n : goal.overflow_mul-n
-overflow_mul-n c = c.before.before.before.before in omega (arith, s.requires.1.0.room)
+overflow_mul-n c = omega (arith, c.requires.linked.0.room)
 
 pub clear-requires : goal.clear-requires
 clear-requires c =
@@ -113,7 +113,7 @@ next_at-place-requires c =
     (k.starts, k.stops)
 
 pub overflow_add-i : goal.overflow_add-i
-overflow_add-i c = c.before.before.before.before.before.before.before.before.before.before.before.before in omega (arith, l.loop-test, l.before.before.before.before.before.before.before.before.before.before.requires.0.1)
+overflow_add-i c = omega (arith, c.loop-i-test, c.requires.sites.1)
 
 pub loop-i-smaller : goal.loop-i-smaller
 loop-i-smaller c = omega (arith, c.loop-i-test)

@@ -9,14 +9,15 @@ use Rattle.batch.specs.Holds.{Holds, holds-own}
 use Rattle.zen.specs.Answers.{imported_of}
 use Rattle.zen.specs.Zen.{package_block}
 use Rattle.zen.specs.PackageLaws.{imported-text, imported-rendered}
+use Rattle.zen.proofs.access.imported_id.Goals.{After-imported_place-p}
 use Rattle.zen.proofs.access.imported_id.Goals as goal
 
 -- what the place holds
-held : (c : tie.After-imported-place) → Holds c.before.before.args.b.now c.imported-place.result (get_or (imported_of (run_block package_block c.before.before.args.b.now)) c.before.before.args.i [])
-held c = let s = c.before.before in imported-text _ _ s.requires.0 (λ j. (c.before.shared-slice-known.given j).fits) s.args.i _ s.requires.1 c.imported-place.ensures
+held : (c : After-imported_place-p) → Holds c.args.b.now c.imported_place-p.result (get_or (imported_of (run_block package_block c.args.b.now)) c.args.i [])
+held c = imported-text _ _ c.requires.0 (λ j. (c.shared_slice_known-1.given j).fits) c.args.i _ c.requires.1 c.imported_place-p.ensures
 
 pub place_id-requires : goal.place_id-requires
-place_id-requires c = holds-own (held c.before)
+place_id-requires c = holds-own (held (goal.at.place_id-requires c).After-imported_place-p)
 
 pub returns : goal.returns
 returns c =

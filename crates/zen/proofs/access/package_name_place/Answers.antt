@@ -4,4 +4,4 @@ use Rattle.zen.specs.Accepted.{parts}
 use Rattle.zen.proofs.access.package_name_place.Goals as goal
 
 pub name_place-requires : goal.name_place-requires
-name_place-requires c = c.before in (s.requires.0, (parts _ _ s.requires.0).index, s.requires.1)
+name_place-requires c = (c.requires.0, (parts _ _ c.requires.0).index, c.requires.1)

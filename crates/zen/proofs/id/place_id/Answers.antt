@@ -5,7 +5,7 @@ use borrow.Author.Rules.{rules}
 use Rattle.zen.proofs.id.place_id.Goals as goal
 
 pub name_id-requires : goal.name_id-requires
-name_id-requires c = c.before.before in rw c.part_of.ensures (s.requires.well, simp length-take (omega (arith, s.requires.small)))
+name_id-requires c = rw c.part_of.ensures (c.requires.well, simp length-take (omega (arith, c.requires.small)))
 
 pub returns : goal.returns
 returns c = rw c.part_of.ensures at c.name_id.ensures

@@ -13,6 +13,7 @@ use Rattle.batch.specs.declared.names.NameBatch.TheVariants.{Found, Refused}
 use Rattle.zen.specs.Zen.{imports}
 use Rattle.zen.specs.Answers.{imported}
 use Rattle.zen.specs.ImportLaws.{imports-refused, imports-short, imports-is}
+use Rattle.zen.proofs.imports.check_imports.Goals.{In-Found-2}
 use Rattle.zen.proofs.imports.check_imports.Goals as goal
 
 module _ (s : List ℕ) (at index count : ℕ) (n : Names) (f : FoundAt s at n) where
@@ -37,30 +38,30 @@ module _ (s : List ℕ) (at index count : ℕ) (n : Names) (f : FoundAt s at n) 
 abbrev entry : tie.After-n → tie.Start
 entry c = c.before.before.before.before
 
-batch-at : (c : tie.After-n) → FoundAt (entry c).args.s.now (entry c).args.at c.n.given.0.0
+batch-at : (c : In-Found-2) → FoundAt (entry c).args.s.now (entry c).args.at c.n-1.given.0.0
 batch-at c =
-    found_at (entry c).args.s.now (entry c).args.at c.n.given.0.0 (entry c).requires (sym c.before.before.read-batch.ensures ∙ c.n.given.1)
+    found_at (entry c).args.s.now (entry c).args.at c.n-1.given.0.0 (entry c).requires (sym c.read_batch.ensures ∙ c.n-1.given.1)
 
 pub overflow_sub-left : goal.overflow_sub-left
-overflow_sub-left c = (batch-at c.before.before).inside
+overflow_sub-left c = (batch-at (goal.at.overflow_sub-left c).In-Found-2).inside
 
 pub overflow_mul-n : goal.overflow_mul-n
-overflow_mul-n c = omega (arith, (batch-at c.before.before.before).few)
+overflow_mul-n c = omega (arith, (batch-at (goal.at.overflow_mul-n c).In-Found-2).few)
 
 pub returns-then-left-n : goal.returns-then-left-n
 returns-then-left-n c =
-    short (entry d).args.s.now (entry d).args.at (entry d).args.index (entry d).args.count _ (batch-at d) c.if-left-n.true
+    short (entry d).args.s.now (entry d).args.at (entry d).args.index (entry d).args.count _ (batch-at (goal.at.returns-then-left-n c).In-Found-2) c.if-left-n.true
 
 pub overflow_mul-n-in-Found : goal.overflow_mul-n-in-Found
-overflow_mul-n-in-Found c = omega (arith, (batch-at c.before.before.before.before.before).few)
+overflow_mul-n-in-Found c = omega (arith, (batch-at (goal.at.overflow_mul-n-in-Found c).In-Found-2).few)
 
 pub returns-then-n-left : goal.returns-then-n-left
 returns-then-n-left c =
-    more (entry d).args.s.now (entry d).args.at (entry d).args.index (entry d).args.count _ (batch-at d) c.if-n-left.true
+    more (entry d).args.s.now (entry d).args.at (entry d).args.index (entry d).args.count _ (batch-at (goal.at.returns-then-n-left c).In-Found-2) c.if-n-left.true
 
 pub returns-then-count-index : goal.returns-then-count-index
 returns-then-count-index c =
-    out (entry d).args.s.now (entry d).args.at (entry d).args.index (entry d).args.count _ (batch-at d)
+    out (entry d).args.s.now (entry d).args.at (entry d).args.index (entry d).args.count _ (batch-at (goal.at.returns-then-count-index c).In-Found-2)
     c.if-left-n.false c.if-n-left.false c.if-count-index.true
 
 pub returns-in-Refused : goal.returns-in-Refused
@@ -71,5 +72,5 @@ returns-in-Refused c =
 
 pub returns-else-count-index : goal.returns-else-count-index
 returns-else-count-index c =
-    found (entry d).args.s.now (entry d).args.at (entry d).args.index (entry d).args.count _ (batch-at d)
+    found (entry d).args.s.now (entry d).args.at (entry d).args.index (entry d).args.count _ (batch-at (goal.at.returns-else-count-index c).In-Found-2)
     c.if-left-n.false c.if-n-left.false c.if-count-index.false

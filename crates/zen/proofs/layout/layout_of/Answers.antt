@@ -5,21 +5,22 @@ use native.Mathlib.Omega.{arith}
 use borrow.Author.Rules.{rules}
 use Rattle.zen.specs.Layouts.{Laid, accepted-laid}
 use Rattle.zen.specs.declared.zen.Package.TheVariants.{Accepted}
+use Rattle.zen.proofs.layout.layout_of.Goals.{Start}
 use Rattle.zen.proofs.layout.layout_of.Goals as goal
 
-known : (s : tie.Start) → Laid s.args.b.now s.requires.0
+known : (s : Start) → Laid s.args.b.now s.requires.0
 known s = accepted-laid _ _ s.requires.1
 
 pub u32_le-size-requires : goal.u32_le-size-requires
-u32_le-size-requires c = omega (arith, (known c.before).here)
+u32_le-size-requires c = omega (arith, (known (goal.at.u32_le-size-requires c).Start).here)
 
 pub slice_bounds-layout_in-end : goal.slice_bounds-layout_in-end
-slice_bounds-layout_in-end c = rw c.u32_le-size.ensures.0 (known c.before.before).within
+slice_bounds-layout_in-end c = rw c.u32_le-size.ensures.0 (known (goal.at.slice_bounds-layout_in-end c).Start).within
 
 pub layout_in-requires : goal.layout_in-requires
-layout_in-requires c = rw (sub-zero c.u32_le-size.result, c.u32_le-size.ensures.0) (known c.before.before.before).parts
+layout_in-requires c = rw (sub-zero c.u32_le-size.result, c.u32_le-size.ensures.0) (known (goal.at.layout_in-requires c).Start).parts
 
 pub returns : goal.returns
 returns c =
     let u = c.u32_le-size in
-    c.requires.1 ∙ ap Accepted ((known s).is ∙ sym (rw (sub-zero u.result, u.ensures.0) at c.layout_in.ensures))
+    c.requires.1 ∙ ap Accepted ((known (goal.at.returns c).Start).is ∙ sym (rw (sub-zero u.result, u.ensures.0) at c.layout_in.ensures))

@@ -13,11 +13,11 @@ loop-left-init c = (c.requires, refl)
 
 pub returns-then-count-u30_le : goal.returns-then-count-u30_le
 unfolding export_at
-returns-then-count-u30_le c = c.loop-left in sym (l.invariant.1 ∙ named_fail _ _ l.at l.left (omega arith) (omega arith))
+returns-then-count-u30_le c = let l = c.loop-left in sym (l.invariant.1 ∙ named_fail _ _ l.at l.left (omega arith) (omega arith))
 
 pub loop-left-preserved : goal.loop-left-preserved
 unfolding export_at
-loop-left-preserved c = c.loop-left in (omega arith, l.invariant.1 ∙ named-pass _ _ l.at l.left (omega arith) (omega arith))
+loop-left-preserved c = let l = c.loop-left in (omega arith, l.invariant.1 ∙ named-pass _ _ l.at l.left (omega arith) (omega arith))
 
 pub returns : goal.returns
-returns c = c.loop-left in sym (l.invariant.1 ∙ named_none _ _ l.at l.left (omega arith))
+returns c = let l = c.loop-left in sym (l.invariant.1 ∙ named_none _ _ l.at l.left (omega arith))
