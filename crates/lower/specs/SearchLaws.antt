@@ -86,7 +86,8 @@ second_at_lem a (p ∷ ps) e zero h = rw (le-ltb p.0 p.0 (omega arith))
 second_at_lem a (p ∷ ps) e (suc i) h =
     let both = (and-eq-true_iff (ltb a p.0) (rising p.0 ps)).0 e in
     let r = first_above p.0 ps both.1 i (omega arith) in
-    rw (first_next p ps i, second-next p ps i, le-ltb (first_at ps i) p.0 (omega arith), lt-ltb p.0 (first_at ps i) r)
+    ap (λ (c : ℕ). second_of c (p ∷ ps)) (first_next p ps i)
+    ∙ rw (second-next p ps i, le-ltb (first_at ps i) p.0 (omega arith), lt-ltb p.0 (first_at ps i) r)
     (second_at_lem p.0 ps both.1 i (omega arith))
 
 -- below the first at place 0 there is none

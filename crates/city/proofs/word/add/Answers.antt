@@ -5,4 +5,4 @@ use Rattle.city.proofs.word.add.Goals as goal
 
 pub returns : goal.returns
 unfolding addw
-returns c = c.wrapping_add_u64.ensures
+returns c = c.wrapping_add_u64.ensures.value

@@ -13,6 +13,7 @@ use Rattle.lower.specs.SearchLaws.{first_at, second_at, first-later, second_at_l
 use Rattle.lower.specs.LowerLaws.{lower-is, table-length}
 use Rattle.lower.proofs.search.lower_in.Invariants.{NotAbove, Above}
 use Rattle.lower.proofs.search.lower_in.Goals as goal
+use Rattle.lower.proofs.search.lower_in.Goals.{then-table-at, else-table-at}
 
 -- what is left of the table, when the first at its middle was asked
 narrowed : (c at n at' : ℕ) → 1 < n → at + n ≤ 1487 → NotAbove c at → Above c (at + n)
@@ -61,10 +62,7 @@ bounds-table-at c =
 
 pub loop-n-preserved : goal.loop-n-preserved
 loop-n-preserved c =
-    narrowed c.args.c c.loop-n.at c.loop-n.n c.if-table-at.at (omega arith) (omega arith) c.loop-n.invariant.2 c.loop-n.invariant.3 (⊎_elim
-    (λ w. inl (rw c.requires at w.0.taken, w.1))
-    (λ w. inr (rw c.requires at w.0.left, w.1))
-    c.if-table-at.branch)
+    narrowed c.args.c c.loop-n.at c.loop-n.n c.if-table-at.at (omega arith) (omega arith) c.loop-n.invariant.2 c.loop-n.invariant.3 (elim c.if-table-at.branch [ then-table-at w ↦ inl (rw c.requires at w.if-table-at.true, w.at-is) | else-table-at w ↦ inr (rw c.requires at w.if-table-at.false, w.at-is) ])
 
 pub bounds-table-at-2 : goal.bounds-table-at-2
 bounds-table-at-2 c =
