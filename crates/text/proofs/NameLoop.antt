@@ -7,6 +7,8 @@ use native.Mathlib.Nat.{add-zero}
 use native.Mathlib.Omega.{arith}
 use borrow.Author.Tests.{lt-ltb, le-ltb, ne_eqb}
 use lib.Dec.{eqb}
+use mir.Val.{Fits}
+use mir.Syntax.{w8}
 use lib.ListN.{length, take, drop, get_or, length-append, length-take, length-drop, take-append-drop, drop_of_length-le}
 use lib.Seq.{take_at, drop_at, take-add, take_all, take-take, drop-drop, length-take-le, get_or-drop}
 use Rattle.base.specs.NumberLaws.{Bytes}
@@ -16,7 +18,7 @@ use Rattle.text.specs.Utf16.{Decoded, is_well, scalars, more, utf16}
 use Rattle.text.specs.Utf8.{utf8_one, utf8}
 use Rattle.text.specs.Name.{decoded, base}
 use Rattle.text.specs.Units.{units_of, scalar_of}
-use Rattle.text.specs.UnitsLaws.{Words, scalar-single, scalar-pair, scalar-stray, scalar-lone, words-drop, decoded-units, scalar-one, scalar-two, scalar-ill, one-fits, two_fits, utf16-none, is_well-more, scalars-more}
+use Rattle.text.specs.UnitsLaws.{Words, units_of-words, scalar-single, scalar-pair, scalar-stray, scalar-lone, words-drop, decoded-units, scalar-one, scalar-two, scalar-ill, one-fits, two_fits, utf16-none, is_well-more, scalars-more}
 use Rattle.text.specs.Affix.{all_ascii}
 use Rattle.text.specs.Utf16Cases.{Cases, none, single, pair, stray, lone, cases}
 use Rattle.text.specs.UnitLengthLaws.{units-least}
@@ -54,6 +56,17 @@ module _ (us : List ℕ) (i : ℕ) (w : Words us) (ok : well_from us i ≡ true)
   turn_two {c} e =
       let f = two_fits (drop i us) (words-drop i us w) e in
       turn 2 c f.0 (omega arith) f.1 (scalar-two (drop i us) e)
+
+-- the turn at the scalar value r that the code reads at i: one unit, or two
+module _ (wide : Bool) (part : List ℕ) (b : (j : ℕ) → Fits w8 (get_or part j 0)) (i : ℕ) (ok : well_from (units_of wide part) i ≡ true) where
+  words : Words (units_of wide part)
+  words = units_of-words wide part (λ j. (b j).fits)
+
+  pub read_one : {r : Scalar} {c : ℕ} → r ≡ scalar_of (drop i (units_of wide part)) → r ≡ One c → Turn (units_of wide part) i 1 c
+  read_one e q = turn_one (units_of wide part) i words ok (sym e ∙ q)
+
+  pub read_two : {r : Scalar} {c : ℕ} → r ≡ scalar_of (drop i (units_of wide part)) → r ≡ Two c → Turn (units_of wide part) i 2 c
+  read_two e q = turn_two (units_of wide part) i words ok (sym e ∙ q)
 
 pub turn-length : {us : List ℕ} {i k c : ℕ} → Turn us i k c → length (bytes_from us i) ≡ length (utf8_one c) + length (bytes_from us (i + k))
 turn-length {us} {i} {k} {c} t = ap length t.is ∙ length-append (utf8_one c) (bytes_from us (i + k))

@@ -41,7 +41,7 @@ returns-then-not-is_text c =
     let a = c.args in
     let e = c.read_head-d.ensures.0 in
     let w = name-is a.s.now l.h l.p c.read_head-d.result e
-    (sym c.is_text.ensures ∙ not-true c.is_text.result c.if-not-is_text.true) in
+    (sym c.is_text.ensures ∙ c.if-not-is_text.true) in
     sym (l.invariant.2 ∙ names-ill a.s.now a.end l.left l.h l.p (omega arith) (omega arith) (omega arith)
     (rw e at c.if-end-p.false) w)
 
@@ -51,7 +51,7 @@ loop-left-preserved c =
     let a = c.args in
     let e = c.read_head-d.ensures.0 in
     let w = name-is a.s.now l.h l.p c.read_head-d.result e
-    (sym c.is_text.ensures ∙ not-false c.is_text.result c.if-not-is_text.false) in (
+    (sym c.is_text.ensures ∙ c.if-not-is_text.false) in (
       omega arith,
       omega arith,
       l.invariant.2

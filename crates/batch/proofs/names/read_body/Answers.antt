@@ -69,4 +69,4 @@ pub returns-in-Passed : goal.returns-in-Passed
 returns-in-Passed c =
     let a = c.args in
     passed a.s.now a.at a.count a.room c.if-end-headers.false c.if-end-strings.false c.if-end-next.false
-    _ c.check_names.ensures c.enum_told-1.given.1
+    _ c.check_names.ensures c.in-Passed.is

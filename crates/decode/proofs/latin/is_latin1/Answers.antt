@@ -25,19 +25,19 @@ returns-then-n-lt16 c =
     let s = c.args.s.now in
     let e : length s - 8 + 8 ≡ length s = omega arith in
     let h : length s - 8 ≤ 8 = omega arith in
-    rw (c.is_IsWord.ensures, c.is_word-then-n-lt16.ensures) (every_cover low 8 s 8 (length s - 8) e h ∙ low-latin s c.requires)
+    rw (c.is_word.ensures, c.is_word-then-n-lt16.ensures) (every_cover low 8 s 8 (length s - 8) e h ∙ low-latin s c.requires)
 
 pub loop-i-init : goal.loop-i-init
 loop-i-init c = (omega arith, refl)
 
 pub returns-then-not-is_pair : goal.returns-then-not-is_pair
 returns-then-not-is_pair c =
-    sym (sym (low-latin c.args.s.now c.requires) ∙ every-not low 16 _ c.loop-i.i (sym c.is_pair.ensures ∙ not-true c.is_pair.result c.if-not-is_pair.true))
+    sym (sym (low-latin c.args.s.now c.requires) ∙ every-not low 16 _ c.loop-i.i (sym c.is_pair.ensures ∙ c.if-not-is_pair.true))
 
 pub loop-i-preserved : goal.loop-i-preserved
 loop-i-preserved c =
     let l = c.loop-i in
-    (omega arith, more _ l.i l.invariant.1 (sym c.is_pair.ensures ∙ not-false c.is_pair.result c.if-not-is_pair.false))
+    (omega arith, more _ l.i l.invariant.1 (sym c.is_pair.ensures ∙ c.if-not-is_pair.false))
 
 pub returns : goal.returns
 returns c =

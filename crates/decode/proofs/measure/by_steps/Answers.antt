@@ -38,7 +38,7 @@ loop-at-preserved c =
 pub returns-in-Stuck : goal.returns-in-Stuck
 returns-in-Stuck c =
     let l = c.loop-at in
-    let e = rw c.enum_told-1.given.1 at c.step_at.ensures in
+    let e = rw c.in-Stuck.is at c.step_at.ensures in
     sym (l.invariant.2 ∙ added-ill l.units l.latin e)
 
 pub returns : goal.returns

@@ -19,7 +19,7 @@ returns-then-are_plane c = two-passed _ _ (omega arith) (sym c.are_plane.ensures
 
 pub returns-in-Of : goal.returns-in-Of
 returns-in-Of c =
-    rw c.char_units.ensures (one-passed c.args.s.now c.args.at c.requires (sym c.quick_char.ensures ∙ c.c-1.given.1))
+    rw c.char_units.ensures (one-passed c.args.s.now c.args.at c.requires (sym c.quick_char.ensures ∙ c.in-Of.is))
 
 pub returns-in-Ill : goal.returns-in-Ill
-returns-in-Ill c = none_passed _ _ c.requires (sym c.quick_char.ensures ∙ c.enum_told-1.given.1)
+returns-in-Ill c = none_passed _ _ c.requires (sym c.quick_char.ensures ∙ c.in-Ill.is)

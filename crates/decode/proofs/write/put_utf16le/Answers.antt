@@ -173,7 +173,7 @@ loop-at-preserved c =
     (t.within, wrote-length p.wrote, sym (well-next t) ∙ i.2, p)
 
 pub returns-in-Ill : goal.returns-in-Ill
-returns-in-Ill c = absurd (turn-well _ _ c.loop-at-test.true c.loop-at.invariant.2 (sym c.known_char.ensures ∙ c.enum_told-1.given.1))
+returns-in-Ill c = absurd (turn-well _ _ c.loop-at-test.true c.loop-at.invariant.2 (sym c.known_char.ensures ∙ c.in-Ill.is))
 
 pub returns : goal.returns
 returns c = partly_all c.loop-at.invariant.3 (utf16le-last _ _ c.loop-at-test.false)

@@ -37,4 +37,4 @@ returns-else-header-g c =
 
 pub returns-in-Malformed : goal.returns-in-Malformed
 returns-in-Malformed c =
-    said-none c.args.description.now c.args.header.now (rw c.enum_told-1.given.1 at c.check.ensures) c.refuse-in-Malformed.ensures
+    said-none c.args.description.now c.args.header.now (rw c.in-Malformed.is at c.check.ensures) c.refuse-in-Malformed.ensures

@@ -17,4 +17,4 @@ returns-in-To c = c.check_tables.ensures
 
 pub returns-in-Bad : goal.returns-in-Bad
 returns-in-Bad c =
-    texts-bad c.args.s.now c.if-n-lt17.false c.size_at-2.result c.size_at-2.ensures.0 (sym c.sized_texts.ensures ∙ c.enum_told-1.given.1)
+    texts-bad c.args.s.now c.if-n-lt17.false c.size_at-2.result c.size_at-2.ensures.0 (sym c.sized_texts.ensures ∙ c.in-Bad.is)

@@ -26,4 +26,4 @@ pub returns-in-Bad : goal.returns-in-Bad
 returns-in-Bad c =
     names-bad c.args.s.now c.args.end c.args.strings c.args.hashes c.args.stop c.requires c.size_at-count.result
     c.size_at-count.ensures.0
-    (sym c.sized_texts.ensures ∙ c.enum_told-1.given.1)
+    (sym c.sized_texts.ensures ∙ c.in-Bad.is)

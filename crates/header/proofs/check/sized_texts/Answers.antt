@@ -49,7 +49,7 @@ returns-in-Bad c =
     let l = c.loop-left in
     let u = c.args in
     turn-bad u.more u.s.now l.size l.at l.left (search rules) (sym
-    c.sized_text.ensures ∙ c.enum_told-1.given.1) ∙ l.invariant.3
+    c.sized_text.ensures ∙ c.in-Bad.is) ∙ l.invariant.3
 
 pub returns : goal.returns
 returns c =

@@ -14,7 +14,7 @@ use Rattle.ids.proofs.id.name_id.Goals as goal
 pub returns-then-number-eq0 : goal.returns-then-number-eq0
 returns-then-number-eq0 c =
     c.one_hash.ensures
-    ∙ sym (one_name (not-true c.args.wide c.if-not-wide.true) c.if-number-eq0.true c.args.part.now
+    ∙ sym (one_name (c.if-not-wide.true) c.if-number-eq0.true c.args.part.now
     (λ j. (c.shared_slice_known-1.given j).fits) c.if-part-eq1.true)
 
 pub put_suffix-n-requires : goal.put_suffix-n-requires

@@ -10,7 +10,7 @@ use Rattle.ids.proofs.wide.put_turns.Goals as goal
 pub returns-in-Ascii : goal.returns-in-Ascii
 returns-in-Ascii c =
     let p = c.tried.ensures in
-    (omega arith, p.1 c.enum_told-1.given.1, p.0)
+    (omega arith, p.1 c.in-Ascii.is, p.0)
 
 pub returns-in-Latin : goal.returns-in-Latin
 returns-in-Latin c =

@@ -53,7 +53,7 @@ overflow_add-result-in-Known-2 c =
 
 pub returns-in-Unknown : goal.returns-in-Unknown
 returns-in-Unknown c = λ o i st.
-    told-nowhere st c.args.limit c.if-limit-eq0.false (own (goal.at.returns-in-Unknown c).After-place_len-own) c.if-outer-eq0.false c.if-outer-eq1.false (c.path_len-above.ensures _ o st.holds) c.enum_told-1.given.1
+    told-nowhere st c.args.limit c.if-limit-eq0.false (own (goal.at.returns-in-Unknown c).After-place_len-own) c.if-outer-eq0.false c.if-outer-eq1.false (c.path_len-above.ensures _ o st.holds) c.in-Unknown.is
 
 pub returns-in-Known : goal.returns-in-Known
 returns-in-Known c = λ o i st.

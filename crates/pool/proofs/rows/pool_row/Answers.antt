@@ -76,7 +76,7 @@ put_text-size-requires c =
 
 pub overflow_add-result : goal.overflow_add-result
 overflow_add-result c =
-    omega (arith, c.put_text-size.ensures.within, c.set32.auto.0)
+    omega (arith, c.put_text-size.ensures.within, c.set32.auto.w)
 
 pub returns : goal.returns
 returns c =

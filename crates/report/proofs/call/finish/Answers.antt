@@ -43,7 +43,7 @@ returns-then-report-size c = finish-outside (summed (goal.at.returns-then-report
 
 pub pool_texts-requires : goal.pool_texts-requires
 pool_texts-requires c =
-    (finish_roomy (summed (goal.at.pool_texts-requires c).After-resolve_all) c.link_classes.auto.0, c.requires.begun.3)
+    (finish_roomy (summed (goal.at.pool_texts-requires c).After-resolve_all) c.link_classes.auto.w, c.requires.begun.3)
 
 pub overflow_add-f : goal.overflow_add-f
 overflow_add-f c = omega (arith, (begun-few (summed (goal.at.overflow_add-f c).After-resolve_all).begun).1)

@@ -56,7 +56,7 @@ refuse_short-requires c =
 pub returns-in-Refused : goal.returns-in-Refused
 returns-in-Refused c =
     let (b, n, k, l) = c.requires in
-    scanned_refused b k (c.scan_packages.ensures.refused _ _ c.q-1.given.1) c.refuse.ensures
+    scanned_refused b k (c.scan_packages.ensures.refused _ _ c.in-Refused.is) c.refuse.ensures
 
 pub returns-else-t : goal.returns-else-t
 returns-else-t c =

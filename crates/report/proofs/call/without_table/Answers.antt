@@ -40,7 +40,7 @@ refuse_short-requires c =
 pub returns-in-Rejected : goal.returns-in-Rejected
 returns-in-Rejected c = λ l lookups work room q h.
     refused-opened
-    (opened-script (limits_of lookups c.args.limit) c.args.c.now c.requires (sym c.check_script.ensures ∙ c.q-1.given.1))
+    (opened-script (limits_of lookups c.args.limit) c.args.c.now c.requires (sym c.check_script.ensures ∙ c.in-Rejected.is))
     c.refuse.ensures
 
 pub returns-in-Refused : goal.returns-in-Refused

@@ -22,7 +22,7 @@ returns-then-add-gt0 c =
       λ e. absurd (false≢true e),
       (
         λ e s xs z q t k. class-stands a.k (class_from s a.at a.i) k t (class-keyed a.i z q c.export_at-e.ensures) c.add.ensures.found c.if-add-gt0.true,
-        c.add.auto.0,
+        c.add.auto.w,
       ),
     )
 
@@ -42,7 +42,7 @@ record_at-requires c =
 
 pub describe-requires : goal.describe-requires
 describe-requires c =
-    omega (arith, c.requires.classes.3, c.record_at.ensures, c.add.auto.0)
+    omega (arith, c.requires.classes.3, c.record_at.ensures, c.add.auto.w)
 
 pub returns : goal.returns
 returns c =
@@ -55,6 +55,6 @@ returns c =
           c.class_path_len-len.ensures.0 c.class_path_len-len.ensures.1 t l (c.add.ensures.added.0 none) c.record_at.ensures c.describe.ensures,
       (
         λ e. absurd (false≢true (sym e)),
-        c.describe.auto.0 ∙ c.add.auto.0,
+        c.describe.auto.w ∙ c.add.auto.w,
       ),
     )

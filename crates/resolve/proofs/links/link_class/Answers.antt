@@ -45,7 +45,7 @@ overflow_add-at-5 c =
 
 pub set64-requires-2 : goal.set64-requires-2
 set64-requires-2 c =
-    omega (arith, record_room c.args.i c.requires, c.record_at.ensures, c.set64.auto.0)
+    omega (arith, record_room c.args.i c.requires, c.record_at.ensures, c.set64.auto.w)
 
 -- no key, or linked already
 pub returns-then-hi-eq0 : goal.returns-then-hi-eq0

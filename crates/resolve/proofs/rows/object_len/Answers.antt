@@ -19,7 +19,7 @@ returns-in-Unknown c = (
   λ s b o xs t.
       let a = c.args in
       let z : a.k ≡ suc (a.k - 1) = omega arith in
-      sym (told-unknown (path_no a.objects o (a.k - 1)) (c.path_len-p.ensures b o t.objects) c.enum_told-1.given.1)
+      sym (told-unknown (path_no a.objects o (a.k - 1)) (c.path_len-p.ensures b o t.objects) c.in-Unknown.is)
       ∙ ap (λ (k : ℕ). size (or_unknown (path_text (path_by a.objects o k)))) (sym z),
   omega arith,
 )
@@ -31,11 +31,11 @@ returns-in-Known c =
     let r = c.path_len-p in (
       λ s b o xs t.
           let z : a.k ≡ suc (a.k - 1) = omega arith in
-          (told-known (path_no a.objects o (a.k - 1)) (r.ensures b o t.objects) _ _ c.p-1.given.1).0
+          (told-known (path_no a.objects o (a.k - 1)) (r.ensures b o t.objects) _ _ c.in-Known.is).0
           ∙ ap (λ (k : ℕ). size (or_unknown (path_text (path_by a.objects o k)))) (sym z),
       omega (
         arith,
-        (told-known (path_no a.objects c.requires.0.objects (a.k - 1)) (r.ensures c.requires.0.block c.requires.0.objects t.objects) _ _ c.p-1.given.1).1,
+        (told-known (path_no a.objects c.requires.0.objects (a.k - 1)) (r.ensures c.requires.0.block c.requires.0.objects t.objects) _ _ c.in-Known.is).1,
         path-short t.objects t.bytes a.objects (a.k - 1) (omega (arith, t.count)),
       ),
     )

@@ -24,7 +24,7 @@ returns-then-not-is_fresh c =
     let a = c.args in
     sym (l.invariant.1 ∙ fault-seen a.b.now a.l l.i (omega arith) c.entry_in-e.ensures
     (sym c.entry_fault-fault.ensures ∙ c.if-fault-ne0.false)
-    (sym c.is_fresh.ensures ∙ not-true c.is_fresh.result c.if-not-is_fresh.true))
+    (sym c.is_fresh.ensures ∙ c.if-not-is_fresh.true))
 
 pub loop-i-preserved : goal.loop-i-preserved
 loop-i-preserved c =
@@ -33,7 +33,7 @@ loop-i-preserved c =
       omega arith,
       l.invariant.1 ∙ fault-next a.b.now a.l l.i (omega arith) c.entry_in-e.ensures
           (sym c.entry_fault-fault.ensures ∙ c.if-fault-ne0.false)
-          (sym c.is_fresh.ensures ∙ not-false c.is_fresh.result c.if-not-is_fresh.false),
+          (sym c.is_fresh.ensures ∙ c.if-not-is_fresh.false),
     )
 
 pub returns : goal.returns

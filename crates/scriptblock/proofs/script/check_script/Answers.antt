@@ -41,7 +41,7 @@ returns-then-l-b c =
 
 pub returns-in-Shut : goal.returns-in-Shut
 returns-in-Shut c =
-    sym (script-shut c.args.b.now (sym c.open_script.ensures ∙ c.r-1.given.1))
+    sym (script-shut c.args.b.now (sym c.open_script.ensures ∙ c.in-Shut.is))
 
 pub returns-else-l-b : goal.returns-else-l-b
 returns-else-l-b c =

@@ -34,13 +34,13 @@ returns-then-b-from c =
 
 pub returns-in-Refused : goal.returns-in-Refused
 returns-in-Refused c =
-    sym (opened-refused c.args.b.now (sym c.read_batch.ensures ∙ c.r-1.given.1))
+    sym (opened-refused c.args.b.now (sym c.read_batch.ensures ∙ c.in-Refused.is))
 
 pub returns-in-Negative : goal.returns-in-Negative
 returns-in-Negative c =
-    let f = found c.args.b.now _ c.read_batch.ensures c.n-1.given.1 in
+    let f = found c.args.b.now _ c.read_batch.ensures c.in-Negative.is in
     sym (opened-negative c.args.b.now f (omega arith)
-    (size_none 32 _ (sym c.le_size32.ensures ∙ c.enum_told-1.given.1)))
+    (size_none 32 _ (sym c.le_size32.ensures ∙ c.in-Negative.is)))
 
 pub returns-else-b-from : goal.returns-else-b-from
 returns-else-b-from c =

@@ -25,7 +25,7 @@ put_reference-n-requires c =
 pub put_length-requires : goal.put_length-requires
 put_length-requires c =
     let r = room (goal.at.put_length-requires c).Start in
-    omega (arith, again-length 4 c.args.out.now c.put_reference-n.new.out (omega arith) c.put_reference-n.auto.0)
+    omega (arith, again-length 4 c.args.out.now c.put_reference-n.new.out (omega arith) c.put_reference-n.auto.out)
 
 pub returns : goal.returns
 returns c =

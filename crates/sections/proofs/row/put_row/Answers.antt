@@ -53,7 +53,7 @@ put_front-requires c =
     let f = fit (goal.at.put_front-requires c).Start in
     let t = c.put_texts-t.ensures r.read r.classes r.lookups r.id r.number (due (goal.at.put_front-requires c).Start) f.1 in
     let l = behind-length 10 c.args.out.now f.0 in
-    omega (arith, t.wrote.fits, again-length 10 c.args.out.now c.put_texts-t.new.out f.0 c.put_texts-t.auto.0)
+    omega (arith, t.wrote.fits, again-length 10 c.args.out.now c.put_texts-t.new.out f.0 c.put_texts-t.auto.out)
 
 pub returns : goal.returns
 returns c = λ o xs lookups id i inside is target room.

@@ -33,11 +33,11 @@ put_path-path-requires c =
 
 pub put_unknown-requires-in-Unknown : goal.put_unknown-requires-in-Unknown
 put_unknown-requires-in-Unknown c =
-    native-lost-room c.requires.target c.if-u-eq0.false c.args.out.now c.requires.room c.put_path-path.ensures c.enum_told-1.given.1
+    native-lost-room c.requires.target c.if-u-eq0.false c.args.out.now c.requires.room c.put_path-path.ensures c.in-Unknown.is
 
 pub put_length-requires : goal.put_length-requires
 put_length-requires c =
-    omega (arith, again-length 4 c.args.out.now c.put_path-path.new.out (four (goal.at.put_length-requires c).Start) c.put_path-path.auto.0, four (goal.at.put_length-requires c).Start)
+    omega (arith, again-length 4 c.args.out.now c.put_path-path.new.out (four (goal.at.put_length-requires c).Start) c.put_path-path.auto.out, four (goal.at.put_length-requires c).Start)
 
 pub overflow_add-result : goal.overflow_add-result
 overflow_add-result c =
@@ -45,7 +45,7 @@ overflow_add-result c =
 
 pub returns-in-Unknown : goal.returns-in-Unknown
 returns-in-Unknown c = λ q o xs lookups r t room.
-    native-lost t c.if-u-eq0.false c.args.out.now room c.put_path-path.ensures c.enum_told-1.given.1 c.put_unknown-in-Unknown.ensures
+    native-lost t c.if-u-eq0.false c.args.out.now room c.put_path-path.ensures c.in-Unknown.is c.put_unknown-in-Unknown.ensures
 
 pub returns-in-Known : goal.returns-in-Known
 returns-in-Known c = λ q o xs lookups r t room.

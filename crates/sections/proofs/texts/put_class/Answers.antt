@@ -33,7 +33,7 @@ put_class_path-k-requires c =
 
 pub put_length-requires : goal.put_length-requires
 put_length-requires c =
-    omega (arith, again-length 4 c.args.out.now c.put_class_path-k.new.out (four (goal.at.put_length-requires c).Start) c.put_class_path-k.auto.0, four (goal.at.put_length-requires c).Start)
+    omega (arith, again-length 4 c.args.out.now c.put_class_path-k.new.out (four (goal.at.put_length-requires c).Start) c.put_class_path-k.auto.out, four (goal.at.put_length-requires c).Start)
 
 pub overflow_add-result : goal.overflow_add-result
 unfolding text_bytes

@@ -4,7 +4,6 @@ use mathlib.Core.Bool.{true}
 use mathlib.Core.List.{List}
 use Prim.Native.Nat.{ℕ, ◌+◌, ◌≤◌, ◌<◌}
 use native.Mathlib.Omega.{arith}
-use borrow.Author.Tests.{not-true, not-false}
 use lib.ListN.{drop}
 use lib.Seq.{drop-drop}
 use Rattle.text.specs.Units.{units_of}
@@ -21,24 +20,24 @@ all : (us : List ℕ) (i k m : ℕ) → k ≡ ascii_front 4 (drop i us) → 4 �
 all us i k m e h f = rw f (rw (← drop-drop 4 i us) (sym (front-all 4 4 (drop i us) (rw e at h))))
 
 pub byte_front-requires : goal.byte_front-requires
-byte_front-requires c = rw (not-true c.args.wide c.if-not-wide.true, units_of-narrow) at c.requires
+byte_front-requires c = rw (c.if-not-wide.true, units_of-narrow) at c.requires
 
 pub returns-then-not-wide : goal.returns-then-not-wide
-returns-then-not-wide c = rw (not-true c.args.wide c.if-not-wide.true, units_of-narrow) c.byte_front.ensures
+returns-then-not-wide c = rw (c.if-not-wide.true, units_of-narrow) c.byte_front.ensures
 
 pub unit_front-k-requires : goal.unit_front-k-requires
-unit_front-k-requires c = omega (arith, rw (not-false c.args.wide c.if-not-wide.false) at c.requires)
+unit_front-k-requires c = omega (arith, rw (c.if-not-wide.false) at c.requires)
 
 pub returns-then-k-lt4 : goal.returns-then-k-lt4
 returns-then-k-lt4 c =
     let a = c.args in
-    rw (not-false a.wide c.if-not-wide.false) (some (units_of true a.part.now) a.i _ c.unit_front-k.ensures c.if-k-lt4.true)
+    rw (c.if-not-wide.false) (some (units_of true a.part.now) a.i _ c.unit_front-k.ensures c.if-k-lt4.true)
 
 pub overflow_add-i : goal.overflow_add-i
 overflow_add-i c = omega (arith, units_of_bound c.args.wide c.args.part.now)
 
 pub unit_front-requires : goal.unit_front-requires
-unit_front-requires c = omega (arith, rw (not-false c.args.wide c.if-not-wide.false) at c.requires)
+unit_front-requires c = omega (arith, rw (c.if-not-wide.false) at c.requires)
 
 pub overflow_add-result : goal.overflow_add-result
 overflow_add-result c =
@@ -48,5 +47,5 @@ overflow_add-result c =
 pub returns : goal.returns
 returns c =
     let a = c.args in
-    rw (not-false a.wide c.if-not-wide.false)
+    rw (c.if-not-wide.false)
     (all (units_of true a.part.now) a.i _ _ c.unit_front-k.ensures c.if-k-lt4.false c.unit_front.ensures)

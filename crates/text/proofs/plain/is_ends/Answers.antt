@@ -12,7 +12,7 @@ returns-then-n-lt16 c =
     let part = c.args.part.now in
     let e : length part - 8 + 8 ≡ length part = omega arith in
     let h : length part - 8 ≤ 8 = omega arith in
-    rw (c.is_IsWord.ensures, c.is_word-then-n-lt16.ensures) (ascii_cover 8 part 8 (length part - 8) e h)
+    rw (c.is_word.ensures, c.is_word-then-n-lt16.ensures) (ascii_cover 8 part 8 (length part - 8) e h)
 
 pub returns : goal.returns
 returns c =

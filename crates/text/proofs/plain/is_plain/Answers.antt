@@ -4,7 +4,6 @@ use mathlib.Core.Bool.{true}
 use mathlib.Core.List.{List}
 use Prim.Native.Nat.{ℕ, ◌+◌, ◌-◌, ◌≤◌}
 use native.Mathlib.Omega.{arith}
-use borrow.Author.Tests.{not-true, not-false}
 use lib.ListN.{length, take, drop}
 use Rattle.text.specs.Affix.{all_ascii}
 use Rattle.text.specs.PlainLaws.{ascii_more, ascii-not, ascii_end}
@@ -30,12 +29,12 @@ pub loop-i-init : goal.loop-i-init
 loop-i-init c = (omega arith, refl)
 
 pub returns-then-not-is_pair : goal.returns-then-not-is_pair
-returns-then-not-is_pair c = sym (ascii-not 16 _ c.loop-i.i (sym c.is_pair.ensures ∙ not-true c.is_pair.result c.if-not-is_pair.true))
+returns-then-not-is_pair c = sym (ascii-not 16 _ c.loop-i.i (sym c.is_pair.ensures ∙ c.if-not-is_pair.true))
 
 pub loop-i-preserved : goal.loop-i-preserved
 loop-i-preserved c =
     let l = c.loop-i in
-    (omega arith, more _ l.i l.invariant.1 (sym c.is_pair.ensures ∙ not-false c.is_pair.result c.if-not-is_pair.false))
+    (omega arith, more _ l.i l.invariant.1 (sym c.is_pair.ensures ∙ c.if-not-is_pair.false))
 
 pub returns : goal.returns
 returns c =

@@ -27,7 +27,7 @@ put_name-n-requires c = (c.requires.0, simp (length-take, length-drop) (omega (a
 
 pub put_be32-requires : goal.put_be32-requires
 put_be32-requires c =
-    simp (length-append, length-take, length-drop) (omega (arith, room (goal.at.put_be32-requires c).Start, c.put_name-n.auto.0))
+    simp (length-append, length-take, length-drop) (omega (arith, room (goal.at.put_be32-requires c).Start, c.put_name-n.auto.out))
 
 pub returns : goal.returns
 unfolding text_bytes be_bytes

@@ -1,18 +1,17 @@
 -- `utf16::is_text` meets its contract: a text with no surrogate is one. Assumes nothing.
 use mathlib.Core.Path.{sym, ◌∙◌}
 use borrow.Author.Rules.{rules}
-use borrow.Author.Tests.{not-true, not-false}
 use Rattle.text.specs.UnitsLaws.{latin1-well}
 use Rattle.text.specs.UnitLengthLaws.{single-text}
 use Rattle.text.proofs.utf16.is_text.Goals as goal
 
 pub returns-then-not-wide : goal.returns-then-not-wide
-returns-then-not-wide c = rw (not-true c.args.wide c.if-not-wide.true) (sym (latin1-well _))
+returns-then-not-wide c = rw (c.if-not-wide.true) (sym (latin1-well _))
 
 pub returns-then-all_single : goal.returns-then-all_single
 returns-then-all_single c =
     let a = c.args in
-    rw (not-false a.wide c.if-not-wide.false) (sym (single-text a.part.now (sym c.all_single.ensures ∙ c.if-all_single.true)))
+    rw (c.if-not-wide.false) (sym (single-text a.part.now (sym c.all_single.ensures ∙ c.if-all_single.true)))
 
 pub returns : goal.returns
-returns c = rw (not-false c.args.wide c.if-not-wide.false) c.is_paired.ensures
+returns c = rw (c.if-not-wide.false) c.is_paired.ensures

@@ -47,7 +47,7 @@ with_table-requires c =
 
 pub returns-in-Broken : goal.returns-in-Broken
 returns-in-Broken c =
-    let e = sym c.read_frame.ensures ∙ c.q-1.given.1 in
+    let e = sym c.read_frame.ensures ∙ c.in-Broken.is in
     answered-verified (answered-opened (opened-broken limits _ e) c.refuse.ensures)
 
 pub returns-in-Shut : goal.returns-in-Shut

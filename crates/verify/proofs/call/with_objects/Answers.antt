@@ -39,7 +39,7 @@ compare-requires c =
 pub returns-in-Refused : goal.returns-in-Refused
 returns-in-Refused c =
     let (b, n, k, y) = c.requires in
-    let e = c.scan_packages.ensures.refused _ _ c.q-1.given.1 in
+    let e = c.scan_packages.ensures.refused _ _ c.in-Refused.is in
     answered-opened (opened_package limits _ b k.holds.all.read e) c.refuse.ensures
 
 pub returns-then-k : goal.returns-then-k

@@ -44,7 +44,7 @@ compare-requires c =
 
 pub returns-in-Rejected : goal.returns-in-Rejected
 returns-in-Rejected c =
-    let e = sym c.check_script.ensures ∙ c.q-1.given.1 in
+    let e = sym c.check_script.ensures ∙ c.in-Rejected.is in
     answered-opened (opened-script limits _ c.requires e) c.refuse.ensures
 
 pub returns-in-Refused : goal.returns-in-Refused

@@ -9,7 +9,7 @@ returns-then-low-wanted c =
     tally_match _ _ c.path-1.given.1 (sym c.index_value-low.ensures ∙ (c.if-low-wanted.true ∙ c.index_value-wanted.ensures))
 
 pub returns-in-Unknown : goal.returns-in-Unknown
-returns-in-Unknown c = tally-unknown _ _ c.enum_told-1.given.1
+returns-in-Unknown c = tally-unknown _ _ c.in-Unknown.is
 
 pub returns-else-low-wanted : goal.returns-else-low-wanted
 returns-else-low-wanted c =

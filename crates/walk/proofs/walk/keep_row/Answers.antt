@@ -133,7 +133,7 @@ returns c =
       (
         (ap (λ (x : Census). x.classes) e, omega (arith, ap (λ (x : Census). x.rows) e), omega (arith, ap (λ (x : Census). x.size) e, c.row_len-len.ensures.1)),
         (
-          back-length (48 * a.n) a.w.now c.put_words.new.w (omega (arith, c.requires.open_value.1)) c.put_words.auto.0,
+          back-length (48 * a.n) a.w.now c.put_words.new.w (omega (arith, c.requires.open_value.1)) c.put_words.auto.w,
           mark-put a.n a.step a.i a.b.now a.t a.w.now h.ensures c.if-kind-eq0.false c.requires.open_value.0 c.if-w-n.false
               m.result y (omega (arith, y, c.requires.open_value.5, h.type_inv)) c.put_words.ensures e,
         ),

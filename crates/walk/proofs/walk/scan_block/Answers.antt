@@ -72,7 +72,7 @@ returns-then-t c =
 pub returns-in-Rejected : goal.returns-in-Rejected
 returns-in-Rejected c =
     (
-      λ q j z. rejected c.args.b.now c.check_package.ensures c.q-1.given.1 z,
+      λ q j z. rejected c.args.b.now c.check_package.ensures c.in-Rejected.is z,
       (λ t z. not-all z, (λ t c o f z v k. not-all z, (λ t x z h. not-all z, ((refl, c.requires.names_len.0, c.requires.names_len.1), λ t l z m. not-all z)))),
     )
 

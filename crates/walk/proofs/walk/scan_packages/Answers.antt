@@ -85,20 +85,20 @@ pub shape_of-w-in-Refused : goal.shape_of-w-in-Refused
 shape_of-w-in-Refused c =
     let a = c.args in
     c.scan_block.ensures.read.1.1.1.0.0
-    ∙ (c.loop-i.invariant.3.size ∙ whole a.c.now a.at a.s.now a.n a.limit a.w.now c.requires.linked.0 c.clear.new.w c.clear.auto.0)
+    ∙ (c.loop-i.invariant.3.size ∙ whole a.c.now a.at a.s.now a.n a.limit a.w.now c.requires.linked.0 c.clear.new.w c.clear.auto.w)
 
 pub returns-in-Refused : goal.returns-in-Refused
 returns-in-Refused c =
     let e = c.scan_block.ensures in
     let a = c.args in (
-      λ q j z. let r = e.0 q j (c.q-1.given.1 ∙ z) in
+      λ q j z. let r = e.0 q j (c.in-Refused.is ∙ z) in
           stopped a.c.now a.at a.s.now a.n a.limit c.loop-i.invariant.3 c.requires.sites.0 (omega (arith, c.loop-i-test)) c.block_at.ensures c.visit_at-v.ensures r.0 r.1,
       (
         λ t z. not-all z,
         (
           λ t o z k. not-all z,
           (
-            e.1.1.1.1.0.0 ∙ (c.loop-i.invariant.3.size ∙ whole a.c.now a.at a.s.now a.n a.limit a.w.now c.requires.linked.0 c.clear.new.w c.clear.auto.0),
+            e.1.1.1.1.0.0 ∙ (c.loop-i.invariant.3.size ∙ whole a.c.now a.at a.s.now a.n a.limit a.w.now c.requires.linked.0 c.clear.new.w c.clear.auto.w),
             (λ t z. not-all z, ((e.1.1.1.1.0.1, e.1.1.1.1.0.2), λ t z. not-all z)),
           ),
         ),
@@ -135,7 +135,7 @@ loop-i-preserved c =
 pub shape_of-w : goal.shape_of-w
 shape_of-w c =
     let a = c.args in
-    c.loop-i.invariant.3.size ∙ whole a.c.now a.at a.s.now a.n a.limit a.w.now c.requires.linked.0 c.clear.new.w c.clear.auto.0
+    c.loop-i.invariant.3.size ∙ whole a.c.now a.at a.s.now a.n a.limit a.w.now c.requires.linked.0 c.clear.new.w c.clear.auto.w
 
 pub returns : goal.returns
 returns c =
@@ -149,7 +149,7 @@ returns c =
         (
           λ t o z h. rw (← all_same z, ← n) (k.state o (front a.c.now a.at a.s.now a.n a.limit a.w.now c.requires.linked.0 c.clear.new.w h)),
           (
-            k.size ∙ whole a.c.now a.at a.s.now a.n a.limit a.w.now c.requires.linked.0 c.clear.new.w c.clear.auto.0,
+            k.size ∙ whole a.c.now a.at a.s.now a.n a.limit a.w.now c.requires.linked.0 c.clear.new.w c.clear.auto.w,
             (λ t z. rw (← all_same z) (few k.small k.high c.requires.sites.2), ((l.invariant.1, l.invariant.2), λ t z. rw (← all_same z, ← n) k.marks)),
           ),
         ),

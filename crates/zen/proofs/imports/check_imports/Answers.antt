@@ -68,7 +68,7 @@ pub returns-in-Refused : goal.returns-in-Refused
 unfolding imported
 returns-in-Refused c =
     let a = c.args in
-    rw (imports-refused a.s.now a.at a.index a.count (sym c.read_batch.ensures ∙ c.r-1.given.1))
+    rw (imports-refused a.s.now a.at a.index a.count (sym c.read_batch.ensures ∙ c.in-Refused.is))
 
 pub returns-else-count-index : goal.returns-else-count-index
 returns-else-count-index c =

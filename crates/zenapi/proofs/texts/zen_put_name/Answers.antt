@@ -18,7 +18,7 @@ pub returns-then-place_len-out : goal.returns-then-place_len-out
 returns-then-place_len-out c = put-there _ _ _ _ (found (goal.at.returns-then-place_len-out c).In-At-2) c.put_place.ensures
 
 pub returns-in-Missing : goal.returns-in-Missing
-returns-in-Missing c = put-missing _ _ _ _ _ c.find_text.ensures c.enum_told-1.given.1
+returns-in-Missing c = put-missing _ _ _ _ _ c.find_text.ensures c.in-Missing.is
 
 pub returns-else-place_len-out : goal.returns-else-place_len-out
 returns-else-place_len-out c = put-short _ _ _ _ (found (goal.at.returns-else-place_len-out c).In-At-2) (rw c.place_len.ensures.0 at c.if-place_len-out.false)
