@@ -34,6 +34,7 @@ pub record Good (o : Objects) : Type 0 where
 
 -- so two entries with one global index are one
 pub apart_members : (es : List Entry) → Apart es → (d e : Entry) → Memᴰ d es → Memᴰ e es → d.global ≡ e.global → d ≡ e
+apart_members [] a d e x4 _ g = elim x4 [ ]
 apart_members (x ∷ es) a d e (Memᴰ.head p) (Memᴰ.head q) g = p ∙ sym q
 apart_members (x ∷ es) a d e (Memᴰ.head p) (Memᴰ.tail n) g = absurd (a.0 e n (sym g ∙ ap (λ (z : Entry). z.global) p))
 apart_members (x ∷ es) a d e (Memᴰ.tail m) (Memᴰ.head q) g = absurd (a.0 d m (g ∙ ap (λ (z : Entry). z.global) q))
@@ -58,6 +59,7 @@ onto-entered names (z ∷ d) l a b = onto-entered names d (z ∷ l) (λ e m. a e
 
 -- what question 12 says
 fresh-apart : (g : ℕ) (es : List Entry) → fresh g es ≡ true → (d : Entry) → Memᴰ d es → d.global ≡ g → ⊥
+fresh-apart g [] t d m e = elim m [ ]
 fresh-apart g (x ∷ es) t d m e = go (eqb g x.global) refl (fresh-apart g es) t m
   where
     go : (b : Bool) → eqb g x.global ≡ b → (fresh g es ≡ true → (d : Entry) → Memᴰ d es → d.global ≡ g → ⊥) → (not b && fresh g es) ≡ true

@@ -9,29 +9,29 @@ use Rattle.text.specs.Utf8.{from_utf8}
 use Rattle.decode.specs.Measure.{measured}
 use Rattle.decode.specs.Step.{added, Passed}
 use Rattle.decode.specs.StepLaws.{added_none, added_twice, added-ill, added-last}
-use Rattle.decode.proofs.measure.by_steps.Goals.{In-Past-2}
+use Rattle.decode.proofs.measure.by_steps.Goals.{In-Past}
 use Rattle.decode.proofs.measure.by_steps.Goals as goal
 
 -- what a turn passes
-turned : (c : In-Past-2)
-    → Passed c.args.s.now c.loop-at.at c.k-1.given.0.0 c.k-1.given.0.1.0 c.k-1.given.0.1.1.0
-turned c = rw c.k-1.given.1 at c.step_at.ensures
+turned : (c : In-Past)
+    → Passed c.args.s.now c.loop-at.at c.in-Past.k c.in-Past.u c.in-Past.low
+turned c = rw c.in-Past.is at c.step_at.ensures
 
 pub loop-at-init : goal.loop-at-init
 loop-at-init c = (omega arith, omega arith, added_none _)
 
 pub overflow_add-units : goal.overflow_add-units
-overflow_add-units c = let t = turned (goal.at.overflow_add-units c).In-Past-2 in omega arith
+overflow_add-units c = let t = turned c in omega arith
 
 pub overflow_add-at : goal.overflow_add-at
-overflow_add-at c = let t = turned (goal.at.overflow_add-at c).In-Past-2 in omega arith
+overflow_add-at c = let t = turned c in omega arith
 
 pub loop-at-smaller : goal.loop-at-smaller
-loop-at-smaller c = let t = turned (goal.at.loop-at-smaller c).In-Past-2 in omega arith
+loop-at-smaller c = let t = turned c in omega arith
 
 pub loop-at-preserved : goal.loop-at-preserved
 loop-at-preserved c =
-    let t = turned (goal.at.loop-at-preserved c).In-Past-2 in
+    let t = turned c in
     let l = c.loop-at in
     (t.within, omega arith, l.invariant.2 ∙ ap (added l.units l.latin) t.is ∙ added_twice _ _ _ _ _)
 

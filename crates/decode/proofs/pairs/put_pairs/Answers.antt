@@ -6,15 +6,7 @@ use lib.ListN.{length, take, length-set, get_or}
 use lib.Seq.{length-take-le}
 use Rattle.decode.specs.Tails.{Filling}
 use Rattle.decode.specs.TailsLaws.{filling_room-two, counted-small, filling_paired}
-use Rattle.decode.proofs.pairs.put_pairs.Goals.{In-loop-j}
 use Rattle.decode.proofs.pairs.put_pairs.Goals as goal
-
--- there is room for a pair
-room : (c : In-loop-j) → c.loop-j.n + 1 < length c.loop-j.out
-room c =
-    let a = c.args in
-    let k = c.loop-j.invariant.1 in
-    omega (arith, filling_room-two k (omega (arith, length-take-le a.to a.s.now (omega arith))), k.room, k.same)
 
 pub look_bytes-requires : goal.look_bytes-requires
 look_bytes-requires c = (omega arith, omega arith, refl)
@@ -28,13 +20,13 @@ loop-j-init c =
     (omega arith, rw e c.requires.4)
 
 pub bounds-out-n : goal.bounds-out-n
-bounds-out-n c = omega (arith, room (goal.at.bounds-out-n c).In-loop-j)
+bounds-out-n c = let a = c.args in let k = c.loop-j.invariant.1 in omega (arith, filling_room-two k (omega (arith, length-take-le a.to a.s.now (omega arith))), k.room, k.same)
 
 pub overflow_add-out : goal.overflow_add-out
-overflow_add-out c = omega (arith, room (goal.at.overflow_add-out c).In-loop-j)
+overflow_add-out c = let a = c.args in let k = c.loop-j.invariant.1 in omega (arith, filling_room-two k (omega (arith, length-take-le a.to a.s.now (omega arith))), k.room, k.same)
 
 pub bounds-out-n-in-loop-j : goal.bounds-out-n-in-loop-j
-bounds-out-n-in-loop-j c = simp length-set (room (goal.at.bounds-out-n-in-loop-j c).In-loop-j)
+bounds-out-n-in-loop-j c = let a = c.args in let k = c.loop-j.invariant.1 in simp length-set (omega (arith, filling_room-two k (omega (arith, length-take-le a.to a.s.now (omega arith))), k.room, k.same))
 
 pub overflow_cast-n : goal.overflow_cast-n
 overflow_cast-n c = omega (arith, counted-small c.look_sizes.ensures c.loop-j.j (omega arith))

@@ -13,7 +13,7 @@ use Rattle.decode.proofs.run.put_run.Goals as goal
 pub three_at-a-requires : goal.three_at-a-requires
 three_at-a-requires c =
     let l = run-leads c.args.s.now c.args.at c.requires.1 in
-    (omega arith, c.requires.0, l.lead-0)
+    (omega arith, c.requires.0, l.lead_0)
 
 pub overflow_add-at : goal.overflow_add-at
 overflow_add-at c = omega (arith, (run-leads c.args.s.now c.args.at c.requires.1).there)
@@ -21,7 +21,7 @@ overflow_add-at c = omega (arith, (run-leads c.args.s.now c.args.at c.requires.1
 pub three_at-b-requires : goal.three_at-b-requires
 three_at-b-requires c =
     let l = run-leads c.args.s.now c.args.at c.requires.1 in
-    (omega arith, well_3 c.args.s.now c.args.at c.requires.0 l, l.lead-3)
+    (omega arith, well_3 c.args.s.now c.args.at c.requires.0 l, l.lead_3)
 
 pub overflow_add-at-2 : goal.overflow_add-at-2
 overflow_add-at-2 c = omega (arith, (run-leads c.args.s.now c.args.at c.requires.1).there)
@@ -29,7 +29,7 @@ overflow_add-at-2 c = omega (arith, (run-leads c.args.s.now c.args.at c.requires
 pub three_at-c-requires : goal.three_at-c-requires
 three_at-c-requires c =
     let l = run-leads c.args.s.now c.args.at c.requires.1 in
-    (omega arith, well_6 c.args.s.now c.args.at c.requires.0 l, l.lead-6)
+    (omega arith, well_6 c.args.s.now c.args.at c.requires.0 l, l.lead_6)
 
 pub overflow_add-at-3 : goal.overflow_add-at-3
 overflow_add-at-3 c = omega (arith, (run-leads c.args.s.now c.args.at c.requires.1).there)
@@ -37,7 +37,7 @@ overflow_add-at-3 c = omega (arith, (run-leads c.args.s.now c.args.at c.requires
 pub three_at-d-requires : goal.three_at-d-requires
 three_at-d-requires c =
     let l = run-leads c.args.s.now c.args.at c.requires.1 in
-    (omega arith, well_9 c.args.s.now c.args.at c.requires.0 l, l.lead-9)
+    (omega arith, well_9 c.args.s.now c.args.at c.requires.0 l, l.lead_9)
 
 pub bounds-out-1 : goal.bounds-out-1
 bounds-out-1 c = simp length-set (omega arith)

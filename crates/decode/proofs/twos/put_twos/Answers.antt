@@ -13,7 +13,7 @@ use Rattle.decode.proofs.twos.put_twos.Goals as goal
 pub two_at-a-requires : goal.two_at-a-requires
 two_at-a-requires c =
     let l = twos-leads c.args.s.now c.args.at c.requires.1 in
-    (omega arith, c.requires.0, l.lead-0)
+    (omega arith, c.requires.0, l.lead_0)
 
 pub overflow_add-at : goal.overflow_add-at
 overflow_add-at c = omega (arith, (twos-leads c.args.s.now c.args.at c.requires.1).there)
@@ -21,7 +21,7 @@ overflow_add-at c = omega (arith, (twos-leads c.args.s.now c.args.at c.requires.
 pub two_at-b-requires : goal.two_at-b-requires
 two_at-b-requires c =
     let l = twos-leads c.args.s.now c.args.at c.requires.1 in
-    (omega arith, well_2 c.args.s.now c.args.at c.requires.0 l, l.lead-2)
+    (omega arith, well_2 c.args.s.now c.args.at c.requires.0 l, l.lead_2)
 
 pub overflow_add-at-2 : goal.overflow_add-at-2
 overflow_add-at-2 c = omega (arith, (twos-leads c.args.s.now c.args.at c.requires.1).there)
@@ -29,7 +29,7 @@ overflow_add-at-2 c = omega (arith, (twos-leads c.args.s.now c.args.at c.require
 pub two_at-c-requires : goal.two_at-c-requires
 two_at-c-requires c =
     let l = twos-leads c.args.s.now c.args.at c.requires.1 in
-    (omega arith, well_4 c.args.s.now c.args.at c.requires.0 l, l.lead-4)
+    (omega arith, well_4 c.args.s.now c.args.at c.requires.0 l, l.lead_4)
 
 pub overflow_add-at-3 : goal.overflow_add-at-3
 overflow_add-at-3 c = omega (arith, (twos-leads c.args.s.now c.args.at c.requires.1).there)
@@ -37,7 +37,7 @@ overflow_add-at-3 c = omega (arith, (twos-leads c.args.s.now c.args.at c.require
 pub two_at-d-requires : goal.two_at-d-requires
 two_at-d-requires c =
     let l = twos-leads c.args.s.now c.args.at c.requires.1 in
-    (omega arith, well_6 c.args.s.now c.args.at c.requires.0 l, l.lead-6)
+    (omega arith, well_6 c.args.s.now c.args.at c.requires.0 l, l.lead_6)
 
 pub bounds-out-1 : goal.bounds-out-1
 bounds-out-1 c = simp length-set (omega arith)

@@ -15,7 +15,7 @@ use Rattle.decode.specs.RunLaws.{Leads, run-leads, run-well, run-next, run_room}
 use Rattle.decode.specs.TwosLaws.{Seconds, twos-leads, twos-well, twos-next, twos-room}
 use Rattle.decode.specs.Latin.{every, ascii}
 use Rattle.decode.specs.EightLaws.{eight_is, eight-well, eight-next, eight-room}
-use Rattle.decode.proofs.write.put_utf16le.Goals.{In-Of-2, Then-is_run, Then-is_twos, Then-starts_eight}
+use Rattle.decode.proofs.write.put_utf16le.Goals.{In-Of, Then-is_run, Then-is_twos, Then-starts_eight}
 use Rattle.decode.proofs.write.put_utf16le.Goals as goal
 
 -- what a turn passes: eight bytes of ASCII
@@ -33,8 +33,8 @@ led : (c : Then-is_run) → Leads c.args.s.now c.loop-at.at
 led c = run-leads _ _ (sym c.is_run.ensures ∙ c.if-is_run.true)
 
 -- or one character
-turned : (c : In-Of-2) → Turn c.args.s.now c.loop-at.at c.c-1.given.0.0 c.c-1.given.0.1.0
-turned c = turn _ _ c.loop-at-test.true (sym c.known_char.ensures ∙ c.c-1.given.1)
+turned : (c : In-Of) → Turn c.args.s.now c.loop-at.at c.in-Of.c c.in-Of.k
+turned c = turn _ _ c.loop-at-test.true (sym c.known_char.ensures ∙ c.in-Of.is)
 
 pub loop-at-init : goal.loop-at-init
 loop-at-init c = (omega arith, omega arith, c.requires.0, partly_none _ _)
@@ -151,24 +151,24 @@ slice_bounds-put_units-end c = omega (arith, c.loop-at.invariant.3.wrote.fits)
 pub put_units-n-requires : goal.put_units-n-requires
 put_units-n-requires c =
     let i = c.loop-at.invariant in
-    let t = turned (goal.at.put_units-n-requires c).In-Of-2 in
+    let t = turned (goal.at.put_units-n-requires c).In-Of in
     (t.small, utf16le-room t i.2 i.3 c.requires.1)
 
 pub overflow_add-n-in-Of : goal.overflow_add-n-in-Of
 overflow_add-n-in-Of c =
     let i = c.loop-at.invariant in
-    omega (arith, (partly_next i.3 _ _ (utf16le-next (turned (goal.at.overflow_add-n-in-Of c).In-Of-2) i.2) c.put_units-n.ensures).wrote.fits)
+    omega (arith, (partly_next i.3 _ _ (utf16le-next (turned (goal.at.overflow_add-n-in-Of c).In-Of) i.2) c.put_units-n.ensures).wrote.fits)
 
 pub overflow_add-at-in-Of : goal.overflow_add-at-in-Of
-overflow_add-at-in-Of c = let t = turned (goal.at.overflow_add-at-in-Of c).In-Of-2 in omega arith
+overflow_add-at-in-Of c = let t = turned (goal.at.overflow_add-at-in-Of c).In-Of in omega arith
 
 pub loop-at-smaller : goal.loop-at-smaller
-loop-at-smaller c = let t = turned (goal.at.loop-at-smaller c).In-Of-2 in omega arith
+loop-at-smaller c = let t = turned (goal.at.loop-at-smaller c).In-Of in omega arith
 
 pub loop-at-preserved : goal.loop-at-preserved
 loop-at-preserved c =
     let i = c.loop-at.invariant in
-    let t = turned (goal.at.loop-at-preserved c).In-Of-2 in
+    let t = turned (goal.at.loop-at-preserved c).In-Of in
     let p = partly_next i.3 _ _ (utf16le-next t i.2) c.put_units-n.ensures in
     (t.within, wrote-length p.wrote, sym (well-next t) ∙ i.2, p)
 

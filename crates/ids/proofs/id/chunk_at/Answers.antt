@@ -29,7 +29,7 @@ pub returns-then-from-part : goal.returns-then-from-part
 returns-then-from-part c =
     let a = c.args in
     let b : Bytes a.part.now = λ j. (c.shared_slice_known-1.given j).fits in
-    let e = not-true a.wide c.if-not-wide.true in
+    let e = c.if-not-wide.true in
     let l : 32 ≤ length (encode16 (lowered (base a.wide a.part.now))) - a.from =
     omega (arith, part_length a.wide a.part.now b c.requires.0, narrow-count e a.part.now) in
     let q = rw (narrow-is e a.part.now b) at (name-first (base a.wide a.part.now) a.suffix.now a.from (32) l) in

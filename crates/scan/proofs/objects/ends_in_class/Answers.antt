@@ -28,7 +28,7 @@ module _ (s : List ℕ) (l : Layout) (a : script_answer (run script 0 s) ≡ Acc
 
   module _ (u : Entry) (e : u ≡ get_or (entries_of (run script 0 s)) i no_entry) where
     same : (o : Objects) → run script 0 s ≡ gives o → u ≡ get_or o.entries i no_entry
-    same o q = e ∙ ap (λ es. get_or es i no_entry) (objects-facts s l a o q).entries-of
+    same o q = e ∙ ap (λ es. get_or es i no_entry) (objects-facts s l a o q).entries_of_lem
 
     named : u.index < l.names.count
     named = let (o, t) = script-facts s l a in rw (same o t.is) (t.index i h)

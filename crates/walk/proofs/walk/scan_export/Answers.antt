@@ -95,7 +95,7 @@ returns-then-not-r c =
     let r = c.keep_row-r in
     let a = c.args in
     let g = r.ensures.1.0 in (
-      shut a.n a.limit a.v a.i a.b.now a.s.now r.ensures.0 (not-true _ c.if-not-r.true),
+      shut a.n a.limit a.v a.i a.b.now a.s.now r.ensures.0 (c.if-not-r.true),
       (record { classes = omega (arith, g.0); rows = omega (arith, g.1); size = omega (arith, g.2) }, r.ensures.1.1),
     )
 
@@ -114,7 +114,7 @@ pub is_class-requires : goal.is_class-requires
 is_class-requires c =
     let r = c.keep_row-r in
     let a = c.args in
-    linked a.n a.limit a.v a.i a.b.now a.s.now r.ensures.0 (not-false _ c.if-not-r.false) c.requires.open_value.1
+    linked a.n a.limit a.v a.i a.b.now a.s.now r.ensures.0 (c.if-not-r.false) c.requires.open_value.1
 
 pub keep_class-requires : goal.keep_class-requires
 keep_class-requires c =
@@ -123,7 +123,7 @@ keep_class-requires c =
     let p = c.requires.package_in in
     let q = c.requires.open_value in
     let g = r.ensures.1 in
-    let o = not-false _ c.if-not-r.false in
+    let o = c.if-not-r.false in
     let k = asked a.n a.limit a.v a.i a.b.now a.s.now r.ensures.0 o c.export_at-e.ensures c.is_class.ensures c.if-is_class.true q.1 in (
       (p.0, p.1, p.2, p.3, k.0),
       (o, omega (arith, room-is q.1 q.0, g.1.0), k.1, k.2, omega (arith, g.0.0, q.2), omega (arith, g.0.1, q.3), q.5),
@@ -139,8 +139,8 @@ returns-then-is_class c =
     let a = c.args in
     let g = r.ensures.1.0 in
     let h = k.ensures.1.0 in
-    let p = some-row a.n a.limit a.v a.i a.b.now a.s.now r.ensures.0 (not-false _ c.if-not-r.false) c.requires.open_value.1 in (
-      a-class a.n a.limit a.v a.i a.b.now a.s.now r.ensures.0 (not-false _ c.if-not-r.false) c.export_at-e.ensures c.is_class.ensures c.if-is_class.true k.ensures.0,
+    let p = some-row a.n a.limit a.v a.i a.b.now a.s.now r.ensures.0 (c.if-not-r.false) c.requires.open_value.1 in (
+      a-class a.n a.limit a.v a.i a.b.now a.s.now r.ensures.0 (c.if-not-r.false) c.export_at-e.ensures c.is_class.ensures c.if-is_class.true k.ensures.0,
       (
         record { classes = omega (arith, g.0, h.0); rows = omega (arith, g.1, h.1); size = omega (arith, g.2, h.2) },
         (k.ensures.1.1.0 ∙ r.ensures.1.1.0, λ l m. k.ensures.1.1.1 p.corpus a.s.now p.objects p.found _ p.visited p.holds (r.ensures.1.1.1 l m)),
@@ -155,6 +155,6 @@ returns c =
     let r = c.keep_row-r in
     let a = c.args in
     let g = r.ensures.1.0 in (
-      no_class_lem a.n a.limit a.v a.i a.b.now a.s.now r.ensures.0 (not-false _ c.if-not-r.false) c.export_at-e.ensures c.is_class.ensures c.if-is_class.false,
+      no_class_lem a.n a.limit a.v a.i a.b.now a.s.now r.ensures.0 (c.if-not-r.false) c.export_at-e.ensures c.is_class.ensures c.if-is_class.false,
       (record { classes = omega (arith, g.0); rows = omega (arith, g.1); size = omega (arith, g.2) }, r.ensures.1.1),
     )

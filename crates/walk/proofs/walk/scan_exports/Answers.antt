@@ -37,8 +37,8 @@ pub returns-then-not-t : goal.returns-then-not-t
 returns-then-not-t c =
     let l = c.loop-i in
     let a = c.args in (
-      shut a.b.now a.s.now a.n a.limit a.v a.step l.invariant.1 c.requires.package_in.0 l.invariant.0 (not-true _ c.if-not-t.true),
-      (grown-more l.invariant.0 l.invariant.1.grown, (l.invariant.1.size, λ x m. marked_closed (not-true _ c.if-not-t.true))),
+      shut a.b.now a.s.now a.n a.limit a.v a.step l.invariant.1 c.requires.package_in.0 l.invariant.0 (c.if-not-t.true),
+      (grown-more l.invariant.0 l.invariant.1.grown, (l.invariant.1.size, λ x m. marked_closed (c.if-not-t.true))),
     )
 
 pub scan_export-t-requires : goal.scan_export-t-requires
@@ -48,7 +48,7 @@ scan_export-t-requires c =
     let q = c.requires.some_state in
     let h = c.loop-i-test.true in (
       (c.requires.package_in.0, c.requires.package_in.1, c.requires.package_in.2, h),
-      (not-false _ c.if-not-t.false, l.invariant.1.some, omega (arith, g.classes, q.1, h), omega (arith, g.rows, q.2, h), omega (arith, g.size, q.3, h), q.4, omega (arith, q.5, h)),
+      (c.if-not-t.false, l.invariant.1.some, omega (arith, g.classes, q.1, h), omega (arith, g.rows, q.2, h), omega (arith, g.size, q.3, h), q.4, omega (arith, q.5, h)),
     )
 
 pub overflow_add-step : goal.overflow_add-step
