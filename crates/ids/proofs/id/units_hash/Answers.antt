@@ -14,23 +14,13 @@ use Rattle.text.specs.UnitsLaws.{units_of_bound}
 use Rattle.ids.proofs.NameUnits.{name-length, narrow-name, narrow-count, middle-is}
 use Rattle.ids.proofs.id.units_hash.Goals as goal
 
--- the name's units, and how many they are
-module _ (k : tie.After-shared-slice-known) where
-  abbrev units : List ℕ
-  units = name_units (base k.before.args.wide k.before.args.part.now) k.before.args.suffix.now
-
-  count : length units ≡ length (units_of k.before.args.wide k.before.args.part.now) + length k.before.args.suffix.now
-  count =
-      name-length k.before.args.wide k.before.args.part.now
-      (λ j. (k.shared-slice-known.given j).fits) k.before.pre.0 k.before.args.suffix.now
-
 pub overflow_add-n : goal.overflow_add-n
 overflow_add-n c =
-    omega (arith, count k, units_of_bound c.args.wide c.args.part.now)
+    omega (arith, name-length c.args.wide c.args.part.now (λ j. (c.shared_slice_known-1.given j).fits) c.requires.0 c.args.suffix.now, units_of_bound c.args.wide c.args.part.now)
 
 pub wide_hash-requires : goal.wide_hash-requires
 wide_hash-requires c =
-    let e : c.unit_count.result + length c.args.suffix.now ≡ length (units k) = omega (arith, count k) in
+    let e : c.unit_count.result + length c.args.suffix.now ≡ length (name_units (base c.args.wide c.args.part.now) c.args.suffix.now) = omega (arith, name-length c.args.wide c.args.part.now (λ j. (c.shared_slice_known-1.given j).fits) c.requires.0 c.args.suffix.now) in
     let t = c.if-wide.true in
     (rw t at c.requires.0, rw t at e, search rules)
 
@@ -64,6 +54,6 @@ returns-then-is_middle c =
 
 pub long_hash-requires : goal.long_hash-requires
 long_hash-requires c =
-    let n = count k in
+    let n = name-length c.args.wide c.args.part.now (λ j. (c.shared_slice_known-1.given j).fits) c.requires.0 c.args.suffix.now in
     let l = units_of_bound c.args.wide c.args.part.now in
     (search rules, omega arith, omega arith, omega arith)
