@@ -50,11 +50,13 @@ framed-refusal s q e = go (run frame 0 s) e
     go (gives c) e = never (cc)
 
 placed-block : (i : ℕ) (cs : List Class) (x : Placed) → Memᴰ x (map (λ (c : Class). record { block = i; class = c }) cs) → x.block ≡ i
+placed-block i mathlib.Core.List.[] x x3 = elim x3 [ ]
 placed-block i (c ∷ cs) x (Memᴰ.head e) = ap (λ (x : Placed). x.block) e
 placed-block i (c ∷ cs) x (Memᴰ.tail m) = placed-block i cs x m
 
 -- the block that a class stands in is one of its packages'
 placed-within : (limit : ℕ) (o : Objects) (i : ℕ) (ps : List Package) (x : Placed) → Memᴰ x (placed_from limit o i ps) → x.block < i + length ps
+placed-within limit o i mathlib.Core.List.[] x m = elim m [ ]
 placed-within limit o i (p ∷ ps) x m =
     go (Memᴰ.append_cases (map (λ (c : Class). record { block = i; class = c }) (classes_of limit o p)) m) (placed-within limit o (i + 1) ps x)
   where

@@ -13,7 +13,7 @@ use Rattle.text.specs.Name.{text_bytes}
 use Rattle.base.specs.Number.{be, be_bytes}
 use Rattle.base.specs.NumberLaws.{Bytes, length-be_bytes, be-be_bytes}
 use Rattle.base.specs.Perm.{All}
-use Rattle.base.specs.Reading.{Out, gives, run_block}
+use Rattle.base.specs.Reading.{Out, gives, refused, run_block}
 use Rattle.text.specs.Utf8.{utf8}
 use Rattle.scriptblock.specs.Script.{Objects}
 use Rattle.zen.specs.Accepted.{Parts, read-parts}
@@ -183,7 +183,9 @@ unfolding read_of
 member-read q p i = go (run_block package_block q.block) i
   where
     go : (x : Out Read) → Memᴰ p (package_of q.id x) → x ≡ gives p.read
+    go (refused _) m = elim m [ ]
     go (gives r) (Memᴰ.head e) = ap gives (sym (ap (λ (p : Package). p.read) e))
+    go (gives r) (Memᴰ.tail m) = elim m [ ]
 
 module _ (m : Limits) (s : List ℕ) (b : Bytes s) (work room : ℕ) (report : List ℕ) (c : Corpus) (f : framed s ≡ gives c) where
   pub fields-right : (a : Accepted m c work room report) → ReportSized m a.opens.objects (packages_in c)

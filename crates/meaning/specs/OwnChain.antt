@@ -25,6 +25,7 @@ OneEach t = (c d : Class) → Memᴰ c t → Memᴰ d t → c.key ≡ d.key → 
 
 -- so it is where no key stands twice: question 24
 once_unseen : (seen : List Key) (cs : List Class) → repeats seen cs ≡ false → (c : Class) → Memᴰ c cs → has_key seen c.key ≡ false
+once_unseen seen [] h c x'' = elim x'' [ ]
 once_unseen seen (x ∷ cs) h c (Memᴰ.head p) = rw p (or_first (has_key seen x.key) (repeats (x.key ∷ seen) cs) h)
 once_unseen seen (x ∷ cs) h c (Memᴰ.tail m) =
     let later : repeats (x.key ∷ seen) cs ≡ false = or_second (has_key seen x.key) (repeats (x.key ∷ seen) cs) h in
@@ -39,6 +40,7 @@ abbrev key_of : Class → Key
 key_of c = c.key
 
 pub once-each : (seen : List Key) (cs : List Class) → repeats seen cs ≡ false → OneEach cs
+once-each seen [] h c d x4 _ e = elim x4 [ ]
 once-each seen (x ∷ cs) h c d (Memᴰ.head p) (Memᴰ.head q) e = p ∙ sym q
 once-each seen (x ∷ cs) h c d (Memᴰ.head p) (Memᴰ.tail n) e = absurd (once-apart seen x d cs h n (sym (ap key_of p) ∙ e))
 once-each seen (x ∷ cs) h c d (Memᴰ.tail m) (Memᴰ.head q) e = absurd (once-apart seen x c cs h m (sym (ap key_of q) ∙ sym e))

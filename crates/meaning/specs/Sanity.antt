@@ -44,6 +44,7 @@ module _ (limit : ℕ) (o : Objects) where
   class_of : (p : Package) (i : ℕ) (es : List Export) (c : Class) → Memᴰ c (classes_from limit o p i es)
       → (e : Export) × (c.key ≡ public p.id e.hash) × T (is_class limit o e)
   unfolding class_at
+  class_of p i [] c m = elim m [ ]
   class_of p i (e ∷ es) c m = go (is_class limit o e) refl (class_of p (i + 1) es c) m
     where
       Is : Type 0

@@ -260,6 +260,7 @@ module _ (p : Package) (names : Spelled p.read.names) (imported : Spelled p.read
 class_path_lem : (limit : ℕ) (o : Objects) (p : Package) → Spelled p.read.names → (i : ℕ) (es : List Export) (c : Class)
     → Memᴰ c (classes_from limit o p i es) → Scalars c.path
 unfolding class_at
+class_path_lem limit o p names i [] c m = elim m [ ]
 class_path_lem limit o p names i (e ∷ es) c m = go (is_class limit o e) (class_path_lem limit o p names (i + 1) es c) m
   where
     go : (b : Bool) → (Memᴰ c (classes_from limit o p (i + 1) es) → Scalars c.path)

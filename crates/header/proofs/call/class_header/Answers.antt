@@ -10,8 +10,8 @@ use Rattle.header.proofs.call.class_header.Goals.{In-Described}
 use Rattle.header.proofs.call.class_header.Goals as goal
 
 -- what the check says
-said : (c : In-Described) → Says c.args.description.now (Described c.p-1.given.0.0)
-said c = rw c.p-1.given.1 at c.check.ensures
+said : (c : In-Described) → Says c.args.description.now (Described c.in-Described.p)
+said c = rw c.in-Described.is at c.check.ensures
 
 pub regions_of-g-requires : goal.regions_of-g-requires
 regions_of-g-requires c = let (e, w) = said (goal.at.regions_of-g-requires c).In-Described in small c.args.description.now w _ e

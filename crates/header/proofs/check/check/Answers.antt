@@ -10,7 +10,7 @@ check_tables-requires c =
     let front = c.if-n-lt17.false in
     texts-begun c.args.s.now front c.size_at-2.result c.size_at-2.ensures.0 c.size_at-2.ensures.1
     (omega (arith, c.if-n-size_at.false, c.size_at.ensures.0)) c.if-s-ne1.false (sym
-    c.sized_texts.ensures ∙ c.end-1.given.1)
+    c.sized_texts.ensures ∙ c.in-To.is)
 
 pub returns-in-To : goal.returns-in-To
 returns-in-To c = c.check_tables.ensures

@@ -9,13 +9,13 @@ pub returns-then-last-s : goal.returns-then-last-s
 returns-then-last-s c =
     names-left c.args.s.now c.args.end c.args.strings c.args.hashes c.args.stop c.requires c.size_at-count.result
     c.size_at-count.ensures.0
-    (sym c.sized_texts.ensures ∙ c.last-1.given.1) c.if-last-s.true
+    (sym c.sized_texts.ensures ∙ c.in-To.is) c.if-last-s.true
 
 pub check_whole-requires : goal.check_whole-requires
 check_whole-requires c =
     listed c.args.s.now c.args.end c.args.strings c.args.hashes c.args.stop c.requires c.size_at-count.result
     c.size_at-count.ensures.0
-    (sym c.sized_texts.ensures ∙ c.last-1.given.1) c.if-last-s.false c.size_at-count.ensures.1
+    (sym c.sized_texts.ensures ∙ c.in-To.is) c.if-last-s.false c.size_at-count.ensures.1
     c.size_at.result c.size_at-in-To.result c.size_at-in-To-2.result c.size_at.ensures.0
     c.size_at-in-To.ensures.0 c.size_at-in-To-2.ensures.0 c.size_at-in-To.ensures.1 c.size_at-in-To-2.ensures.1
 

@@ -14,10 +14,10 @@ use Rattle.header.proofs.check.sized_texts.Goals as goal
 passed : (c : In-To)
     → let l = c.loop-left in
     let u = c.args in
-    sized_text u.more u.s.now l.at ≡ To c.next-1.given.0.0 c.next-1.given.0.1.0
-passed c = sym c.sized_text.ensures ∙ c.next-1.given.1
+    sized_text u.more u.s.now l.at ≡ To c.in-To.next c.in-To.k
+passed c = sym c.sized_text.ensures ∙ c.in-To.is
 
-small : (c : In-To) → c.next-1.given.0.1.0 ≤ 65534
+small : (c : In-To) → c.in-To.k ≤ 65534
 small c =
     let l = c.loop-left in
     let u = c.args in

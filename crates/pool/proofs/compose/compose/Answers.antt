@@ -12,7 +12,7 @@ returns-then-len-gt252 c = (omega arith, λ ne o i st. absurd (ne refl))
 pub put_path-requires : goal.put_path-requires
 put_path-requires c =
     let st = c.requires.0.stands in
-    compose_roomy c.args.limit c.args.out.now c.requires.2 st (sym c.path-1.given.1 ∙ c.measure-path.ensures _ _ st) (omega arith)
+    compose_roomy c.args.limit c.args.out.now c.requires.2 st (sym c.in-Known.is ∙ c.measure-path.ensures _ _ st) (omega arith)
 
 pub returns-in-Unknown : goal.returns-in-Unknown
 returns-in-Unknown c = (omega arith, λ ne o i st. absurd (ne refl))
@@ -21,6 +21,6 @@ pub returns-else-len-gt252 : goal.returns-else-len-gt252
 returns-else-len-gt252 c =
     let v = c.put_be32.ensures in
     (
-      omega (arith, v.size, length-be_bytes 4 c.path-1.given.0.0),
-      λ ne o i st. compose_text c.args.limit c.args.out.now c.requires.2 st (sym c.path-1.given.1 ∙ c.measure-path.ensures o i st) (omega (arith, c.if-len-gt252.false)) c.put_path.ensures v,
+      omega (arith, v.size, length-be_bytes 4 c.in-Known.len),
+      λ ne o i st. compose_text c.args.limit c.args.out.now c.requires.2 st (sym c.in-Known.is ∙ c.measure-path.ensures o i st) (omega (arith, c.if-len-gt252.false)) c.put_path.ensures v,
     )

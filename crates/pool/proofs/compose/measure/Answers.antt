@@ -45,11 +45,11 @@ path_len-above-requires c =
 
 pub overflow_add-result-in-Known : goal.overflow_add-result-in-Known
 overflow_add-result-in-Known c =
-    omega (arith, (short (goal.at.overflow_add-result-in-Known c).After-path_len-above _ _ c.above-1.given.1).0, c.place_len-own.ensures.1, c.requires.1)
+    omega (arith, (short (goal.at.overflow_add-result-in-Known c).After-path_len-above _ _ c.in-Known.is).0, c.place_len-own.ensures.1, c.requires.1)
 
 pub overflow_add-result-in-Known-2 : goal.overflow_add-result-in-Known-2
 overflow_add-result-in-Known-2 c =
-    omega (arith, (short (goal.at.overflow_add-result-in-Known-2 c).After-path_len-above _ _ c.above-1.given.1).1, c.requires.1)
+    omega (arith, (short (goal.at.overflow_add-result-in-Known-2 c).After-path_len-above _ _ c.in-Known.is).1, c.requires.1)
 
 pub returns-in-Unknown : goal.returns-in-Unknown
 returns-in-Unknown c = λ o i st.
@@ -57,4 +57,4 @@ returns-in-Unknown c = λ o i st.
 
 pub returns-in-Known : goal.returns-in-Known
 returns-in-Known c = λ o i st.
-    told_below st c.args.limit c.if-limit-eq0.false (own (goal.at.returns-in-Known c).After-place_len-own) c.if-outer-eq0.false c.if-outer-eq1.false (c.path_len-above.ensures _ o st.holds) c.above-1.given.1
+    told_below st c.args.limit c.if-limit-eq0.false (own (goal.at.returns-in-Known c).After-place_len-own) c.if-outer-eq0.false c.if-outer-eq1.false (c.path_len-above.ensures _ o st.holds) c.in-Known.is

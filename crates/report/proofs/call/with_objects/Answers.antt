@@ -4,16 +4,16 @@ use native.Mathlib.Omega.{arith}
 use borrow.Author.Rules.{rules}
 use Rattle.walk.specs.OpenLaws.{begun-sites, begun-few, begun-small}
 use Rattle.report.proofs.Scanned.{scanned_refused, Walked, scanned_twice, scanned_short, scanned_all}
-use Rattle.report.proofs.call.with_objects.Goals.{In-All-2}
+use Rattle.report.proofs.call.with_objects.Goals.{In-All}
 use Rattle.report.proofs.call.with_objects.Goals as goal
 
 -- what the walk entered
-walked : (c : In-All-2) → let a = c.args in
-    Walked a.objects a.c.now a.f a.s.now a.l.count c.t-1.given.0.0 a.w.now c.scan_packages.new.names.1.1.1.0
+walked : (c : In-All) → let a = c.args in
+    Walked a.objects a.c.now a.f a.s.now a.l.count c.in-All.t a.w.now c.scan_packages.new.names.1.1.1.0
 walked c =
     let (b, n, k, l) = c.requires in
     let e = c.scan_packages.ensures in
-    let t = c.t-1.given.1 in
+    let t = c.in-All.is in
     record {
       begun = b;
       linked = k;
@@ -33,11 +33,11 @@ scan_packages-requires c =
     ((begun-sites b, (begun-few b).0, (begun-few b).2, refl, refl), (k, begun-small b))
 
 pub returns-then-t-ne0 : goal.returns-then-t-ne0
-returns-then-t-ne0 c = scanned_twice (walked (goal.at.returns-then-t-ne0 c).In-All-2) c.if-t-ne0.true c.refuse-then-t-ne0.ensures
+returns-then-t-ne0 c = scanned_twice (walked (goal.at.returns-then-t-ne0 c).In-All) c.if-t-ne0.true c.refuse-then-t-ne0.ensures
 
 pub finish-requires : goal.finish-requires
 finish-requires c =
-    let z = walked (goal.at.finish-requires c).In-All-2 in
+    let z = walked (goal.at.finish-requires c).In-All in
     (
       (z.begun, z.packages, scanned_all z c.if-t.true, c.requires.3),
       c.scan_packages.ensures.all.1.1.1.1.0,
@@ -45,12 +45,12 @@ finish-requires c =
 
 pub returns-then-t : goal.returns-then-t
 returns-then-t c =
-    let z = walked (goal.at.returns-then-t c).In-All-2 in
+    let z = walked (goal.at.returns-then-t c).In-All in
     rw z.size at c.finish.ensures
 
 pub refuse_short-requires : goal.refuse_short-requires
 refuse_short-requires c =
-    let z = walked (goal.at.refuse_short-requires c).In-All-2 in
+    let z = walked (goal.at.refuse_short-requires c).In-All in
     (z.begun, z.packages, c.requires.1)
 
 pub returns-in-Refused : goal.returns-in-Refused
@@ -60,4 +60,4 @@ returns-in-Refused c =
 
 pub returns-else-t : goal.returns-else-t
 returns-else-t c =
-    scanned_short (walked (goal.at.returns-else-t c).In-All-2) c.if-t-ne0.false c.if-t.false c.refuse_short.ensures
+    scanned_short (walked (goal.at.returns-else-t c).In-All) c.if-t-ne0.false c.if-t.false c.refuse_short.ensures

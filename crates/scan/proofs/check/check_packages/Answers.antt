@@ -54,7 +54,7 @@ loop-i-preserved c =
     let l = c.loop-i in (
       next_here _ _ l.i l.invariant.0 c.next_at-here.ensures,
       search rules,
-      passed _ _ l.i _ l.invariant.0 l.invariant.2 _ c.block_at.ensures _ c.check_package.ensures _ c.enum_told-1.given.1,
+      passed _ _ l.i _ l.invariant.0 l.invariant.2 _ c.block_at.ensures _ c.check_package.ensures _ c.in-Accepted.is,
     )
 
 pub returns : goal.returns

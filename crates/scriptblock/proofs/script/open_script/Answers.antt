@@ -19,17 +19,17 @@ found : (b : List ℕ) (r : NameBatch) {n : Names} → r ≡ batched (walk batch
 found b r {n} e q = found_at b 0 n (omega arith) (sym e ∙ q)
 
 pub overflow_sub-b : goal.overflow_sub-b
-overflow_sub-b c = (found c.args.b.now _ c.read_batch.ensures c.n-1.given.1).inside
+overflow_sub-b c = (found c.args.b.now _ c.read_batch.ensures c.in-Found.is).inside
 
 pub returns-then-b-at-lt4 : goal.returns-then-b-at-lt4
 returns-then-b-at-lt4 c =
-    let f = found c.args.b.now _ c.read_batch.ensures c.n-1.given.1 in
+    let f = found c.args.b.now _ c.read_batch.ensures c.in-Found.is in
     sym (opened-short c.args.b.now f (omega arith))
 
 pub returns-then-b-from : goal.returns-then-b-from
 returns-then-b-from c =
-    let f = found c.args.b.now _ c.read_batch.ensures c.n-1.given.1 in
-    let p = size_is 32 _ _ (sym c.le_size32.ensures ∙ c.count-1.given.1) in
+    let f = found c.args.b.now _ c.read_batch.ensures c.in-Found.is in
+    let p = size_is 32 _ _ (sym c.le_size32.ensures ∙ c.in-Of.is) in
     sym (opened-few c.args.b.now f (omega arith) p.0 (omega arith))
 
 pub returns-in-Refused : goal.returns-in-Refused
@@ -38,12 +38,12 @@ returns-in-Refused c =
 
 pub returns-in-Negative : goal.returns-in-Negative
 returns-in-Negative c =
-    let f = found c.args.b.now _ c.read_batch.ensures c.in-Negative.is in
+    let f = found c.args.b.now _ c.read_batch.ensures c.in-Found.is in
     sym (opened-negative c.args.b.now f (omega arith)
     (size_none 32 _ (sym c.le_size32.ensures ∙ c.in-Negative.is)))
 
 pub returns-else-b-from : goal.returns-else-b-from
 returns-else-b-from c =
-    let f = found c.args.b.now _ c.read_batch.ensures c.n-1.given.1 in
-    let p = size_is 32 _ _ (sym c.le_size32.ensures ∙ c.count-1.given.1) in
+    let f = found c.args.b.now _ c.read_batch.ensures c.in-Found.is in
+    let p = size_is 32 _ _ (sym c.le_size32.ensures ∙ c.in-Of.is) in
     sym (opened-there c.args.b.now f (omega arith) p.0 (omega arith) ∙ rw p.1)

@@ -41,7 +41,7 @@ put_length-requires c =
 
 pub overflow_add-result : goal.overflow_add-result
 overflow_add-result c =
-    omega (arith, native-found-room c.requires.target c.if-u-eq0.false c.args.out.now c.requires.room c.put_path-path.ensures c.path-1.given.1)
+    omega (arith, native-found-room c.requires.target c.if-u-eq0.false c.args.out.now c.requires.room c.put_path-path.ensures c.in-Known.is)
 
 pub returns-in-Unknown : goal.returns-in-Unknown
 returns-in-Unknown c = λ q o xs lookups r t room.
@@ -49,4 +49,4 @@ returns-in-Unknown c = λ q o xs lookups r t room.
 
 pub returns-in-Known : goal.returns-in-Known
 returns-in-Known c = λ q o xs lookups r t room.
-    native-found t c.if-u-eq0.false c.args.out.now room c.put_path-path.ensures c.path-1.given.1 c.put_length.ensures
+    native-found t c.if-u-eq0.false c.args.out.now room c.put_path-path.ensures c.in-Known.is c.put_length.ensures

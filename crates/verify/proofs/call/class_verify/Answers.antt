@@ -11,39 +11,39 @@ use Rattle.meaning.specs.Call.{limits}
 use Rattle.walk.specs.OpenSteps.{Begun}
 use Rattle.walk.specs.OpenLaws.{begun, begun-inside, opened-broken, opened-script}
 use Rattle.verify.specs.StepLaws.{answered-opened, answered-verified}
-use Rattle.verify.proofs.call.class_verify.Goals.{In-Open-2, In-Whole-2}
+use Rattle.verify.proofs.call.class_verify.Goals.{In-Open, In-Whole}
 use Rattle.verify.proofs.call.class_verify.Goals as goal
 
 -- the framed corpus
-begun-at : (c : In-Whole-2) → let s = c.args.c.now in
-    let f = c.f-1.given.0.0 in
+begun-at : (c : In-Whole) → let s = c.args.c.now in
+    let f = c.in-Whole.f in
     Begun s f (take (f.«end» - 9) (drop 9 s))
 begun-at c =
-    begun (λ i. (c.shared_slice_known-1.given i).fits) c.read_frame.ensures c.f-1.given.1
+    begun (λ i. (c.shared_slice_known-1.given i).fits) c.read_frame.ensures c.in-Whole.is
 
 -- its script block, opened
-opened-at : (c : In-Open-2) → let s = c.args.c.now in
-    opened (take (c.f-1.given.0.0.«end» - 9) (drop 9 s)) ≡ Open c.l-1.given.0.0
-opened-at c = sym c.open_script.ensures ∙ c.l-1.given.1
+opened-at : (c : In-Open) → let s = c.args.c.now in
+    opened (take (c.in-Whole.f.«end» - 9) (drop 9 s)) ≡ Open c.in-Open.l
+opened-at c = sym c.open_script.ensures ∙ c.in-Open.is
 
 pub slice_bounds-s-count : goal.slice_bounds-s-count
-slice_bounds-s-count c = (begun-inside (begun-at (goal.at.slice_bounds-s-count c).In-Whole-2)).0
+slice_bounds-s-count c = (begun-inside (begun-at (goal.at.slice_bounds-s-count c).In-Whole)).0
 
 pub slice_bounds-s-start : goal.slice_bounds-s-start
-slice_bounds-s-start c = omega (arith, (begun-inside (begun-at (goal.at.slice_bounds-s-start c).In-Whole-2)).0)
+slice_bounds-s-start c = omega (arith, (begun-inside (begun-at (goal.at.slice_bounds-s-start c).In-Whole)).0)
 
 pub slice_bounds-s-end : goal.slice_bounds-s-end
-slice_bounds-s-end c = omega (arith, (begun-inside (begun-at (goal.at.slice_bounds-s-end c).In-Whole-2)).1)
+slice_bounds-s-end c = omega (arith, (begun-inside (begun-at (goal.at.slice_bounds-s-end c).In-Whole)).1)
 
 pub without_table-requires : goal.without_table-requires
-without_table-requires c = begun-at (goal.at.without_table-requires c).In-Whole-2
+without_table-requires c = begun-at (goal.at.without_table-requires c).In-Whole
 
 pub returns-then-w-l : goal.returns-then-w-l
 returns-then-w-l c = answered-verified c.without_table.ensures
 
 pub with_table-requires : goal.with_table-requires
 with_table-requires c =
-    (begun-at (goal.at.with_table-requires c).In-Whole-2, opened-at (goal.at.with_table-requires c).In-Open-2, omega arith)
+    (begun-at (goal.at.with_table-requires c).In-Whole, opened-at (goal.at.with_table-requires c).In-Open, omega arith)
 
 pub returns-in-Broken : goal.returns-in-Broken
 returns-in-Broken c =
@@ -52,8 +52,8 @@ returns-in-Broken c =
 
 pub returns-in-Shut : goal.returns-in-Shut
 returns-in-Shut c =
-    let e = sym c.open_script.ensures ∙ c.q-in-Shut-1.given.1 in
-    let b = begun-at (goal.at.returns-in-Shut c).In-Whole-2 in
+    let e = sym c.open_script.ensures ∙ c.in-Shut.is in
+    let b = begun-at (goal.at.returns-in-Shut c).In-Whole in
     answered-verified (answered-opened (opened-script limits _ b (script-shut _ e)) c.refuse-in-Shut.ensures)
 
 pub returns-else-w-l : goal.returns-else-w-l

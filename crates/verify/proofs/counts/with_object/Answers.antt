@@ -6,11 +6,11 @@ use Rattle.verify.proofs.counts.with_object.Goals as goal
 
 pub returns-then-low-wanted : goal.returns-then-low-wanted
 returns-then-low-wanted c =
-    tally_match _ _ c.path-1.given.1 (sym c.index_value-low.ensures ∙ (c.if-low-wanted.true ∙ c.index_value-wanted.ensures))
+    tally_match _ _ c.in-Known.is (sym c.index_value-low.ensures ∙ (c.if-low-wanted.true ∙ c.index_value-wanted.ensures))
 
 pub returns-in-Unknown : goal.returns-in-Unknown
 returns-in-Unknown c = tally-unknown _ _ c.in-Unknown.is
 
 pub returns-else-low-wanted : goal.returns-else-low-wanted
 returns-else-low-wanted c =
-    tally-other _ _ c.path-1.given.1 (λ e. c.if-low-wanted.false (c.index_value-low.ensures ∙ (e ∙ sym c.index_value-wanted.ensures)))
+    tally-other _ _ c.in-Known.is (λ e. c.if-low-wanted.false (c.index_value-low.ensures ∙ (e ∙ sym c.index_value-wanted.ensures)))

@@ -48,7 +48,7 @@ shut d b n limit v h {o = o} {f = f} k = state_closed k h (package_behind limit 
 pub scan_package-requires : goal.scan_package-requires
 scan_package-requires c =
     (
-      (accepted c.args.b.now c.check_package.ensures c.l-1.given.1, c.requires.names_len.0, c.requires.names_len.1),
+      (accepted c.args.b.now c.check_package.ensures c.in-Accepted.is, c.requires.names_len.0, c.requires.names_len.1),
       (c.if-t.true, c.requires.some_state.0, c.requires.some_state.1, c.requires.some_state.2),
     )
 
@@ -61,7 +61,7 @@ returns-then-t c =
     let a = c.args in (
       λ q j z. not-refused z,
       (
-        λ t z. read a.b.now c.check_package.ensures c.l-1.given.1,
+        λ t z. read a.b.now c.check_package.ensures c.in-Accepted.is,
         (
           λ t c o f z v k. rw (← all_same z) (e.0 c o f v k),
           (λ t x z h. rw (← all_same z) (e.1.0 x h), (e.1.1.0, λ t l z m. rw (← all_same z) (e.1.1.1 l m))),
@@ -81,7 +81,7 @@ returns-else-t c =
     let a = c.args in (
       λ q j z. not-refused z,
       (
-        λ t z. read a.b.now c.check_package.ensures c.l-1.given.1,
+        λ t z. read a.b.now c.check_package.ensures c.in-Accepted.is,
         (
           λ t k o f z v x. rw (← all_same z) (shut a.b.now a.s.now a.n a.limit a.v c.if-t.false x),
           (

@@ -121,7 +121,7 @@ loop-i-smaller c = omega (arith, c.loop-i-test)
 pub loop-i-preserved : goal.loop-i-preserved
 loop-i-preserved c =
     let e = c.scan_block.ensures in
-    let m = c.x-1.given.1 in
+    let m = c.in-All.is in
     let l = c.loop-i in
     let a = c.args in
     let h : l.i < a.count = omega (arith, c.loop-i-test) in (

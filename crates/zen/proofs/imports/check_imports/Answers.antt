@@ -13,7 +13,7 @@ use Rattle.batch.specs.declared.names.NameBatch.TheVariants.{Found, Refused}
 use Rattle.zen.specs.Zen.{imports}
 use Rattle.zen.specs.Answers.{imported}
 use Rattle.zen.specs.ImportLaws.{imports-refused, imports-short, imports-is}
-use Rattle.zen.proofs.imports.check_imports.Goals.{In-Found-2}
+use Rattle.zen.proofs.imports.check_imports.Goals.{In-Found}
 use Rattle.zen.proofs.imports.check_imports.Goals as goal
 
 module _ (s : List ℕ) (at index count : ℕ) (n : Names) (f : FoundAt s at n) where
@@ -34,34 +34,31 @@ module _ (s : List ℕ) (at index count : ℕ) (n : Names) (f : FoundAt s at n) 
     unfolding imported
     found i = rw (imports-is s at index count n f (omega (arith, f.inside)), eq-eqb (length s - (n.«end» + 4 * n.count)) 0 (omega arith), lt-ltb index count i)
 
--- the batch that was found, where the code goes on with it
-abbrev entry : tie.After-n → tie.Start
-entry c = c.before.before.before.before
-
-batch-at : (c : In-Found-2) → FoundAt (entry c).args.s.now (entry c).args.at c.n-1.given.0.0
+-- the batch that was found
+batch-at : (c : In-Found) → FoundAt c.args.s.now c.args.at c.in-Found.n
 batch-at c =
-    found_at (entry c).args.s.now (entry c).args.at c.n-1.given.0.0 (entry c).requires (sym c.read_batch.ensures ∙ c.n-1.given.1)
+    found_at c.args.s.now c.args.at c.in-Found.n c.requires (sym c.read_batch.ensures ∙ c.in-Found.is)
 
 pub overflow_sub-left : goal.overflow_sub-left
-overflow_sub-left c = (batch-at (goal.at.overflow_sub-left c).In-Found-2).inside
+overflow_sub-left c = (batch-at (goal.at.overflow_sub-left c).In-Found).inside
 
 pub overflow_mul-n : goal.overflow_mul-n
-overflow_mul-n c = omega (arith, (batch-at (goal.at.overflow_mul-n c).In-Found-2).few)
+overflow_mul-n c = omega (arith, (batch-at (goal.at.overflow_mul-n c).In-Found).few)
 
 pub returns-then-left-n : goal.returns-then-left-n
 returns-then-left-n c =
-    short (entry d).args.s.now (entry d).args.at (entry d).args.index (entry d).args.count _ (batch-at (goal.at.returns-then-left-n c).In-Found-2) c.if-left-n.true
+    short c.args.s.now c.args.at c.args.index c.args.count _ (batch-at (goal.at.returns-then-left-n c).In-Found) c.if-left-n.true
 
 pub overflow_mul-n-in-Found : goal.overflow_mul-n-in-Found
-overflow_mul-n-in-Found c = omega (arith, (batch-at (goal.at.overflow_mul-n-in-Found c).In-Found-2).few)
+overflow_mul-n-in-Found c = omega (arith, (batch-at (goal.at.overflow_mul-n-in-Found c).In-Found).few)
 
 pub returns-then-n-left : goal.returns-then-n-left
 returns-then-n-left c =
-    more (entry d).args.s.now (entry d).args.at (entry d).args.index (entry d).args.count _ (batch-at (goal.at.returns-then-n-left c).In-Found-2) c.if-n-left.true
+    more c.args.s.now c.args.at c.args.index c.args.count _ (batch-at (goal.at.returns-then-n-left c).In-Found) c.if-n-left.true
 
 pub returns-then-count-index : goal.returns-then-count-index
 returns-then-count-index c =
-    out (entry d).args.s.now (entry d).args.at (entry d).args.index (entry d).args.count _ (batch-at (goal.at.returns-then-count-index c).In-Found-2)
+    out c.args.s.now c.args.at c.args.index c.args.count _ (batch-at (goal.at.returns-then-count-index c).In-Found)
     c.if-left-n.false c.if-n-left.false c.if-count-index.true
 
 pub returns-in-Refused : goal.returns-in-Refused
@@ -72,5 +69,5 @@ returns-in-Refused c =
 
 pub returns-else-count-index : goal.returns-else-count-index
 returns-else-count-index c =
-    found (entry d).args.s.now (entry d).args.at (entry d).args.index (entry d).args.count _ (batch-at (goal.at.returns-else-count-index c).In-Found-2)
+    found c.args.s.now c.args.at c.args.index c.args.count _ (batch-at (goal.at.returns-else-count-index c).In-Found)
     c.if-left-n.false c.if-n-left.false c.if-count-index.false

@@ -95,5 +95,5 @@ returns-in-Refused-check_imports c = search no_imports
 
 pub returns-in-Found-check_imports : goal.returns-in-Found-check_imports
 returns-in-Found-check_imports c =
-    whole c.args.s.now c.args.m c.requires _ c.read_batch.ensures _ c.in-Found.is _ c.check_bulk.ensures c.in-Found.is
-    _ c.check_tables.ensures c.enum_told-in-Passed-check_tables-1.given.1 _ c.check_imports.ensures _ c.in-Found.is
+    whole c.args.s.now c.args.m c.requires _ c.read_batch.ensures _ c.in-Found.is _ c.check_bulk.ensures c.in-Passed.is
+    _ c.check_tables.ensures c.in-Passed-check_tables.is _ c.check_imports.ensures _ c.in-Found-check_imports.is
