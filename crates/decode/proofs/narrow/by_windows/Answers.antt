@@ -20,7 +20,7 @@ turned : (c : After-struct_known-in-loop-at-1) →
     Good a.s.now a.from (l.at + c.window-n.result) (l.units + w.units) (l.latin && w.low)
 turned c =
     let l = c.loop-at in
-    good-next _ _ _ l.invariant.0 (omega arith) l.invariant.2 _ c.look-w.ensures (c.if-not-w.false)
+    good-next _ _ _ l.invariant.0 (omega arith) l.invariant.2 _ c.look-w.ensures (not-false _ c.if-not-w.false)
 
 pub any-requires : goal.any-requires
 any-requires c = (omega arith, omega arith)

@@ -10,27 +10,27 @@ pub returns-in-Rejected : goal.returns-in-Rejected
 returns-in-Rejected c = search no_count
 
 pub returns-in-0 : goal.returns-in-0
-returns-in-0 c = rw (counts-are _ _ c.check_package.ensures _ c.l-1.given.1, c.in-0.keys1)
+returns-in-0 c = rw (counts-are _ _ c.check_package.ensures _ c.in-Accepted.is, c.in-0.is)
 
 pub returns-in-1 : goal.returns-in-1
 returns-in-1 c =
     rw (
-      counts-are _ _ c.check_package.ensures _ c.l-1.given.1,
-      c.in-1.keys2,
+      counts-are _ _ c.check_package.ensures _ c.in-Accepted.is,
+      c.in-1.is,
     ) c.export_count.ensures
 
 pub returns-in-2 : goal.returns-in-2
 returns-in-2 c =
     rw (
-      counts-are _ _ c.check_package.ensures _ c.l-1.given.1,
-      c.in-2.keys3,
+      counts-are _ _ c.check_package.ensures _ c.in-Accepted.is,
+      c.in-2.is,
     ) c.hash_count.ensures
 
 pub returns-in-3 : goal.returns-in-3
-returns-in-3 c = rw (counts-are _ _ c.check_package.ensures _ c.l-1.given.1, c.in-3.keys4)
+returns-in-3 c = rw (counts-are _ _ c.check_package.ensures _ c.in-Accepted.is, c.in-3.is)
 
 pub returns-in_default : goal.returns-in_default
 returns-in_default c =
     let a = c.args in
-    let e = counts-are a.b.now _ c.check_package.ensures _ c.l-1.given.1 in
+    let e = counts-are a.b.now _ c.check_package.ensures _ c.in-Accepted.is in
     past (counts (package_in a.b.now)) a.what (rw e (omega arith))

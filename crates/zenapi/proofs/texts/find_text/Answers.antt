@@ -15,10 +15,10 @@ pub returns-in-Rejected : goal.returns-in-Rejected
 returns-in-Rejected c = search no_text
 
 pub returns-in-0 : goal.returns-in-0
-returns-in-0 c = rw c.in-0.keys1 c.find_base.ensures
+returns-in-0 c = rw c.in-0.is c.find_base.ensures
 
 pub returns-in-1 : goal.returns-in-1
-returns-in-1 c = rw c.in-1.keys2 c.find_imported.ensures
+returns-in-1 c = rw c.in-1.is c.find_imported.ensures
 
 pub returns-in_default : goal.returns-in_default
 returns-in_default c =
