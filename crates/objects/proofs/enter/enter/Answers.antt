@@ -36,17 +36,14 @@ pub returns-then-fault-ne0 : goal.returns-then-fault-ne0
 returns-then-fault-ne0 c =
     let l = c.loop-i in
     let a = c.args in
-    let e = c.entry_fault-fault.ensures in (
-      e ∙ sym (l.invariant.1 ∙ fault-own a.b.now a.l l.i (omega arith) c.entry_in-e.ensures (λ z. c.if-fault-ne0.true (e ∙ z))),
-      λ z. absurd (c.if-fault-ne0.true z),
-    )
+    let e = c.entry_fault-fault.ensures in record { fault = e ∙ sym (l.invariant.1 ∙ fault-own a.b.now a.l l.i (omega arith) c.entry_in-e.ensures (λ z. c.if-fault-ne0.true (e ∙ z))); entered = λ z. absurd (c.if-fault-ne0.true z) }
 
 pub add-requires : goal.add-requires
 add-requires c =
     let l = c.loop-i in
     let f = open_fits c.args.b.now c.requires.b_value.0 in
     let z = l.invariant.2.size in
-    (holds-linked l.invariant.2.keys, (omega arith, omega arith, omega arith))
+    record { linked = holds-linked l.invariant.2.keys; n_nonzero = (omega arith, omega arith, omega arith) }
 
 pub shape_of-w-then-add-gt0 : goal.shape_of-w-then-add-gt0
 shape_of-w-then-add-gt0 c = omega (arith, c.loop-i.invariant.2.size, c.add.auto)
@@ -58,7 +55,7 @@ returns-then-add-gt0 c =
     let e = c.entry_in-e.ensures in
     let own = sym c.entry_fault-fault.ensures ∙ c.if-fault-ne0.false in
     let old = is-old a.b.now a.l l.i e l.invariant.2 c.add.result c.add.ensures.found c.if-add-gt0.true in
-    (sym (l.invariant.1 ∙ fault-seen a.b.now a.l l.i (omega arith) e own old), λ z. absurd (omega arith))
+    record { fault = sym (l.invariant.1 ∙ fault-seen a.b.now a.l l.i (omega arith) e own old); entered = λ z. absurd (omega arith) }
 
 pub record_at-requires : goal.record_at-requires
 record_at-requires c =
@@ -98,4 +95,4 @@ returns c =
     let l = c.loop-i in
     let a = c.args in
     let z : l.i ≡ a.l.count = omega arith in
-    (sym (l.invariant.1 ∙ fault-none a.b.now a.l l.i (omega arith)), λ x. rw z at l.invariant.2)
+    record { fault = sym (l.invariant.1 ∙ fault-none a.b.now a.l l.i (omega arith)); entered = λ x. rw z at l.invariant.2 }

@@ -68,7 +68,7 @@ put_next-n-requires c =
     let r = c.requires in
     let d = up-deep r.stands r.read c.args.out.now r.room (λ q j. first (goal.at.put_next-n-requires c).After-put_name-at q r.work j) _ 1 refl in
     let n = up_next r.stands r.read c.args.out.now r.room (λ q j. first (goal.at.put_next-n-requires c).After-put_name-at q r.work j) _ 1 refl in
-    ((stands-holds r.stands (λ j. (c.shared_slice_known-1.given j).fits), d.0), n)
+    record { holds = (stands-holds r.stands (λ j. (c.shared_slice_known-1.given j).fits), d.0); number_in_bounds = n }
 
 pub overflow_add-result : goal.overflow_add-result
 overflow_add-result c = omega (arith, (wrote-rest (outer-wrote (goal.at.overflow_add-result c).After-put_name-at) c.put_next-n.ensures).fits)

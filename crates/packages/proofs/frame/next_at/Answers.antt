@@ -6,3 +6,7 @@ use Rattle.packages.proofs.frame.next_at.Goals as goal
 pub returns : goal.returns
 unfolding next_at
 returns c = cc
+
+pub overflow_add-result-2 : goal.overflow_add-result-2
+unfolding next_at
+overflow_add-result-2 c = search rules
