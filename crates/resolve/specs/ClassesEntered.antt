@@ -149,7 +149,7 @@ module _ {b : List ℕ} {p : Parts} (a : PackageIn b p) (y : Bytes b) (i : ℕ) 
     super-is : m ≡ words_of (class_from s at i).super
     super-is = mm ∙ rw (q, g) super-meant
 
-    small : (at < 2 ^ 32) × (i < 2 ^ 32) × (home.place.start < 2 ^ 32) × (row.own_val.place.start < 2 ^ 32) × (row.outer.place.start < 2 ^ 32)
+    small : (at < 2 ^ 32) × (i < 2 ^ 32) × (home.place.start < 2 ^ 32) × (row.own.place.start < 2 ^ 32) × (row.outer.place.start < 2 ^ 32)
     small =
         let (f, k, x, v) = site-small z in
         let d = class-holds a y i l in (
@@ -161,14 +161,14 @@ module _ {b : List ℕ} {p : Parts} (a : PackageIn b p) (y : Bytes b) (i : ℕ) 
         )
 
     abbrev columns : List Cell
-    columns = cells at i home.place.start row.own_val.place.start row.outer.place.start m len
+    columns = cells at i home.place.start row.own.place.start row.outer.place.start m len
 
     abbrev pub new : ℕ → List ℕ → List ℕ
-    new r w = described r at i home.place.start row.own_val.place.start row.outer.place.start m len w
+    new r w = described r at i home.place.start row.own.place.start row.outer.place.start m len w
 
     column-read : (r : ℕ) (w : List ℕ) → r + 64 ≤ length w → (j : ℕ) → j < 8 → (get_or columns j no_cell).value < 256 ^ (get_or columns j no_cell).width
         → le_at (get_or columns j no_cell).width (new r w) (r + (get_or columns j no_cell).from) ≡ (get_or columns j no_cell).value
-    column-read r w room = described-read at i home.place.start row.own_val.place.start row.outer.place.start m len r w room
+    column-read r w room = described-read at i home.place.start row.own.place.start row.outer.place.start m len r w room
 
     class-described : (r : ℕ) (w : List ℕ) → r + 64 ≤ length w → ClassIn s (class_from s at i) (new r w) r
     class-described r w room = record {
@@ -201,7 +201,7 @@ module _ {b : List ℕ} {p : Parts} (a : PackageIn b p) (y : Bytes b) (i : ℕ) 
         let room : record_at n 64 k + 64 ≤ length v = omega (arith, d.room, (added-kept d).size) in
         rw (u, f)
         (classes-more k xs (class_from s at i) c t (class-keyed i z q g) (rw g h) d
-        (described-kept at i home.place.start row.own_val.place.start row.outer.place.start m len (record_at n 64 k) v room)
+        (described-kept at i home.place.start row.own.place.start row.outer.place.start m len (record_at n 64 k) v room)
         (class-described (record_at n 64 k) v room) (lo-described (record_at n 64 k) v room) (hi-described (record_at n 64 k) v room))
 
 -- one of those before it has its key, where that was found

@@ -84,7 +84,7 @@ loop-i-preserved c =
       omega arith,
       l.invariant.1 ∙ fault-next a.b.now a.l l.i m e own new,
       entered-next a.b.now a.l bs (open_held a.b.now c.requires.b_value.0 bs) c.requires.w_len.1 l.invariant.2 m e
-          (no_fault c.entry_in-e.result a.l.names.count own).0 (c.add.ensures.added.0 z) (rw c.record_at.ensures at c.put_object.ensures),
+          (no_fault c.entry_in-e.result a.l.names.count own).0 (c.add.ensures.added z) (rw c.record_at.ensures at c.put_object.ensures),
     )
 
 pub shape_of-w : goal.shape_of-w

@@ -20,11 +20,10 @@ slice_bounds-put_name-start c =
     simp length-set (omega (arith, next-length c.requires.holds.1 c.separator_of.ensures (name_of c.args.b.now c.args.u)))
 
 pub put_name-n-requires : goal.put_name-n-requires
-put_name-n-requires c =
-    (
-      c.requires.holds.0,
-      next-name c.requires.holds.1 c.separator_of.ensures (name_of c.args.b.now c.args.u) c.args.out.now c.requires.number_in_bounds,
-    )
+put_name-n-requires c = (
+  c.requires.holds.0,
+  next-name c.requires.holds.1 c.separator_of.ensures (name_of c.args.b.now c.args.u) c.args.out.now c.requires.number_in_bounds,
+)
 
 pub overflow_add-result : goal.overflow_add-result
 overflow_add-result c =

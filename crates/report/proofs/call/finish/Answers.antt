@@ -20,7 +20,7 @@ marked : (c : After-resolve_all) → let a = c.args in
     MarksKept a.n a.t.rows a.w.now c.resolve_all.new.w
 marked c =
     let k = c.link_classes in
-    marks_then (gathered-linked (summed c).gathered k.ensures.1 k.auto.0) c.resolve_all.ensures.few.1
+    marks_then (gathered-linked (summed c).gathered k.ensures.linked k.auto.w) c.resolve_all.ensures.marks
 
 pub link_classes-requires : goal.link_classes-requires
 link_classes-requires c = gathered-classes c.requires.begun.2
@@ -33,7 +33,7 @@ resolve_all-requires c =
 pub overflow_add-size : goal.overflow_add-size
 overflow_add-size c =
     let g = (summed (goal.at.overflow_add-size c).After-resolve_all).gathered in
-    omega (arith, g.few.0, g.few.1, c.resolve_all.ensures.few.0)
+    omega (arith, g.few.0, g.few.1, c.resolve_all.ensures.few)
 
 pub returns-then-size-gt4294967299 : goal.returns-then-size-gt4294967299
 returns-then-size-gt4294967299 c = finish-beyond (summed (goal.at.returns-then-size-gt4294967299 c).After-resolve_all) c.if-size-gt4294967299.true c.refuse.ensures

@@ -40,7 +40,7 @@ finish-requires c =
     let z = walked (goal.at.finish-requires c).In-All in
     (
       (z.begun, z.packages, scanned_all z c.if-t.true, c.requires.3),
-      c.scan_packages.ensures.all.1.1.1.1.0,
+      c.scan_packages.ensures.notes,
     )
 
 pub returns-then-t : goal.returns-then-t

@@ -14,17 +14,11 @@ use Rattle.resolve.proofs.classes.enter_class.Goals as goal
 pub add-requires : goal.add-requires
 add-requires c =
     let t = c.requires.classes in
-    (rw t.0.count at (holds-linked t.0.holds.keys), (t.1, t.2, t.3))
+    record { linked = rw t.0.count at (holds-linked t.0.holds.keys); n_nonzero = (t.1, t.2, t.3) }
 
 pub returns-then-add-gt0 : goal.returns-then-add-gt0
 returns-then-add-gt0 c =
-    let a = c.args in (
-      λ e. absurd (false≢true e),
-      (
-        λ e s xs z q t k. class-stands a.k (class_from s a.at a.i) k t (class-keyed a.i z q c.export_at-e.ensures) c.add.ensures.found c.if-add-gt0.true,
-        c.add.auto.w,
-      ),
-    )
+    let a = c.args in record { new = λ e. absurd (false≢true e); old = λ e s xs z q t k. class-stands a.k (class_from s a.at a.i) k t (class-keyed a.i z q c.export_at-e.ensures) c.add.ensures.found c.if-add-gt0.true; size = c.add.auto.w }
 
 pub class_path_len-len-requires : goal.class_path_len-len-requires
 class_path_len-len-requires c =
@@ -49,12 +43,6 @@ returns c =
     let a = c.args in
     let p = c.requires.package_in in
     let y : Bytes a.b.now = λ i. (c.shared_slice_known-1.given i).fits in
-    let none : c.add.result ≡ 0 = omega (arith, c.if-add-gt0.false) in (
-      λ e s xs z q t l. class-entered p.0 y a.i p.3 z q c.export_at-e.ensures p.4
+    let none : c.add.result ≡ 0 = omega (arith, c.if-add-gt0.false) in record { new = λ e s xs z q t l. class-entered p.0 y a.i p.3 z q c.export_at-e.ensures p.4
           c.home_at-home.ensures c.row_at-row.ensures c.meaning-m.ensures (omega (arith, c.meaning-m.type_inv)) (omega (arith, c.meaning-m.type_inv))
-          c.class_path_len-len.ensures.0 c.class_path_len-len.ensures.1 t l (c.add.ensures.added.0 none) c.record_at.ensures c.describe.ensures,
-      (
-        λ e. absurd (false≢true (sym e)),
-        c.describe.auto.w ∙ c.add.auto.w,
-      ),
-    )
+          c.class_path_len-len.ensures.0 c.class_path_len-len.ensures.1 t l (c.add.ensures.added none) c.record_at.ensures c.describe.ensures; old = λ e. absurd (false≢true (sym e)); size = c.describe.auto.w ∙ c.add.auto.w }

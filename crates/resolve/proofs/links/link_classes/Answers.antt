@@ -30,11 +30,11 @@ loop-i-preserved c =
     let l = c.loop-i in
     let e = c.link_class in (
       omega arith,
-      e.auto.0 ∙ l.invariant.1,
-      λ s b o xs refs t q. e.ensures.0 s b o xs refs (l.invariant.2 s b o xs refs t q) (omega arith),
+      e.auto.w ∙ l.invariant.1,
+      λ s b o xs refs t q. e.ensures.kept s b o xs refs (l.invariant.2 s b o xs refs t q) (omega arith),
       λ s b o xs t q.
           let k = l.invariant.2 s b o xs [] (tables-kept t) q in
-          linked-more (l.invariant.3 s b o xs t q) (e.ensures.1.0 s b o xs k.tables (omega arith)) e.ensures.1.1,
+          linked-more (l.invariant.3 s b o xs t q) (e.ensures.linked s b o xs k.tables (omega arith)) e.ensures.only,
     )
 
 pub shape_of-w : goal.shape_of-w
@@ -44,4 +44,4 @@ pub returns : goal.returns
 returns c =
     let l = c.loop-i in
     let z : l.i ≡ c.args.classes = omega arith in
-    (l.invariant.2, λ s b o xs t q. rw z at (l.invariant.3 s b o xs t q))
+    record { kept = l.invariant.2; linked = λ s b o xs t q. rw z at (l.invariant.3 s b o xs t q) }

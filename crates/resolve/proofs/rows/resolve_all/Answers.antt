@@ -64,14 +64,11 @@ shape_of-w c = c.loop-r.invariant.1.size
 pub returns : goal.returns
 returns c =
     let l = c.loop-r in
-    let a = c.args in (
-      λ s b o xs refs t q.
+    let a = c.args in record { is = λ s b o xs refs t q.
           let i = l.invariant.3 s b o xs refs t q in
           let h : length refs ≤ l.r = omega arith in
           record {
             length-is = l.invariant.1.size;
             holds = part-all i.0 h;
             size = i.1 ∙ ap (sum (target_size (limits_of a.lookups a.objects) xs o)) (take_all l.r refs h);
-          },
-      (omega arith, l.invariant.1),
-    )
+          }; few = omega arith; marks = l.invariant.1 }

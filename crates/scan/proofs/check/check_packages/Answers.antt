@@ -44,7 +44,7 @@ pub returns-in-Rejected : goal.returns-in-Rejected
 returns-in-Rejected c =
     let l = c.loop-i in
     let x = c.check_package.ensures in
-    (stopped _ _ l.i _ l.invariant.0 l.invariant.2 _ c.block_at.ensures _ x _ c.in-Rejected.is _ (search rules), not-fine)
+    record { is = stopped _ _ l.i _ l.invariant.0 l.invariant.2 _ c.block_at.ensures _ x _ c.in-Rejected.is _ (search rules); all = not-fine }
 
 pub next_at-here-requires : goal.next_at-here-requires
 next_at-here-requires c = site-here c.requires.0 c.loop-i.invariant.0 (search rules)
@@ -61,4 +61,4 @@ pub returns : goal.returns
 returns c =
     let l = c.loop-i in
     let a = all-less c.args.count (search rules) l.invariant.2 in
-    (blocks-all _ _ _ a, λ z. a)
+    record { is = blocks-all _ _ _ a; all = λ z. a }

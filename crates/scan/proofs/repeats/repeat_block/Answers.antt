@@ -19,7 +19,7 @@ loop-i-init c = (sym (place_none _ _), search rules, λ o q. below_none _)
 pub repeats_in-requires : goal.repeats_in-requires
 repeats_in-requires c =
     let p = c.requires in
-    (sites-less p.0.0 _ (omega arith), all-less _ (omega arith) p.0.1, c.loop-i.invariant.0, p.1)
+    (sites-less p.sites.0 _ (omega arith), all-less _ (omega arith) p.sites.1, c.loop-i.invariant.0, p.noted_script)
 
 pub returns-then-repeats_in : goal.returns-then-repeats_in
 returns-then-repeats_in c = λ o q.

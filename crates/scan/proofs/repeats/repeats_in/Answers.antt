@@ -40,7 +40,7 @@ loop-j-init c = (search rules, λ o q. below_none _)
 pub is_repeat-requires : goal.is_repeat-requires
 is_repeat-requires c =
     let p = c.requires in
-    ((sites-less p.0 _ (omega arith), all-less _ (omega arith) p.1, p.3), (c.parts_in-p.ensures, search rules))
+    record { sites = (sites-less p.0 _ (omega arith), all-less _ (omega arith) p.1, p.3); package_in = (c.parts_in-p.ensures, search rules) }
 
 pub returns-then-is_repeat : goal.returns-then-is_repeat
 returns-then-is_repeat c = λ o q.

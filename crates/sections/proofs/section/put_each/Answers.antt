@@ -26,29 +26,29 @@ use Rattle.sections.proofs.section.put_each.Goals as goal
 -- what was written fits
 holds-size : (c : At-loop-rows)
     → (c.loop-rows.size ≤ length c.loop-rows.out) × (length c.loop-rows.out ≡ length c.args.out.now)
-holds-size c = let (id, h, a) = c.requires.by_index.0 in filled-inside (c.loop-rows.invariant.1 id h a)
+holds-size c = let (id, h, a) = c.requires.by_index in filled-inside (c.loop-rows.invariant.1 id h a)
 
 -- the part before the rows is there
 front-there : (c : In-loop-rows) → let u = c.args in 48 * u.n ≤ length u.w.now
-front-there c = c.requires.by_index.0.2.resolved.tables.room
+front-there c = c.requires.by_index.2.resolved.tables.room
 
 pub overflow_mul-front : goal.overflow_mul-front
 overflow_mul-front c =
     let g = c.well_formed.1.1.1.0.0 in
-    record { fits = omega (arith, c.requires.by_index.0.2.resolved.tables.room) }
+    record { fits = omega (arith, c.requires.by_index.2.resolved.tables.room) }
 
 pub overflow_add-end : goal.overflow_add-end
-overflow_add-end c = record { fits = omega (arith, c.requires.by_index.1.1) }
+overflow_add-end c = record { fits = omega (arith, c.requires.rows_marked.1) }
 
 pub overflow_mul-end : goal.overflow_mul-end
-overflow_mul-end c = record { fits = omega (arith, c.requires.by_index.1.1) }
+overflow_mul-end c = record { fits = omega (arith, c.requires.rows_marked.1) }
 
 pub loop-rows-init : goal.loop-rows-init
 loop-rows-init c = (omega arith, λ id h a. filled_none c.args.out.now)
 
 pub overflow_add-first : goal.overflow_add-first
 overflow_add-first c =
-    record { fits = omega (arith, c.loop-rows.invariant.0, rows_inside c.requires.by_index.1.0, c.ranges) }
+    record { fits = omega (arith, c.loop-rows.invariant.0, rows_inside c.requires.rows_marked.0, c.ranges) }
 
 pub slice_bounds-mark_at-count : goal.slice_bounds-mark_at-count
 slice_bounds-mark_at-count c = front-there (goal.at.slice_bounds-mark_at-count c).In-loop-rows
@@ -61,7 +61,7 @@ overflow_add-first-in-loop-rows c = record { fits = omega (arith, c.loop-rows-te
 
 pub mark_at-mark-requires : goal.mark_at-mark-requires
 mark_at-mark-requires c =
-    rw (lent-part (48 * c.args.n) c.args.w.now) (omega (arith, rows-there c.requires.by_index.1.0, c.loop-rows-test.true))
+    rw (lent-part (48 * c.args.n) c.args.w.now) (omega (arith, rows-there c.requires.rows_marked.0, c.loop-rows-test.true))
 
 pub shape_of-out-then-end-mark : goal.shape_of-out-then-end-mark
 shape_of-out-then-end-mark c = (holds-size (goal.at.shape_of-out-then-end-mark c).At-loop-rows).1
@@ -132,5 +132,5 @@ pub returns : goal.returns
 returns c =
     let l = c.loop-rows in
     let b = c.args.b.now in
-    let e : l.rows ≡ length (candidates (read_in b)) = omega (arith, c.loop-rows-test.false, l.invariant.0, rows_inside c.requires.by_index.1.0) in
+    let e : l.rows ≡ length (candidates (read_in b)) = omega (arith, c.loop-rows-test.false, l.invariant.0, rows_inside c.requires.rows_marked.0) in
     filled-all (export_refs (package_in id b)) (export_row c.args.objects h (package_in id b)) (candidates (read_in b)) l.rows e (l.invariant.1 id h a)

@@ -45,11 +45,11 @@ module _ (objects id : ℕ) (d : List ℕ) (i : ℕ) {c s : List ℕ} {n : ℕ} 
 -- the row as its kind has it
 row_is : (c : After-row_at-v) → let a = c.args in
     c.row_at-v.result ≡ row_in a.b.now a.p (candidate_kind (read_in a.b.now) (export_no a.b.now a.i)) a.i
-row_is c = rw (← c.requires.kind_value.0) c.row_at-v.ensures
+row_is c = rw (← c.requires.kind_value) c.row_at-v.ensures
 
 start-room : (c : After-row_at-v) → let a = c.args in
     (48 * a.n ≤ length a.w.now) × (32 * (a.r + 1) ≤ length (take (length a.w.now - 48 * a.n) (drop (48 * a.n) a.w.now)))
-start-room c = there c.args.objects c.requires.kind_value.1.0 c.args.b.now c.args.i c.requires.kind_value.1.2
+start-room c = there c.args.objects c.requires.by_index.0 c.args.b.now c.args.i c.requires.by_index.2
 
 pub overflow_mul-front : goal.overflow_mul-front
 overflow_mul-front c = let g = c.well_formed.1.1.1.0.0 in record { fits = omega (arith, (start-room (goal.at.overflow_mul-front c).After-row_at-v).0) }
@@ -67,7 +67,7 @@ pub put_row-requires : goal.put_row-requires
 put_row-requires c =
     (
       (c.requires.package_in.0, c.requires.package_in.1, c.requires.package_in.2),
-      row_room c.args.objects c.requires.kind_value.1.0 c.args.b.now c.args.i c.requires.kind_value.1.2 c.led_at-l.ensures c.requires.package_in.3 (row_is (goal.at.put_row-requires c).After-row_at-v),
+      row_room c.args.objects c.requires.by_index.0 c.args.b.now c.args.i c.requires.by_index.2 c.led_at-l.ensures c.requires.package_in.3 (row_is (goal.at.put_row-requires c).After-row_at-v),
     )
 
 pub returns : goal.returns

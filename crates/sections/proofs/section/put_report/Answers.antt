@@ -69,14 +69,14 @@ module _ (c : List ℕ) (at count lookups objects : ℕ) (o : Objects) where
 -- the nine bytes are there
 nine : (c : After-shared_slice_known-3-1) → 9 ≤ length c.args.out.now
 nine c =
-    let r = c.requires.report_room.0 in
+    let r = c.requires.report_room in
     omega (arith, r.room, size c.args.c.now c.args.at c.args.count r.lookups c.args.objects r.read)
 
 -- the length of what follows fits four bytes
 short : (c : After-put_sections-size) → c.put_sections-size.result + 5 < 2 ^ 32
 short c =
     let a = c.args in
-    let r = c.requires.report_room.0 in
+    let r = c.requires.report_room in
     let h = how a.c.now a.at a.count r.lookups a.objects r.read in
     let v = c.put_sections-size.ensures h (room a.c.now a.at a.count r.lookups a.objects r.read a.out.now r.ready r.room) in
     omega (arith, v.size, r.small, size a.c.now a.at a.count r.lookups a.objects r.read)
@@ -90,14 +90,14 @@ slice_bounds-put_sections-start c = nine (goal.at.slice_bounds-put_sections-star
 pub put_sections-size-requires : goal.put_sections-size-requires
 put_sections-size-requires c =
     let a = c.args in
-    let r = c.requires.report_room.0 in (
+    let r = c.requires.report_room in (
       (c.requires.sites.0, c.requires.sites.1, c.requires.sites.3, c.requires.sites.4),
       (
         (
           how a.c.now a.at a.count r.lookups a.objects r.read,
           room a.c.now a.at a.count r.lookups a.objects r.read a.out.now r.ready r.room,
         ),
-        c.requires.report_room.1,
+        c.requires.marks_in,
       ),
     )
 

@@ -43,7 +43,7 @@ module _ (objects id : ℕ) (b : List ℕ) {c s : List ℕ} {n : ℕ} {w : List 
 
 -- the count's four bytes are there
 room : (c : After-shared_slice_known-4-1) → 4 ≤ length c.args.out.now
-room c = omega (arith, size c.args.objects c.requires.by_index.0.0 c.args.b.now c.requires.by_index.0.2)
+room c = omega (arith, size c.args.objects c.requires.by_index.0 c.args.b.now c.requires.by_index.2)
 
 done : (c : After-put_be32-k) → (id : ℕ) (h : How) → RowsRoom c.args.c.now c.args.s.now c.args.n c.args.w.now c.args.objects c.args.first id c.args.b.now c.args.out.now h
     → RowsFilled c.args.objects id c.args.b.now h c.args.out.now c.put_be32-k.new.out
@@ -59,14 +59,14 @@ slice_bounds-put_each-start c = room (goal.at.slice_bounds-put_each-start c).Aft
 
 pub put_each-z-requires : goal.put_each-z-requires
 put_each-z-requires c =
-    ((c.requires.package_in.0, c.requires.package_in.1, c.requires.package_in.2), ((c.requires.by_index.0.0, c.requires.by_index.0.1, each c.args.objects c.requires.by_index.0.0 c.args.b.now c.requires.by_index.0.2), c.requires.by_index.1))
+    ((c.requires.package_in.0, c.requires.package_in.1, c.requires.package_in.2), ((c.requires.by_index.0, c.requires.by_index.1, each c.args.objects c.requires.by_index.0 c.args.b.now c.requires.by_index.2), c.requires.rows_marked))
 
 pub overflow_cast-z : goal.overflow_cast-z
 overflow_cast-z c =
-    let a = c.requires.by_index.0.2 in
-    let y = c.put_each-z.ensures c.requires.by_index.0.0 c.requires.by_index.0.1 (each c.args.objects c.requires.by_index.0.0 c.args.b.now a) in
+    let a = c.requires.by_index.2 in
+    let y = c.put_each-z.ensures c.requires.by_index.0 c.requires.by_index.1 (each c.args.objects c.requires.by_index.0 c.args.b.now a) in
     record {
-      fits = omega (arith, counted c.args.objects c.requires.by_index.0.0 c.args.b.now a y, candidates-few (read_in c.args.b.now), export_count_lem c.requires.package_in.0, c.requires.package_in.3);
+      fits = omega (arith, counted c.args.objects c.requires.by_index.0 c.args.b.now a y, candidates-few (read_in c.args.b.now), export_count_lem c.requires.package_in.0, c.requires.package_in.3);
     }
 
 pub put_be32-k-requires : goal.put_be32-k-requires
@@ -76,7 +76,7 @@ put_be32-k-requires c =
 
 pub behind-requires : goal.behind-requires
 behind-requires c =
-    let (id, h, a) = c.requires.by_index.0 in
+    let (id, h, a) = c.requires.by_index in
     let g = c.well_formed.0.0 in
     omega (arith, (done (goal.at.behind-requires c).After-put_be32-k id h a).wrote.fits)
 

@@ -118,7 +118,7 @@ put_head-k-requires c =
       k.read,
       c.note_names.ensures.0,
       k.small.count,
-      head-fits c.args.objects (package_in c.id_at.result c.block_at-b.result.now) (room (goal.at.put_head-k-requires c).After-id_at c.requires.section_room.0.0 c.requires.section_room.0.1),
+      head-fits c.args.objects (package_in c.id_at.result c.block_at-b.result.now) (room (goal.at.put_head-k-requires c).After-id_at c.requires.section_room.0 c.requires.section_room.1),
     )
 
 pub step_of-requires : goal.step_of-requires
@@ -132,11 +132,11 @@ put_rows-z-requires c =
       (
         (
           c.id_at.result,
-          c.requires.section_room.0.0,
-          rows-room c.args.objects (package_in c.id_at.result c.block_at-b.result.now) (room (goal.at.put_rows-z-requires c).After-id_at c.requires.section_room.0.0 c.requires.section_room.0.1) c.put_head-k.ensures,
+          c.requires.section_room.0,
+          rows-room c.args.objects (package_in c.id_at.result c.block_at-b.result.now) (room (goal.at.put_rows-z-requires c).After-id_at c.requires.section_room.0 c.requires.section_room.1) c.put_head-k.ensures,
         ),
         (
-          marked-here c.args.c.now c.args.at k.block (e ∙ step-first c.args.c.now c.args.at k.block k.read) c.requires.section_room.1,
+          marked-here c.args.c.now c.args.at k.block (e ∙ step-first c.args.c.now c.args.at k.block k.read) c.requires.rows_marked,
           omega (arith, e, k.small.step),
         ),
       ),
@@ -145,7 +145,7 @@ put_rows-z-requires c =
 pub behind-requires : goal.behind-requires
 behind-requires c =
     let g = c.well_formed.0.0 in
-    omega (arith, (done (goal.at.behind-requires c).After-put_rows-z c.requires.section_room.0.0 c.requires.section_room.0.1).wrote.fits)
+    omega (arith, (done (goal.at.behind-requires c).After-put_rows-z c.requires.section_room.0 c.requires.section_room.1).wrote.fits)
 
 pub returns : goal.returns
 returns c =

@@ -55,7 +55,7 @@ rows-room n w m e = omega (arith, m.room, e, length-drop (48 * n) w)
 -- what was written fits
 holds-size : (c : At-loop)
     → (c.loop.size ≤ length c.loop.out) × (length c.loop.out ≡ length c.args.out.now)
-holds-size c = filled-inside (c.loop.invariant.0.filled c.requires.sections_room.0.0 c.requires.sections_room.0.1)
+holds-size c = filled-inside (c.loop.invariant.0.filled c.requires.sections_room.0 c.requires.sections_room.1)
 
 summed : (c : After-put_section-z)
     → let l = c.loop in
@@ -63,7 +63,7 @@ summed : (c : After-put_section-z)
     (l.size + c.put_section-z.result.size ≤ length u.out.now) × (l.rows + c.put_section-z.result.rows ≤ length u.w.now)
 summed c =
     let t = c.loop.invariant.0 in
-    let (h, a) = c.requires.sections_room.0 in
+    let (h, a) = c.requires.sections_room in
     sums t c.loop-test.true h a (c.put_section-z.ensures.is h (room t c.loop-test.true h a))
 
 pub loop-init : goal.loop-init
@@ -77,7 +77,7 @@ loop-init c =
 pub look_ahead-ahead-requires : goal.look_ahead-ahead-requires
 look_ahead-ahead-requires c =
     let l = c.loop in
-    (rows-room c.args.n c.args.w.now c.requires.sections_room.1.0 c.requires.sections_room.1.1, l.invariant.1)
+    (rows-room c.args.n c.args.w.now c.requires.marks_in.0 c.requires.marks_in.1, l.invariant.1)
 
 pub slice_bounds-put_section-count : goal.slice_bounds-put_section-count
 slice_bounds-put_section-count c = (holds-size (goal.at.slice_bounds-put_section-count c).At-loop).0
@@ -96,8 +96,8 @@ put_section-z-requires c =
         l.invariant.2,
       ),
       (
-        (c.requires.sections_room.0.0, room t c.loop-test.true c.requires.sections_room.0.0 c.requires.sections_room.0.1),
-        rw t.place (rows-marked c.args.n c.args.w.now c.requires.sites.0 c.requires.sites.1 c.requires.sections_room.1.0 c.requires.sections_room.1.1 l.counter c.loop-test.true t.marks),
+        (c.requires.sections_room.0, room t c.loop-test.true c.requires.sections_room.0 c.requires.sections_room.1),
+        rw t.place (rows-marked c.args.n c.args.w.now c.requires.sites.0 c.requires.sites.1 c.requires.marks_in.0 c.requires.marks_in.1 l.counter c.loop-test.true t.marks),
       ),
     )
 
@@ -130,7 +130,7 @@ loop-preserved c =
     let l = c.loop in
     let u = c.args in
     let t = l.invariant.0 in
-    let (h, a) = c.requires.sections_room.0 in (
+    let (h, a) = c.requires.sections_room in (
       record {
         low = omega (arith, c.loop-test.true);
         place = c.next_at-at.ensures ∙ rw t.place (sym (place-next u.c.now u.from l.counter));

@@ -101,7 +101,7 @@ returns-then-enter_class c =
       (
         (omega (arith, ap (λ (x : Census). x.classes) e), ap (λ (x : Census). x.rows) e, ap (λ (x : Census). x.size) e),
         (
-          back-length (48 * a.n) a.w.now c.enter_class.new.1.1.1.1.0 (omega (arith, c.requires.open_value.1)) c.enter_class.ensures.old.1,
+          back-length (48 * a.n) a.w.now c.enter_class.new.1.1.1.1.0 (omega (arith, c.requires.open_value.1)) c.enter_class.ensures.size,
           marked a.n a.v a.b.now a.i a.t a.w.now c.requires.open_value.0 c.if-w-n.false c.if-enter_class.true c.enter_class.ensures.new e,
         ),
       ),
@@ -111,11 +111,11 @@ pub returns : goal.returns
 returns c =
     let a = c.args in
     let e = c.closed-2.ensures in (
-      stands a.n a.v a.b.now a.i a.t a.w.now c.requires.open_value.0 c.if-w-n.false c.if-enter_class.false c.enter_class.ensures.old.0 c.requires.open_value.6 e,
+      stands a.n a.v a.b.now a.i a.t a.w.now c.requires.open_value.0 c.if-w-n.false c.if-enter_class.false c.enter_class.ensures.old c.requires.open_value.6 e,
       (
         (omega (arith, ap (λ (x : Census). x.classes) e), ap (λ (x : Census). x.rows) e, ap (λ (x : Census). x.size) e),
         (
-          back-length (48 * a.n) a.w.now c.enter_class.new.1.1.1.1.0 (omega (arith, c.requires.open_value.1)) c.enter_class.ensures.old.1,
+          back-length (48 * a.n) a.w.now c.enter_class.new.1.1.1.1.0 (omega (arith, c.requires.open_value.1)) c.enter_class.ensures.size,
           λ c d o f l z k m. marked_closed (ap (λ (x : Census). x.open) e),
         ),
       ),

@@ -53,7 +53,7 @@ scan_package-requires c =
     )
 
 pub shape_of-w-then-t : goal.shape_of-w-then-t
-shape_of-w-then-t c = c.scan_package.ensures.small.1.0.0
+shape_of-w-then-t c = c.scan_package.ensures.size.0
 
 pub returns-then-t : goal.returns-then-t
 returns-then-t c =

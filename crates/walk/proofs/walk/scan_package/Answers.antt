@@ -105,7 +105,7 @@ scan_exports-requires c =
     )
 
 pub shape_of-w : goal.shape_of-w
-shape_of-w c = c.scan_exports.ensures.grown.1.0
+shape_of-w c = c.scan_exports.ensures.size
 
 pub returns : goal.returns
 returns c =

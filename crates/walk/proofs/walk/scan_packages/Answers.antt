@@ -58,7 +58,7 @@ loop-i-init c =
       omega arith,
       c.requires.sites.3,
       c.requires.sites.4,
-      begun a.c.now a.at a.s.now a.n a.limit a.w.now c.requires.linked.0 u.new.0 (λ i. (c.shared_slice_known-2-1.given i).fits) c.requires.linked.1 u.ensures c.opened-t.ensures,
+      begun a.c.now a.at a.s.now a.n a.limit a.w.now c.requires.linked.0 u.new.w (λ i. (c.shared_slice_known-2-1.given i).fits) c.requires.linked.1 u.ensures c.opened-t.ensures,
     )
 
 pub visit_at-v-requires : goal.visit_at-v-requires
@@ -84,7 +84,7 @@ scan_block-requires c =
 pub shape_of-w-in-Refused : goal.shape_of-w-in-Refused
 shape_of-w-in-Refused c =
     let a = c.args in
-    c.scan_block.ensures.read.1.1.1.0.0
+    c.scan_block.ensures.size.0
     ∙ (c.loop-i.invariant.3.size ∙ whole a.c.now a.at a.s.now a.n a.limit a.w.now c.requires.linked.0 c.clear.new.w c.clear.auto.w)
 
 pub returns-in-Refused : goal.returns-in-Refused
