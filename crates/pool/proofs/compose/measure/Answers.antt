@@ -22,7 +22,7 @@ own l = rw l.place_of.ensures at l.place_len-own.ensures.0
 short : (p : After-path_len-above) → (k d : ℕ) → p.path_len-above.result ≡ Known k d → (k ≤ 131090 * p.args.limit) × (d ≤ p.args.limit)
 short p k d e =
     let st = p.requires.0.stands in
-    below-short st p.args.limit p.if-limit-eq0.false (own p.before.before) p.if-outer-eq0.false p.if-outer-eq1.false (p.path_len-above.ensures _ _ st.holds)
+    below-short st p.args.limit p.if-limit-eq0.false (rw p.place_of.ensures at p.place_len-own.ensures.0) p.if-outer-eq0.false p.if-outer-eq1.false (p.path_len-above.ensures _ _ st.holds)
     (λ i. (p.shared_slice_known-1.given i).fits) e
 
 pub returns-then-limit-eq0 : goal.returns-then-limit-eq0

@@ -10,7 +10,7 @@ use Rattle.pool.specs.PoolLaws.{state-none, state-stood, state-all, pooled_none,
 use Rattle.pool.proofs.rows.pool_rows.Goals as goal
 
 pub returns-then-rows-eq0 : goal.returns-then-rows-eq0
-returns-then-rows-eq0 c = (λ q o xs lookups refs t x e. pooled_none c.args.objects t (e ∙ c.if-rows-eq0.true), marks-same _ _ _)
+returns-then-rows-eq0 c = record { is = λ q o xs lookups refs t x e. pooled_none c.args.objects t (e ∙ c.if-rows-eq0.true); marks = marks-same _ _ _ }
 
 pub overflow_add-gap : goal.overflow_add-gap
 overflow_add-gap c = omega (arith, c.requires.0.room)
@@ -43,7 +43,7 @@ pub loop-r-preserved : goal.loop-r-preserved
 loop-r-preserved c =
     let l = c.loop-r in
     let e = c.pool_row-free.ensures in
-    (omega arith, c.pool_row-free.auto.1.0 ∙ l.invariant.1, omega (arith, l.invariant.2, e.0.0), omega (arith, l.invariant.1, e.0.1), e.1 _ l.invariant.4)
+    (omega arith, c.pool_row-free.auto.w ∙ l.invariant.1, omega (arith, l.invariant.2, e.within.0), omega (arith, l.invariant.1, e.within.1), e.is _ l.invariant.4)
 
 pub shape_of-w : goal.shape_of-w
 shape_of-w c = c.loop-r.invariant.1
@@ -51,7 +51,4 @@ shape_of-w c = c.loop-r.invariant.1
 pub returns : goal.returns
 returns c =
     let l = c.loop-r in
-    let p = c.requires.0 in (
-      λ q o xs lookups refs t x e. state-all t (omega arith) e (omega (arith, p.room)) l.invariant.4 (omega arith) (omega (arith, l.invariant.3)),
-      left-marks c.args.n l.invariant.4.left (omega (arith, p.room)),
-    )
+    let p = c.requires.0 in record { is = λ q o xs lookups refs t x e. state-all t (omega arith) e (omega (arith, p.room)) l.invariant.4 (omega arith) (omega (arith, l.invariant.3)); marks = left-marks c.args.n l.invariant.4.left (omega (arith, p.room)) }

@@ -33,7 +33,4 @@ pub returns : goal.returns
 returns c =
     let p = c.requires.0 in
     let l = c.clear_slots.ensures in
-    let e = c.pool_rows.ensures in (
-      λ q o xs lookups refs t x y. e.0 q o xs lookups refs (left-resolved t (omega arith) y (omega (arith, p.room)) l) x y,
-      marks_then (left-marks c.args.n l (omega (arith, p.room))) e.1,
-    )
+    let e = c.pool_rows.ensures in record { is = λ q o xs lookups refs t x y. e.is q o xs lookups refs (left-resolved t (omega arith) y (omega (arith, p.room)) l) x y; marks = marks_then (left-marks c.args.n l (omega (arith, p.room))) e.marks }
