@@ -1,11 +1,11 @@
 // The list's cases replayed.
-ghost use Rattle.std.specs.Prelude.{◌≤◌, length};
+ghost use Rattle.std.specs.Prelude.{◌≤◌, length, IfOk};
 
 use super::list::part_at;
 use super::room;
 use base::number::{be32, be64};
 use check::same;
-use libc::STDOUT_FILENO;
+use std::io;
 
 // Whether the call, with 64 lookups and 65 objects, answers so: the number, the report, and past it, or where it refuses, the buffer as it was.
 fn answers(
@@ -94,16 +94,14 @@ fn replay_at(list: &[u8], at: usize, work: &mut [u8]) -> Step {
 }
 
 // Says which case differs, and how many do: one or none.
-fn tell(case: u64, same: bool) -> u64
-    ensures { result ≤ 1 }
+fn tell(rt: &HostRuntime, case: u64, same: bool) -> io::Result<u64>
+    ensures { IfOk result (λ n. n ≤ 1) }
 {
     if same {
-        return 0;
+        return Ok(0);
     }
-    io::write_all(STDOUT_FILENO, b"case ");
-    io::print_decimal(STDOUT_FILENO, case);
-    io::write_all(STDOUT_FILENO, b" differs\n");
-    1
+    println!(rt; "case {case} differs")?;
+    Ok(1)
 }
 
 // How many cases were replayed, and how many of them differ.
@@ -114,19 +112,19 @@ pub struct Told {
 }
 
 // Replays a list, with as much of the work buffer as each case wants.
-pub fn replay(list: &[u8], work: &mut [u8]) -> Told {
+pub fn replay(rt: &HostRuntime, list: &[u8], work: &mut [u8]) -> io::Result<Told> {
     let mut replayed: u64 = 0;
     let mut differ: u64 = 0;
     if list.len() < 4 {
-        return Told { replayed, differ };
+        return Ok(Told { replayed, differ });
     }
     let count = be32(list, 0) as u64;
     let mut at: usize = 4;
     while replayed < count && at < list.len() {
         let step = replay_at(list, at, work);
-        differ += tell(replayed, step.same);
+        differ += tell(rt, replayed, step.same)?;
         replayed += 1;
         at = step.next;
     }
-    Told { replayed, differ }
+    Ok(Told { replayed, differ })
 }

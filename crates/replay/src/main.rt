@@ -2,33 +2,44 @@
 // CityHash64, which list.sum has too, then each case that differs, and how many do.
 
 #![tactic(auto)]
-use libc::STDOUT_FILENO;
+ghost use Rattle.std.specs.Prelude.{◌≤◌, length, IfOk};
+
+use std::fs::File;
+use std::io;
+use std::io::Read;
 
 mod room; // on the stack
 mod list; // the list taken apart
 mod cases; // replayed
 
-fn tell(list: &[u8]) {
-    io::write_all(STDOUT_FILENO, b"list ");
-    io::print_hex(STDOUT_FILENO, city::city::city_hash64(list), 16);
-    io::write_all(STDOUT_FILENO, b"\n");
+fn tell(rt: &HostRuntime, list: &[u8]) -> io::Result<()> {
+    let sum = city::city::city_hash64(list);
+    println!(rt; "list {sum:016x}")?;
     let mut work = room::work();
-    let t = cases::replay(list, &mut work);
-    io::print_decimal(STDOUT_FILENO, t.replayed);
-    io::write_all(STDOUT_FILENO, b" replayed, ");
-    io::print_decimal(STDOUT_FILENO, t.differ);
-    io::write_all(STDOUT_FILENO, b" differ\n");
+    let t = cases::replay(rt, list, &mut work)?;
+    let replayed = t.replayed;
+    let differ = t.differ;
+    println!(rt; "{replayed} replayed, {differ} differ")
 }
 
-fn main() {
-    let path = b"list.bin";
-    let fd = os::open_read(path);
-    if fd < 0 {
-        os::fail(path);
-        return;
+// Reads a file until it ends or the room is full, and says how many bytes there were.
+fn read_full(file: &mut File, room: &mut [u8]) -> io::Result<usize>
+    ensures { IfOk result (λ n. n ≤ length room.old) }
+{
+    let mut n: usize = 0;
+    while n < room.len() {
+        let k = file.read(&mut room[n..])?;
+        if k == 0 {
+            return Ok(n);
+        }
+        n += k;
     }
+    Ok(n)
+}
+
+fn main(rt: HostRuntime) -> io::Result<()> {
     let mut list = room::list();
-    let n = io::read_full(fd, &mut list);
-    libc::close(fd);
-    tell(&list[..n]);
+    let mut file = File::open(&rt, "list.bin")?;
+    let n = read_full(&mut file, &mut list)?;
+    tell(&rt, &list[..n])
 }

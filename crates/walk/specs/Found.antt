@@ -1,6 +1,6 @@
 -- What the walk over the packages finds, export by export: classes with their blocks, what the rows' class indices mean, and how many bytes the
 -- report takes without the rows' classes and native classes. Assumes nothing.
-use Rattle.std.specs.Prelude.{◌≡◌, Bool, true, false, cond, List, [], ◌∷◌, ◌++◌, map, ℕ, zero, suc, ◌+◌, ◌*◌, ◌^◌, ◌≤◌, ◌<◌, length, take, drop, get_or}
+use Rattle.std.specs.Prelude.{◌≡◌, true, false, cond, List, [], ◌++◌, map, ℕ, zero, suc, ◌+◌, ◌*◌, ◌≤◌, ◌<◌, length, take, get_or}
 use Rattle.base.specs.Find.{kept}
 use Rattle.scriptblock.specs.Script.{Objects}
 use Rattle.zen.specs.Zen.{no_export, export_name, package_name}

@@ -20,7 +20,7 @@ use Rattle.meaning.specs.KeyLaws.{same_key-false}
 use Rattle.meaning.specs.Reference.{Package}
 use Rattle.meaning.specs.Scan.{Class, is_class, class_at, classes_from, classes_of, table, is_candidate, candidates}
 use Rattle.meaning.specs.Resolve.{Limits, look}
-use Rattle.meaning.specs.Report.{size, row_size, row_of, class_ref, report_of}
+use Rattle.meaning.specs.Report.{row_size, row_of, class_ref, report_of}
 use Rattle.meaning.specs.Call.{Placed, placed_from, has_key, first_repeat}
 use Rattle.meaning.specs.Lengths.{section_size, report-length}
 use Rattle.meaning.specs.Repeats.{placed_append}

@@ -13,7 +13,7 @@ use Rattle.scriptblock.specs.ScriptLaws.{script-is}
 use Rattle.scriptblock.specs.declared.script.Layout.{Layout}
 use Rattle.scriptblock.specs.declared.script.Opened.TheVariants.{Open}
 use Rattle.scriptblock.specs.declared.script.Script.TheVariants.{Accepted, Rejected}
-use Rattle.meaning.specs.Call.{refused_in, accepted, read_from, Placed, first_repeat, none_twice, Opened, holding, opened_in, opened}
+use Rattle.meaning.specs.Call.{refused_in, accepted, read_from, first_repeat, none_twice, holding, opened_in, opened}
 use Rattle.meaning.specs.Frame.{Corpus, framed}
 use Rattle.meaning.specs.Reference.{Package}
 use Rattle.meaning.specs.Resolve.{Limits}

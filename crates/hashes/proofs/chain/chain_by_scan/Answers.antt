@@ -3,7 +3,6 @@ use mathlib.Core.Path.{◌≡◌, refl, sym, ◌∙◌}
 use mathlib.Core.Bool.{Bool, true, false}
 use Prim.Native.Nat.{ℕ, ◌+◌, ◌-◌, ◌*◌, ◌≤◌, ◌<◌}
 use native.Mathlib.Omega.{arith}
-use borrow.Author.Rules.{rules}
 use lib.ListN.{length, drop}
 use Rattle.base.specs.NumberLaws.{Bytes}
 use Rattle.base.specs.Reading.{gives, run}
@@ -13,7 +12,7 @@ use Rattle.scriptblock.specs.ScriptAccepted.{script-parts, entry-count}
 use Rattle.objects.specs.Numbers.{entry_no, link_of}
 use Rattle.objects.specs.NumberLaws.{link-null}
 use Rattle.objects.specs.Work.{one_if, packed}
-use Rattle.hashes.specs.ChainLaws.{linked-length, Own, Reached, reached_none, reached_end, reached_lost, reached_top, reached_up}
+use Rattle.hashes.specs.ChainLaws.{linked-length, Own, reached_none, reached_end, reached_lost, reached_top, reached_up}
 use Rattle.hashes.specs.ScanLaws.{entry-same, entry_named, entry-behind, entry-small, own_scan, found_inside, link-none, link-some}
 use Rattle.hashes.proofs.chain.chain_by_scan.Goals.{After-entry_at-e, After-object_place-p, After-set_object}
 use Rattle.hashes.proofs.chain.chain_by_scan.Goals as goal
@@ -38,12 +37,12 @@ behind : (c : After-object_place-p)
     → let n = c.args.l.names.strings in
     (n ≤ c.object_place-p.result.start) × (c.object_place-p.result.start - n < 4294967296)
 behind c =
-    entry-behind c.args.s.now c.args.l c.requires.0.0 (bytes c.before) c.loop-depth.at c.loop-depth.invariant.0
+    entry-behind c.args.s.now c.args.l c.requires.0.0 (λ j. (c.shared_slice_known-1.given j).fits) c.loop-depth.at c.loop-depth.invariant.0
     c.entry_at-e.ensures c.object_place-p.ensures
 
 small : (c : After-object_place-p) → c.object_place-p.result.size < 65536
 small c =
-    entry-small c.args.s.now c.args.l c.requires.0.0 (bytes c.before) c.loop-depth.at c.loop-depth.invariant.0
+    entry-small c.args.s.now c.args.l c.requires.0.0 (λ j. (c.shared_slice_known-1.given j).fits) c.loop-depth.at c.loop-depth.invariant.0
     c.entry_at-e.ensures c.object_place-p.ensures
 
 -- its columns
@@ -54,7 +53,7 @@ own : (c : After-set_object) (o : Objects)
     (p.start - c.args.l.names.strings) c.packed.result c.entry_at-e.result.number
 own c o q =
     rw c.packed.ensures
-    (own_scan c.args.s.now c.args.l c.requires.0.0 (bytes c.before.before.before.before.before) c.loop-depth.at c.loop-depth.invariant.0
+    (own_scan c.args.s.now c.args.l c.requires.0.0 (λ j. (c.shared_slice_known-1.given j).fits) c.loop-depth.at c.loop-depth.invariant.0
     c.entry_at-e.ensures c.object_place-p.ensures o q)
 
 -- the chain as it is then
@@ -71,18 +70,17 @@ same : (c : After-set_object) (o : Objects)
     → run script 0 c.args.s.now ≡ gives o
     → c.entry_at-e.result ≡ entry_no o c.loop-depth.at
 same c o q =
-    entry-same c.args.s.now c.args.l c.requires.0.0 (bytes c.before.before.before.before.before) c.loop-depth.at c.loop-depth.invariant.0
+    entry-same c.args.s.now c.args.l c.requires.0.0 (λ j. (c.shared_slice_known-1.given j).fits) c.loop-depth.at c.loop-depth.invariant.0
     c.entry_at-e.ensures o q
 
 pub loop-depth-init : goal.loop-depth-init
-loop-depth-init c =
-    (
-      c.requires.1,
-      omega arith,
-      c.requires.3,
-      λ o q. reached_none (drop c.args.l.names.strings c.args.s.now) o c.args.limit c.args.i
-          c.args.chain.now,
-    )
+loop-depth-init c = (
+  c.requires.1,
+  omega arith,
+  c.requires.3,
+  λ o q. reached_none (drop c.args.l.names.strings c.args.s.now) o c.args.limit c.args.i
+      c.args.chain.now,
+)
 
 pub entry_at-e-requires : goal.entry_at-e-requires
 entry_at-e-requires c =
@@ -108,8 +106,7 @@ set_object-requires c = (omega arith, c.loop-depth.invariant.2)
 
 pub returns-then-index_kind-eq3 : goal.returns-then-index_kind-eq3
 returns-then-index_kind-eq3 c =
-    let l = c.loop-depth in
-    (
+    let l = c.loop-depth in (
       λ o q.
           let k : 1 ≡ link_of o (entry_no o l.at).outer =
           rw (← same (goal.at.returns-then-index_kind-eq3 c).After-set_object o q)
@@ -121,8 +118,7 @@ returns-then-index_kind-eq3 c =
 
 pub returns-then-k-eq0 : goal.returns-then-k-eq0
 returns-then-k-eq0 c =
-    let l = c.loop-depth in
-    (
+    let l = c.loop-depth in (
       λ o q.
           let k : 0 ≡ link_of o (entry_no o l.at).outer =
           rw (← same (goal.at.returns-then-k-eq0 c).After-set_object o q)

@@ -1,15 +1,12 @@
 -- `chain::chain_in`: the objects so far are in the chain, and the path is theirs behind that of the object at hand. Assumes nothing.
-use mathlib.Core.Path.{◌≡◌, ◌∙◌}
+use mathlib.Core.Path.{◌≡◌}
 use mathlib.Core.List.{List}
 use Prim.Native.Nat.{ℕ, ◌-◌, ◌*◌, ◌≤◌, ◌<◌}
-use native.Mathlib.Omega.{arith}
 use lib.ListN.{length}
 use Rattle.base.specs.NumberLaws.{Bytes}
 use Rattle.scriptblock.specs.Script.{Objects}
-use Rattle.objects.specs.Numbers.{entry_no, link_of}
-use Rattle.objects.specs.PathLaws.{link-inside, link_at_lem}
 use Rattle.objects.specs.Work.{ObjectsIn}
-use Rattle.hashes.specs.ChainLaws.{linked-length, Own, own-work, Reached, reached_none, reached_end, reached_lost, reached_top, reached_up}
+use Rattle.hashes.specs.ChainLaws.{Reached}
 use Rattle.hashes.proofs.chain.chain_in.Given as goal
 
 abbrev pub invariant-loop-depth : goal.invariant-loop-depth

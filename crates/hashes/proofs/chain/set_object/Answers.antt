@@ -1,6 +1,5 @@
 -- `chain::set_object`: three stores. Assumes nothing.
 use mathlib.Core.Path.{refl}
-use borrow.Author.Rules.{rules}
 use Rattle.hashes.specs.Chain.{linked}
 use Rattle.hashes.proofs.chain.set_object.Goals as goal
 

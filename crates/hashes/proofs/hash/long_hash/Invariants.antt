@@ -1,16 +1,10 @@
 -- `hash::long_hash`: the turns left, over the bytes from here on, end where all turns end. Assumes nothing.
-use mathlib.Core.Path.{◌≡◌, refl, sym, ◌∙◌}
-use mathlib.Core.List.{List}
-use Prim.Native.Nat.{ℕ, ◌+◌, ◌*◌, ◌<◌}
-use native.Mathlib.Omega.{arith}
-use borrow.Author.Rules.{rules}
+use mathlib.Core.Path.{◌≡◌}
+use Prim.Native.Nat.{◌+◌, ◌*◌, ◌<◌}
 use lib.ListN.{drop}
 use Rattle.city.specs.City.{turns}
-use Rattle.city.specs.CityLaws.{turns_end}
 use Rattle.text.specs.Utf16.{unit_bytes}
 use Rattle.hashes.specs.Chain.{chain_units}
-use Rattle.hashes.specs.PieceLaws.{chain_length}
-use Rattle.hashes.specs.TurnLaws.{turns-some, hash-long}
 use Rattle.hashes.proofs.hash.long_hash.Given as goal
 
 abbrev pub invariant-loop-left : goal.invariant-loop-left

@@ -1,7 +1,6 @@
 -- `hash::short_hash`: all units are in front of the text. Assumes nothing.
 use mathlib.Core.Path.{◌∙◌, ap}
 use native.Mathlib.Omega.{arith}
-use borrow.Author.Rules.{rules}
 use lib.Seq.{take_all}
 use Rattle.city.specs.City.{city_hash64}
 use Rattle.base.specs.OutputLaws.{wrote-taken, taken-length}

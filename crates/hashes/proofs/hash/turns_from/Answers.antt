@@ -3,7 +3,6 @@ use mathlib.Core.Path.{◌∙◌, ap}
 use mathlib.Core.List.{List}
 use Prim.Native.Nat.{ℕ, ◌*◌}
 use native.Mathlib.Omega.{arith}
-use borrow.Author.Rules.{rules}
 use Rattle.city.specs.City.{turns}
 use Rattle.base.specs.OutputLaws.{wrote-taken, taken-length}
 use Rattle.hashes.specs.Chain.{chain_units}

@@ -1,11 +1,10 @@
 -- `hash::turns_over`: the turns left, over the rest, give what all turns give. Assumes nothing.
 use mathlib.Core.Path.{◌≡◌, refl}
 use mathlib.Core.List.{List}
-use Prim.Native.Nat.{ℕ, ◌+◌, ◌-◌, ◌*◌, ◌≤◌}
+use Prim.Native.Nat.{ℕ, ◌-◌}
 use native.Mathlib.Omega.{arith}
 use lib.ListN.{length, take, drop, length-drop, length-take}
 use lib.Seq.{take-length}
-use Rattle.city.specs.City.{turns}
 use Rattle.city.specs.CityLaws.{turn-front, turns_at, turns_end}
 use Rattle.hashes.proofs.hash.turns_over.Goals as goal
 

@@ -1,12 +1,8 @@
 -- `hash::turns_over`: the turns left, over the rest, give what all turns give. Assumes nothing.
-use mathlib.Core.Path.{◌≡◌, refl}
-use mathlib.Core.List.{List}
-use Prim.Native.Nat.{ℕ, ◌+◌, ◌-◌, ◌*◌, ◌≤◌}
-use native.Mathlib.Omega.{arith}
-use lib.ListN.{length, take, drop, length-drop, length-take}
-use lib.Seq.{take-length}
+use mathlib.Core.Path.{◌≡◌}
+use Prim.Native.Nat.{◌+◌, ◌*◌, ◌≤◌}
+use lib.ListN.{length, drop}
 use Rattle.city.specs.City.{turns}
-use Rattle.city.specs.CityLaws.{turn-front, turns_at, turns_end}
 use Rattle.hashes.proofs.hash.turns_over.Given as goal
 
 abbrev pub invariant-loop-left : goal.invariant-loop-left

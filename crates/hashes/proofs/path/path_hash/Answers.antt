@@ -10,7 +10,7 @@ use Rattle.hashes.proofs.path.path_hash.Goals as goal
 
 tells : (c : After-chain_in-depth) (o : Objects)
     → let a = c.args in
-    ObjectsIn a.s.now o a.w.now → Tells a.s.now c.chain_in-depth.new.1.1.1.0 c.chain_in-depth.result (path_no a.limit o a.i)
+    ObjectsIn a.s.now o a.w.now → Tells a.s.now c.chain_in-depth.new.chain c.chain_in-depth.result (path_no a.limit o a.i)
 tells c o t =
     let a = c.args in
     c.chain_in-depth.ensures.0 a.s.now o t (λ j. (c.shared_slice_known-1.given j).fits)

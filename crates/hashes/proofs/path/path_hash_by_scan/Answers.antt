@@ -1,7 +1,6 @@
 -- `path::path_hash_by_scan`: the chain tells the path, and its hash is the path's. Assumes nothing.
 use Prim.Native.Nat.{◌≤◌}
 use native.Mathlib.Omega.{arith}
-use borrow.Author.Rules.{rules}
 use lib.ListN.{length}
 use Rattle.scriptblock.specs.ScriptFacts.{script-facts}
 use Rattle.hashes.specs.ChainLaws.{tells-unknown, tells-known}

@@ -1,12 +1,9 @@
 -- `units::count_units`: the names of the first k objects are counted. Assumes nothing.
 use mathlib.Core.Path.{◌≡◌, sym, ◌∙◌, ap}
-use mathlib.Core.List.{List}
-use Prim.Native.Nat.{ℕ, ◌-◌, ◌*◌, ◌≤◌}
+use Prim.Native.Nat.{ℕ}
 use native.Mathlib.Omega.{arith}
-use borrow.Author.Rules.{rules}
 use lib.ListN.{length}
-use Rattle.base.specs.NumberLaws.{Bytes}
-use Rattle.hashes.specs.Chain.{pieces, Named}
+use Rattle.hashes.specs.Chain.{pieces}
 use Rattle.hashes.specs.PieceLaws.{pieces_none, count_next}
 use Rattle.hashes.proofs.units.count_units.Goals as goal
 

@@ -1,6 +1,5 @@
 -- `units::piece_count`: by the lowest bit of the size. Assumes nothing.
 use native.Mathlib.Omega.{arith}
-use borrow.Author.Rules.{rules}
 use borrow.Author.Tests.{eq-eqb, ne_eqb}
 use Rattle.hashes.specs.Chain.{piece_count}
 use Rattle.hashes.proofs.units.piece_count.Goals as goal

@@ -1,5 +1,4 @@
 -- `units::place_no`: the place by its columns. Assumes nothing.
-use borrow.Author.Rules.{rules}
 use Rattle.hashes.proofs.units.place_no.Goals as goal
 
 pub returns : goal.returns

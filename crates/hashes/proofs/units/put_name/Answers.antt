@@ -1,6 +1,5 @@
 -- `units::put_name`: the number's digits, and the units of the name with them. Assumes nothing.
 use native.Mathlib.Omega.{arith}
-use borrow.Author.Rules.{rules}
 use Rattle.text.specs.NameLaws.{suffix-short}
 use Rattle.base.specs.OutputLaws.{wrote-taken, taken-length}
 use Rattle.hashes.proofs.units.put_name.Goals as goal

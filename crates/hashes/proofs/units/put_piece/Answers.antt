@@ -2,7 +2,6 @@
 use mathlib.Core.List.{[], ◌∷◌, ◌++◌}
 use Prim.Native.Nat.{◌+◌, ◌-◌}
 use native.Mathlib.Omega.{arith}
-use borrow.Author.Rules.{rules}
 use lib.ListN.{length, set, take, drop, length-set, length-take, length-drop}
 use Rattle.base.specs.Output.{Wrote}
 use Rattle.base.specs.OutputLaws.{wrote_none, wrote_as, wrote-rest, wrote-sets, wrote-length}
@@ -48,7 +47,7 @@ pub put_name-requires-2 : goal.put_name-requires-2
 put_name-requires-2 c = (c.requires.0, omega (arith, piece-size c.args.s.now c.args.p c.args.number), simp (length-take, length-drop, length-set) (omega arith))
 
 pub overflow_add-result : goal.overflow_add-result
-overflow_add-result c = omega (arith, (both (goal.at.overflow_add-result c).After-slice_known-2-1).ranges)
+overflow_add-result c = omega (arith, (both (goal.at.overflow_add-result c).After-slice_known-2-1).fits)
 
 pub shape_of-out : goal.shape_of-out
 shape_of-out c = omega (arith, wrote-length (both (goal.at.shape_of-out c).After-slice_known-2-1))

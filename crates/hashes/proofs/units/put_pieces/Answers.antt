@@ -26,13 +26,12 @@ part : (c : After-place_no)
 part c = record {
   bytes = λ j. (c.shared_slice_known-1.given j).fits;
   named = c.requires.0;
-  some = some c.before.before.before.before.before.before.before.before;
+  some = pieces-some c.args.s.now c.args.chain.now c.loop-left.k (omega arith);
   most = c.loop-left.invariant.0;
   room = c.loop-left.invariant.1;
   counts = c.piece_count-count.ensures.0;
   passed = c.least-past.ensures;
   taken = c.least-here.ensures;
-
 }
 
 -- the buffer has room for the window
@@ -45,14 +44,16 @@ room c = rw unit_bytes-length (simp (length-take, length-drop) (omega arith))
 filled : (c : After-slice_known-in-loop-left-1)
     → let a = c.args in
     let l = c.loop-left in
+    Part a.s.now a.chain.now a.depth l.k l.skip l.left c.piece_count-count.result
+    c.least-past.result c.least-here.result →
     Filled a.out.now (unit_bytes (take a.n (drop a.from (pieces a.s.now a.chain.now a.depth))))
     (take l.at l.out ++ (c.put_piece-at.new.out ++ drop (length l.out - l.at) (drop l.at l.out)))
     (unit_bytes (take (l.left - c.least-here.result)
     (drop (l.skip - c.least-past.result) (pieces a.s.now a.chain.now (l.k - 1)))))
     (l.at + c.put_piece-at.result)
-filled c =
+filled c t =
     let l = c.loop-left in
-    part_filled (part c.before.before.before) l.invariant.2 (rw c.place_no.ensures at c.put_piece-at.ensures)
+    part_filled t l.invariant.2 (rw c.place_no.ensures at c.put_piece-at.ensures)
 
 pub loop-left-init : goal.loop-left-init
 loop-left-init c = (omega arith, search rules, filled_none _ _, refl)
@@ -66,13 +67,13 @@ put_piece-at-requires c = let t = part (goal.at.put_piece-at-requires c).After-p
     rw c.place_no.ensures (own-holds t, own-fits t, part_room t l.invariant.2 (room (goal.at.put_piece-at-requires c).After-place_no))
 
 pub overflow_add-at : goal.overflow_add-at
-overflow_add-at c = omega (arith, (filled (goal.at.overflow_add-at c).After-slice_known-in-loop-left-1).wrote.ranges)
+overflow_add-at c = omega (arith, (filled (goal.at.overflow_add-at c).After-slice_known-in-loop-left-1 (part (goal.at.overflow_add-at c).After-place_no)).wrote.fits)
 
 pub loop-left-smaller : goal.loop-left-smaller
 loop-left-smaller c = omega (arith, some (goal.at.loop-left-smaller c).In-loop-left)
 
 pub loop-left-preserved : goal.loop-left-preserved
-loop-left-preserved c = (omega arith, own-after (part (goal.at.loop-left-preserved c).After-place_no), filled (goal.at.loop-left-preserved c).After-slice_known-in-loop-left-1, wrote-length (filled (goal.at.loop-left-preserved c).After-slice_known-in-loop-left-1).wrote)
+loop-left-preserved c = (omega arith, own-after (part (goal.at.loop-left-preserved c).After-place_no), filled (goal.at.loop-left-preserved c).After-slice_known-in-loop-left-1 (part (goal.at.loop-left-preserved c).After-place_no), wrote-length (filled (goal.at.loop-left-preserved c).After-slice_known-in-loop-left-1 (part (goal.at.loop-left-preserved c).After-place_no)).wrote)
 
 pub returns : goal.returns
 returns c = let l = c.loop-left in

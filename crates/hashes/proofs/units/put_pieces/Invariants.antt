@@ -1,15 +1,10 @@
 -- `units::put_pieces`: what is written, and the window of what the k innermost objects bring, are the window of all. Assumes nothing.
-use mathlib.Core.Path.{◌≡◌, refl, ap}
-use mathlib.Core.List.{◌++◌}
-use Prim.Native.Nat.{ℕ, ◌+◌, ◌-◌, ◌≤◌, ◌<◌}
-use native.Mathlib.Omega.{arith}
-use borrow.Author.Rules.{rules}
-use lib.ListN.{length, take, drop, length-take, length-drop}
-use Rattle.text.specs.UnitBytesLaws.{unit_bytes-length}
-use Rattle.base.specs.OutputLaws.{wrote-length}
+use mathlib.Core.Path.{◌≡◌}
+use Prim.Native.Nat.{◌+◌, ◌≤◌}
+use lib.ListN.{length, take, drop}
 use Rattle.text.specs.Utf16.{unit_bytes}
 use Rattle.hashes.specs.Chain.{pieces}
-use Rattle.hashes.specs.PieceLaws.{pieces-some, Part, own-holds, own-fits, own-after, Filled, filled_none, filled-all, part_room, part_filled}
+use Rattle.hashes.specs.PieceLaws.{Filled}
 use Rattle.hashes.proofs.units.put_pieces.Given as goal
 
 abbrev pub invariant-loop-left : goal.invariant-loop-left

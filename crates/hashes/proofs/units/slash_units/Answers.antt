@@ -1,10 +1,9 @@
 -- `units::slash_units`: what is in front, and the units left slashed, are all units slashed. Assumes nothing.
 use mathlib.Core.Path.{◌≡◌, refl, sym, ◌∙◌, ap}
 use mathlib.Core.List.{◌++◌}
-use Prim.Native.Nat.{ℕ, suc, ◌+◌, ◌-◌, ◌*◌, ◌≤◌}
+use Prim.Native.Nat.{ℕ, suc, ◌-◌}
 use native.Mathlib.Omega.{arith}
-use borrow.Author.Rules.{rules}
-use lib.ListN.{length, take, drop, length-set}
+use lib.ListN.{take, drop, length-set}
 use Rattle.hashes.specs.Slash.{slash_bytes}
 use Rattle.hashes.specs.SlashLaws.{slash-step, slash_end}
 use Rattle.hashes.proofs.units.slash_units.Goals as goal

@@ -1,12 +1,9 @@
 -- `units::slash_units`: what is in front, and the units left slashed, are all units slashed. Assumes nothing.
-use mathlib.Core.Path.{◌≡◌, refl, sym, ◌∙◌, ap}
+use mathlib.Core.Path.{◌≡◌}
 use mathlib.Core.List.{◌++◌}
-use Prim.Native.Nat.{ℕ, suc, ◌+◌, ◌-◌, ◌*◌, ◌≤◌}
-use native.Mathlib.Omega.{arith}
-use borrow.Author.Rules.{rules}
-use lib.ListN.{length, take, drop, length-set}
+use Prim.Native.Nat.{◌+◌, ◌*◌, ◌≤◌}
+use lib.ListN.{length, take, drop}
 use Rattle.hashes.specs.Slash.{slash_bytes}
-use Rattle.hashes.specs.SlashLaws.{slash-step, slash_end}
 use Rattle.hashes.proofs.units.slash_units.Given as goal
 
 abbrev pub invariant-loop-left : goal.invariant-loop-left

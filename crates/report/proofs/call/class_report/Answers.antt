@@ -37,9 +37,10 @@ without_table-requires c = begun-at (goal.at.without_table-requires c).In-Whole
 pub returns-then-w-l : goal.returns-then-w-l
 returns-then-w-l c =
     let a = c.args in
-    answered-outcome _
+    let x = answered-outcome _
     (answered-refused
-    (c.without_table.ensures c.in-Open.l a.lookups (length a.w.now) (length a.report.now) (opened-at (goal.at.returns-then-w-l c).In-Open) (omega arith)))
+    (c.without_table.ensures c.in-Open.l a.lookups (length a.w.now) (length a.report.now) (opened-at (goal.at.returns-then-w-l c).In-Open) (omega arith))) in
+    record { number = x.0; report = x.1 }
 
 pub with_table-requires : goal.with_table-requires
 with_table-requires c =
@@ -48,13 +49,16 @@ with_table-requires c =
 pub returns-in-Broken : goal.returns-in-Broken
 returns-in-Broken c =
     let e = sym c.read_frame.ensures ∙ c.in-Broken.is in
-    answered-outcome _ (answered-refused (refused-opened (opened-broken _ _ e) c.refuse.ensures))
+    let x = answered-outcome _ (answered-refused (refused-opened (opened-broken _ _ e) c.refuse.ensures)) in
+    record { number = x.0; report = x.1 }
 
 pub returns-in-Shut : goal.returns-in-Shut
 returns-in-Shut c =
     let e = sym c.open_script.ensures ∙ c.in-Shut.is in
-    answered-outcome _
-    (answered-refused (refused-opened (opened-script _ _ (begun-at (goal.at.returns-in-Shut c).In-Whole) (script-shut _ e)) c.refuse-in-Shut.ensures))
+    let x = answered-outcome _
+    (answered-refused (refused-opened (opened-script _ _ (begun-at (goal.at.returns-in-Shut c).In-Whole) (script-shut _ e)) c.refuse-in-Shut.ensures)) in
+    record { number = x.0; report = x.1 }
 
 pub returns-else-w-l : goal.returns-else-w-l
-returns-else-w-l c = answered-outcome _ c.with_table.ensures
+returns-else-w-l c = let x = answered-outcome _ c.with_table.ensures in
+    record { number = x.0; report = x.1 }

@@ -51,13 +51,7 @@ overflow_add-f c = omega (arith, (begun-few (summed (goal.at.overflow_add-f c).A
 pub put_report-requires : goal.put_report-requires
 put_report-requires c =
     let z = summed (goal.at.put_report-requires c).After-resolve_all in
-    let (names, imported) = c.requires.names_len in (
-      (begun-sites z.begun, z.packages, omega (arith, (begun-few z.begun).0), names, imported),
-      (
-        finish-room z c.pool_texts.ensures.is _ c.if-size-gt4294967299.false c.if-report-size.false,
-        gathered-marks z.gathered (marks_then (marked (goal.at.put_report-requires c).After-resolve_all) c.pool_texts.ensures.marks),
-      ),
-    )
+    let (names, imported) = c.requires.names_len in record { sites = (begun-sites z.begun, z.packages, omega (arith, (begun-few z.begun).0), names, imported); report_room = finish-room z c.pool_texts.ensures.is _ c.if-size-gt4294967299.false c.if-report-size.false; marks_in = gathered-marks z.gathered (marks_then (marked (goal.at.put_report-requires c).After-resolve_all) c.pool_texts.ensures.marks) }
 
 pub returns : goal.returns
 returns c =

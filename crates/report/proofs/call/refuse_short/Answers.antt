@@ -11,7 +11,7 @@ overflow_add-f c = omega (arith, (begun-few c.requires.0).1)
 pub repeat_block-block-requires : goal.repeat_block-block-requires
 repeat_block-block-requires c =
     let (b, a, n) = c.requires in
-    ((begun-sites b, a, (begun-few b).0), n)
+    record { sites = (begun-sites b, a, (begun-few b).0); noted_script = n }
 
 pub returns-then-block-eq0 : goal.returns-then-block-eq0
 returns-then-block-eq0 c = λ o lookups work room q h.

@@ -9,7 +9,7 @@ use Rattle.report.proofs.call.with_objects.Goals as goal
 
 -- what the walk entered
 walked : (c : In-All) → let a = c.args in
-    Walked a.objects a.c.now a.f a.s.now a.l.count c.in-All.t a.w.now c.scan_packages.new.names.1.1.1.0
+    Walked a.objects a.c.now a.f a.s.now a.l.count c.in-All.t a.w.now c.scan_packages.new.w
 walked c =
     let (b, n, k, l) = c.requires in
     let e = c.scan_packages.ensures in
@@ -17,11 +17,11 @@ walked c =
     record {
       begun = b;
       linked = k;
-      packages = e.1.0 _ t;
-      state = e.1.1.0 _ k.objects t k.holds;
-      size = e.1.1.1.0;
-      few = e.1.1.1.1.0 _ t;
-      marked = e.1.1.1.1.1.1 _ t;
+      packages = e.all _ t;
+      state = e.state _ k.objects t k.holds;
+      size = e.size;
+      few = e.few _ t;
+      marked = e.marks _ t;
     }
 
 pub overflow_add-f : goal.overflow_add-f
@@ -30,18 +30,14 @@ overflow_add-f c = omega (arith, (begun-few c.requires.0).1)
 pub scan_packages-requires : goal.scan_packages-requires
 scan_packages-requires c =
     let (b, n, k, l) = c.requires in
-    ((begun-sites b, (begun-few b).0, (begun-few b).2, refl, refl), (k, begun-small b))
+    record { sites = (begun-sites b, (begun-few b).0, (begun-few b).2, refl, refl); linked = (k, begun-small b) }
 
 pub returns-then-t-ne0 : goal.returns-then-t-ne0
 returns-then-t-ne0 c = scanned_twice (walked (goal.at.returns-then-t-ne0 c).In-All) c.if-t-ne0.true c.refuse-then-t-ne0.ensures
 
 pub finish-requires : goal.finish-requires
 finish-requires c =
-    let z = walked (goal.at.finish-requires c).In-All in
-    (
-      (z.begun, z.packages, scanned_all z c.if-t.true, c.requires.3),
-      c.scan_packages.ensures.notes,
-    )
+    let z = walked (goal.at.finish-requires c).In-All in record { begun = (z.begun, z.packages, scanned_all z c.if-t.true, c.requires.3); names_len = c.scan_packages.ensures.notes }
 
 pub returns-then-t : goal.returns-then-t
 returns-then-t c =

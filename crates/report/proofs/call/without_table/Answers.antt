@@ -30,12 +30,11 @@ note_names-requires c =
     ((script-parts _ _ (script-at (goal.at.note_names-requires c).In-Accepted)).held (begun-bytes c.requires), refl)
 
 pub refuse_short-requires : goal.refuse_short-requires
-refuse_short-requires c =
-    (
-      c.requires,
-      c.check_packages.ensures.all c.in-Fine.is,
-      (script-at (goal.at.refuse_short-requires c).In-Accepted, c.note_names.ensures.0),
-    )
+refuse_short-requires c = (
+  c.requires,
+  c.check_packages.ensures.all c.in-Fine.is,
+  (script-at (goal.at.refuse_short-requires c).In-Accepted, c.note_names.ensures.0),
+)
 
 pub returns-in-Rejected : goal.returns-in-Rejected
 returns-in-Rejected c = λ l lookups work room q h.

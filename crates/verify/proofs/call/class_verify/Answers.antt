@@ -2,7 +2,6 @@
 use mathlib.Core.Path.{◌≡◌, sym, ◌∙◌}
 use Prim.Native.Nat.{◌-◌}
 use native.Mathlib.Omega.{arith}
-use borrow.Author.Rules.{rules}
 use lib.ListN.{take, drop}
 use Rattle.scriptblock.specs.ScriptAnswers.{opened}
 use Rattle.scriptblock.specs.ScriptLaws.{script-shut}
@@ -39,7 +38,7 @@ pub without_table-requires : goal.without_table-requires
 without_table-requires c = begun-at (goal.at.without_table-requires c).In-Whole
 
 pub returns-then-w-l : goal.returns-then-w-l
-returns-then-w-l c = answered-verified c.without_table.ensures
+returns-then-w-l c = let (n, o) = answered-verified c.without_table.ensures in record { number = n; output = o }
 
 pub with_table-requires : goal.with_table-requires
 with_table-requires c =
@@ -48,13 +47,15 @@ with_table-requires c =
 pub returns-in-Broken : goal.returns-in-Broken
 returns-in-Broken c =
     let e = sym c.read_frame.ensures ∙ c.in-Broken.is in
-    answered-verified (answered-opened (opened-broken limits _ e) c.refuse.ensures)
+    let (n, o) = answered-verified (answered-opened {old = c.args.out.now} (opened-broken limits _ e) c.refuse.ensures) in
+    record { number = n; output = o }
 
 pub returns-in-Shut : goal.returns-in-Shut
 returns-in-Shut c =
     let e = sym c.open_script.ensures ∙ c.in-Shut.is in
     let b = begun-at (goal.at.returns-in-Shut c).In-Whole in
-    answered-verified (answered-opened (opened-script limits _ b (script-shut _ e)) c.refuse-in-Shut.ensures)
+    let (n, o) = answered-verified (answered-opened {old = c.args.out.now} (opened-script limits _ b (script-shut _ e)) c.refuse-in-Shut.ensures) in
+    record { number = n; output = o }
 
 pub returns-else-w-l : goal.returns-else-w-l
-returns-else-w-l c = answered-verified c.with_table.ensures
+returns-else-w-l c = let (n, o) = answered-verified c.with_table.ensures in record { number = n; output = o }

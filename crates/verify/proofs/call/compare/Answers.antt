@@ -1,6 +1,5 @@
 -- `call::compare` meets its contract. Assumes nothing.
 use native.Mathlib.Omega.{arith}
-use borrow.Author.Rules.{rules}
 use Rattle.walk.specs.OpenLaws.{begun-sites, begun-few}
 use Rattle.verify.proofs.Scanned.{Compared, compared-none, compared-twice}
 use Rattle.verify.proofs.call.compare.Goals.{After-repeat_block-block}
@@ -18,7 +17,7 @@ overflow_add-f c = omega (arith, (begun-few c.requires.0).1)
 pub repeat_block-block-requires : goal.repeat_block-block-requires
 repeat_block-block-requires c =
     let (b, a, n, y) = c.requires in
-    ((begun-sites b, a, (begun-few b).0), n)
+    record { sites = (begun-sites b, a, (begun-few b).0); noted_script = n }
 
 pub returns-then-block-ne0 : goal.returns-then-block-ne0
 returns-then-block-ne0 c = compared-twice (compared (goal.at.returns-then-block-ne0 c).After-repeat_block-block) c.if-block-ne0.true c.refuse.ensures

@@ -1,6 +1,5 @@
 -- `call::finish` meets its contract. Assumes nothing.
 use native.Mathlib.Omega.{arith}
-use borrow.Author.Rules.{rules}
 use Rattle.walk.specs.OpenLaws.{begun-sites, begun-few}
 use Rattle.verify.specs.StepLaws.{passed-few, passed-short, passed-output}
 use Rattle.verify.proofs.call.finish.Goals as goal
@@ -17,7 +16,7 @@ overflow_add-f-2 c = omega (arith, (begun-few c.requires.begun).1)
 pub put_output-requires : goal.put_output-requires
 put_output-requires c =
     let z = c.requires in
-    ((begun-sites z.begun, z.packages, c.if-out-f.false), passed-few z)
+    record { sites = (begun-sites z.begun, z.packages, c.if-out-f.false); objects_bound = passed-few z }
 
 pub returns : goal.returns
 returns c =

@@ -1,7 +1,6 @@
 -- `call::with_objects` meets its contract. Assumes nothing.
 use mathlib.Core.Path.{refl}
 use native.Mathlib.Omega.{arith}
-use borrow.Author.Rules.{rules}
 use Rattle.meaning.specs.Call.{limits}
 use Rattle.walk.specs.OpenLaws.{begun-sites, begun-few, begun-small, opened_package}
 use Rattle.verify.specs.StepLaws.{answered-opened}
@@ -11,11 +10,11 @@ use Rattle.verify.proofs.call.with_objects.Goals as goal
 
 -- what the walk entered
 walked : (c : In-All) → let a = c.args in
-    Walked a.c.now a.f a.s.now a.l.count a.t c.in-All.k a.w.now c.scan_packages.new.names.1.1.1.0
+    Walked a.c.now a.f a.s.now a.l.count a.t c.in-All.k a.w.now c.scan_packages.new.w
 walked c =
     let (b, n, k, y) = c.requires in
     let e = c.scan_packages.ensures in
-    record { begun = b; linked = k; tally = y; packages = e.1.0 _ c.in-All.is; state = e.1.1.0 _ k.objects c.in-All.is k.holds }
+    record { begun = b; linked = k; tally = y; packages = e.all _ c.in-All.is; state = e.state _ k.objects c.in-All.is k.holds }
 
 pub overflow_add-f : goal.overflow_add-f
 overflow_add-f c = omega (arith, (begun-few c.requires.0).1)
@@ -23,7 +22,7 @@ overflow_add-f c = omega (arith, (begun-few c.requires.0).1)
 pub scan_packages-requires : goal.scan_packages-requires
 scan_packages-requires c =
     let (b, n, k, y) = c.requires in
-    ((begun-sites b, (begun-few b).0, (begun-few b).2, refl, refl), (k, begun-small b))
+    record { sites = (begun-sites b, (begun-few b).0, (begun-few b).2, refl, refl); linked = (k, begun-small b) }
 
 pub returns-then-k-ne0 : goal.returns-then-k-ne0
 returns-then-k-ne0 c = walked-twice (walked (goal.at.returns-then-k-ne0 c).In-All) c.if-k-ne0.true c.refuse-then-k-ne0.ensures

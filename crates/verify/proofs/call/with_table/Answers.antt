@@ -1,7 +1,6 @@
 -- `call::with_table` meets its contract. Assumes nothing.
 use mathlib.Core.Path.{◌≡◌, refl, sym}
 use native.Mathlib.Omega.{arith}
-use borrow.Author.Rules.{rules}
 use Rattle.base.specs.Reading.{run}
 use Rattle.scriptblock.specs.Script.{script}
 use Rattle.scriptblock.specs.ScriptAnswers.{script_answer}
@@ -17,7 +16,7 @@ use Rattle.verify.proofs.call.with_table.Goals as goal
 
 -- the script objects, entered and linked
 entered : (c : Else-fault-ne0) → let a = c.args in
-    (script_answer (run script 0 a.s.now) ≡ Accepted a.l) × Linked a.s.now a.l.count c.enter_script-fault.new.1.1.1.0
+    (script_answer (run script 0 a.s.now) ≡ Accepted a.l) × Linked a.s.now a.l.count c.enter_script-fault.new.w
 entered c = let (a, k, n) = c.enter_script-fault.ensures.entered c.if-fault-ne0.false in (a, k)
 
 pub note_names-requires : goal.note_names-requires

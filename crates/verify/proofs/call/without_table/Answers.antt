@@ -1,7 +1,6 @@
 -- `call::without_table` meets its contract. Assumes nothing.
 use mathlib.Core.Path.{◌≡◌, refl, sym, ◌∙◌}
 use native.Mathlib.Omega.{arith}
-use borrow.Author.Rules.{rules}
 use Rattle.base.specs.Reading.{run}
 use Rattle.scriptblock.specs.Script.{script}
 use Rattle.scriptblock.specs.ScriptAccepted.{script-parts}
@@ -34,13 +33,12 @@ count_scanned-t-requires c =
     ((script-at (goal.at.count_scanned-t-requires c).In-Accepted, c.note_names.ensures.0), omega arith, begun-small c.requires)
 
 pub compare-requires : goal.compare-requires
-compare-requires c =
-    (
-      c.requires,
-      c.check_packages.ensures.all c.in-Fine.is,
-      (script-at (goal.at.compare-requires c).In-Accepted, c.note_names.ensures.0),
-      record { is = c.count_scanned-t.ensures },
-    )
+compare-requires c = (
+  c.requires,
+  c.check_packages.ensures.all c.in-Fine.is,
+  (script-at (goal.at.compare-requires c).In-Accepted, c.note_names.ensures.0),
+  record { is = c.count_scanned-t.ensures },
+)
 
 pub returns-in-Rejected : goal.returns-in-Rejected
 returns-in-Rejected c =

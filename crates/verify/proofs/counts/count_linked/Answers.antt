@@ -1,9 +1,6 @@
 -- `counts::count_linked` meets its contract. The loop's invariant: the objects passed are counted. Assumes nothing.
-use mathlib.Core.Path.{◌≡◌, refl}
-use Prim.Native.Nat.{◌-◌}
-use borrow.Author.Rules.{rules}
-use lib.ListN.{length}
-use Rattle.verify.proofs.Counting.{Counted, counted_none, counted-entry, counted-fits, counted-linked, counted-more, counted-all, linked-all}
+use mathlib.Core.Path.{refl}
+use Rattle.verify.proofs.Counting.{counted_none, counted-entry, counted-fits, counted-linked, counted-more, counted-all, linked-all}
 use Rattle.verify.proofs.counts.count_linked.Goals as goal
 
 pub loop-i-init : goal.loop-i-init

@@ -1,9 +1,8 @@
 -- `counts::count_linked` meets its contract. The loop's invariant: the objects passed are counted. Assumes nothing.
-use mathlib.Core.Path.{◌≡◌, refl}
+use mathlib.Core.Path.{◌≡◌}
 use Prim.Native.Nat.{◌-◌}
-use borrow.Author.Rules.{rules}
 use lib.ListN.{length}
-use Rattle.verify.proofs.Counting.{Counted, counted_none, counted-entry, counted-fits, counted-linked, counted-more, counted-all, linked-all}
+use Rattle.verify.proofs.Counting.{Counted}
 use Rattle.verify.proofs.counts.count_linked.Given as goal
 
 abbrev pub invariant-loop-i : goal.invariant-loop-i

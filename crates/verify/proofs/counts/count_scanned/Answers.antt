@@ -1,9 +1,6 @@
 -- `counts::count_scanned` meets its contract. The loop's invariant: the objects passed are counted. Assumes nothing.
-use mathlib.Core.Path.{◌≡◌, refl}
-use Prim.Native.Nat.{◌-◌}
-use borrow.Author.Rules.{rules}
-use lib.ListN.{length}
-use Rattle.verify.proofs.Counting.{Counted, counted_none, counted-entry, counted-fits, counted-more, counted-all}
+use mathlib.Core.Path.{refl}
+use Rattle.verify.proofs.Counting.{counted_none, counted-entry, counted-fits, counted-more, counted-all}
 use Rattle.verify.proofs.counts.count_scanned.Goals as goal
 
 pub loop-i-init : goal.loop-i-init
@@ -22,11 +19,10 @@ with_object-t-requires c =
     counted-fits c.loop-i.invariant.0 c.loop-i-test.true c.requires.2
 
 pub loop-i-preserved : goal.loop-i-preserved
-loop-i-preserved c =
-    (
-      counted-more c.loop-i.invariant.0 c.loop-i-test.true c.entry_at-e.ensures c.path_hash_by_scan-path.ensures.0 c.with_object-t.ensures,
-      c.path_hash_by_scan-path.ensures.1,
-    )
+loop-i-preserved c = (
+  counted-more c.loop-i.invariant.0 c.loop-i-test.true c.entry_at-e.ensures c.path_hash_by_scan-path.ensures.0 c.with_object-t.ensures,
+  c.path_hash_by_scan-path.ensures.1,
+)
 
 pub returns : goal.returns
 returns c = λ o q. counted-all c.loop-i.invariant.0 c.loop-i-test.false o q

@@ -1,9 +1,8 @@
 -- `counts::count_scanned` meets its contract. The loop's invariant: the objects passed are counted. Assumes nothing.
-use mathlib.Core.Path.{◌≡◌, refl}
+use mathlib.Core.Path.{◌≡◌}
 use Prim.Native.Nat.{◌-◌}
-use borrow.Author.Rules.{rules}
 use lib.ListN.{length}
-use Rattle.verify.proofs.Counting.{Counted, counted_none, counted-entry, counted-fits, counted-more, counted-all}
+use Rattle.verify.proofs.Counting.{Counted}
 use Rattle.verify.proofs.counts.count_scanned.Given as goal
 
 abbrev pub invariant-loop-i : goal.invariant-loop-i

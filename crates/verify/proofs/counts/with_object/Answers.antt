@@ -1,6 +1,5 @@
 -- `counts::with_object` meets its contract. Assumes nothing.
 use mathlib.Core.Path.{sym, ◌∙◌}
-use borrow.Author.Rules.{rules}
 use Rattle.verify.specs.TallyLaws.{tally-unknown, tally_match, tally-other}
 use Rattle.verify.proofs.counts.with_object.Goals as goal
 

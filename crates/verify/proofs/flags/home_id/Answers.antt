@@ -2,7 +2,6 @@
 use mathlib.Core.Path.{◌≡◌, ◌∙◌, ap}
 use mathlib.Core.List.{List}
 use Prim.Native.Nat.{ℕ}
-use borrow.Author.Rules.{rules}
 use Rattle.ids.specs.Id.{id_of}
 use Rattle.base.specs.NumberLaws.{Bytes}
 use Rattle.batch.specs.Holds.{Holds}

@@ -1,9 +1,8 @@
 -- `flags::put_flags` meets its contract. The loop's invariant: the flags of the packages passed are written. Assumes nothing.
 use mathlib.Core.Path.{◌≡◌, sym, ◌∙◌, ap}
 use mathlib.Core.List.{List, [], ◌∷◌, map, map-append}
-use Prim.Native.Nat.{ℕ, ◌+◌, ◌-◌, ◌≤◌, ◌<◌}
+use Prim.Native.Nat.{ℕ, ◌+◌, ◌≤◌, ◌<◌}
 use native.Mathlib.Omega.{arith}
-use borrow.Author.Rules.{rules}
 use lib.ListN.{length, set}
 use Rattle.base.specs.Output.{Wrote}
 use Rattle.base.specs.OutputLaws.{wrote_none, wrote-length, wrote_as, wrote-byte}
@@ -19,7 +18,6 @@ none_yet c from count old = record {
   low = omega arith;
   place = sym (place_none c from);
   wrote = wrote_as (wrote_none old) (sym (ap (map package_flag) (packages-none c from)));
-
 }
 
 one_more : {c : List ℕ} {from count : ℕ} {old : List ℕ} {i at : ℕ} {new : List ℕ} → Sofar c from count old i at new → i < count → count ≤ length old
@@ -29,7 +27,6 @@ one_more {c} {from} {count} {old} {i} {at} {new} k h room {flag} {next} f n = re
   place = n ∙ rw k.place (sym (place-next c from i));
   wrote = wrote_as (wrote-byte k.wrote (omega arith) flag)
       (rw (packages-next c from i, f, k.place) (sym (map-append package_flag (packages_at c from i) (package_at c (place_of c from i) ∷ []))));
-
 }
 
 all_done : {c : List ℕ} {from count : ℕ} {old : List ℕ} {i at : ℕ} {new : List ℕ} → Sofar c from count old i at new → count ≤ i

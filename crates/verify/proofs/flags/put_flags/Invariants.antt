@@ -1,16 +1,10 @@
 -- `flags::put_flags` meets its contract. The loop's invariant: the flags of the packages passed are written. Assumes nothing.
-use mathlib.Core.Path.{◌≡◌, sym, ◌∙◌, ap}
-use mathlib.Core.List.{List, [], ◌∷◌, map, map-append}
-use Prim.Native.Nat.{ℕ, ◌+◌, ◌-◌, ◌≤◌, ◌<◌}
-use native.Mathlib.Omega.{arith}
-use borrow.Author.Rules.{rules}
-use lib.ListN.{length, set}
+use mathlib.Core.Path.{◌≡◌}
+use mathlib.Core.List.{List, map}
+use Prim.Native.Nat.{ℕ, ◌-◌, ◌≤◌}
 use Rattle.base.specs.Output.{Wrote}
-use Rattle.base.specs.OutputLaws.{wrote_none, wrote-length, wrote_as, wrote-byte}
 use Rattle.meaning.specs.Verify.{package_flag}
-use Rattle.packages.specs.Framing.{next_at}
-use Rattle.packages.specs.Walk.{package_at, place_of, packages_at}
-use Rattle.packages.specs.WalkLaws.{place_none, place-next, packages-none, packages-next}
+use Rattle.packages.specs.Walk.{place_of, packages_at}
 use Rattle.verify.proofs.flags.put_flags.Given as goal
 
 -- the first i flags are written, and the next package is at a place

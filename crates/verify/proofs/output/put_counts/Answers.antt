@@ -1,6 +1,5 @@
 -- `output::put_counts` meets its contract: two counts behind two. Assumes nothing.
 use native.Mathlib.Omega.{arith}
-use borrow.Author.Rules.{rules}
 use Rattle.verify.proofs.Behind.{next}
 use Rattle.verify.proofs.output.put_counts.Goals as goal
 

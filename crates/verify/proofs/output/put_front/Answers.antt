@@ -1,6 +1,5 @@
 -- `output::put_front` meets its contract: one thing behind another. Assumes nothing.
 use native.Mathlib.Omega.{arith}
-use borrow.Author.Rules.{rules}
 use Rattle.verify.proofs.Behind.{next, four}
 use Rattle.verify.proofs.output.put_front.Goals as goal
 

@@ -1,7 +1,6 @@
 -- `walk::script::enter_script` meets its contract.
 use mathlib.Core.Path.{refl, sym, ◌∙◌, ap}
 use native.Mathlib.Omega.{arith}
-use borrow.Author.Rules.{rules}
 use lib.ListN.{length}
 use Rattle.scriptblock.specs.ScriptLaws.{open_fits, script-fault, script-left, script-accepted}
 use Rattle.scriptblock.specs.declared.script.Script.TheVariants.{Rejected}
@@ -11,7 +10,7 @@ use Rattle.walk.proofs.script.enter_script.Goals as goal
 
 -- the objects that were entered, of an accepted block
 filled : (c : Else-l-s) → let a = c.args in
-    Filled a.s.now a.l a.w.now c.enter-fault.new.1.1.1.0
+    Filled a.s.now a.l a.w.now c.enter-fault.new.w
 filled c =
     let (q, n, r, small) = c.requires in
     let none = c.if-fault-ne0.false in
@@ -27,13 +26,13 @@ slice_bounds-enter-end-2 c = sym (front_length _ _ c.requires.2)
 pub enter-fault-requires : goal.enter-fault-requires
 enter-fault-requires c =
     let (q, n, r, small) = c.requires in
-    ((q, n), (front_length _ _ r, small))
+    record { b_value = (q, n); w_len = (front_length _ _ r, small) }
 
 pub returns-then-fault-ne0 : goal.returns-then-fault-ne0
 returns-then-fault-ne0 c =
     let (q, n, r, small) = c.requires in
     let e = c.enter-fault.ensures.fault in
-    (λ some. script-fault _ q (λ z. c.if-fault-ne0.true (e ∙ z)) ∙ ap Rejected (sym e), λ none. absurd (c.if-fault-ne0.true none))
+    record { refused = λ some. script-fault _ q (λ z. c.if-fault-ne0.true (e ∙ z)) ∙ ap Rejected (sym e); entered = λ none. absurd (c.if-fault-ne0.true none) }
 
 pub overflow_add-l : goal.overflow_add-l
 overflow_add-l c =
@@ -44,7 +43,7 @@ pub returns-then-l-s : goal.returns-then-l-s
 returns-then-l-s c =
     let (q, n, r, small) = c.requires in
     let none = sym c.enter-fault.ensures.fault ∙ c.if-fault-ne0.false in
-    (λ some. script-left _ q none c.if-l-s.true, λ z. absurd (omega arith))
+    record { refused = λ some. script-left _ q none c.if-l-s.true; entered = λ z. absurd (omega arith) }
 
 pub slice_bounds-link-end-2 : goal.slice_bounds-link-end-2
 slice_bounds-link-end-2 c =
@@ -59,4 +58,4 @@ link-requires c =
 pub returns : goal.returns
 returns c =
     let z = filled (goal.at.returns c).Else-l-s in
-    (λ some. absurd (some refl), λ none. (z.accepted, linked-after z c.link.ensures, linked-length z c.link.ensures))
+    record { refused = λ some. absurd (some refl); entered = λ none. (z.accepted, linked-after z c.link.ensures, linked-length z c.link.ensures) }

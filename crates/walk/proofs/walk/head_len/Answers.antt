@@ -3,7 +3,6 @@ use mathlib.Core.Path.{◌≡◌, ◌∙◌, ap}
 use mathlib.Core.List.{List}
 use Prim.Native.Nat.{ℕ, ◌+◌}
 use native.Mathlib.Omega.{arith}
-use borrow.Author.Rules.{rules}
 use lib.ListN.{length}
 use Rattle.base.specs.NumberLaws.{Bytes}
 use Rattle.text.specs.Utf8.{utf8}
@@ -26,10 +25,10 @@ module _ {b : List ℕ} {p : Parts} (a : PackageIn b p) (y : Bytes b) {home : Na
 
 pub place_len-requires : goal.place_len-requires
 place_len-requires c =
-    held c.requires.0 (λ i. (c.shared_slice_known-1.given i).fits) c.home_at-home.ensures
+    held c.requires.0 (λ i. (c.type_inv.b i).fits) c.home_at-home.ensures
 
 pub returns : goal.returns
 returns c = (
-  measured c.requires.0 (λ i. (c.shared_slice_known-1.given i).fits) c.home_at-home.ensures c.place_len.ensures.0,
+  measured c.requires.0 (λ i. (c.type_inv.b i).fits) c.home_at-home.ensures c.place_len.ensures.0,
   omega (arith, c.place_len.ensures.1),
 )

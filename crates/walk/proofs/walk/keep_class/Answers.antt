@@ -4,7 +4,6 @@ use mathlib.Core.Bool.{Bool, true, false}
 use mathlib.Core.List.{List}
 use Prim.Native.Nat.{ℕ, ◌+◌, ◌*◌, ◌-◌, ◌/◌, ◌≤◌, ◌<◌}
 use native.Mathlib.Omega.{arith}
-use borrow.Author.Rules.{rules}
 use lib.ListN.{length, take, drop, length-drop}
 use Rattle.base.specs.Number.{be_at}
 use Rattle.scriptblock.specs.Script.{Objects}
@@ -78,45 +77,21 @@ overflow_mul-size c = omega (arith, c.requires.open_value.1)
 pub returns-then-w-n : goal.returns-then-w-n
 returns-then-w-n c =
     let a = c.args in
-    let e = c.closed.ensures in (
-      no_room a.n a.v a.b.now a.i a.t a.w.now c.requires.open_value.0 c.if-w-n.true e,
-      (
-        (omega (arith, ap (λ (x : Census). x.classes) e), ap (λ (x : Census). x.rows) e, ap (λ (x : Census). x.size) e),
-        (refl, λ c d o f l z k m. marked_closed (ap (λ (x : Census). x.open) e)),
-      ),
-    )
+    let e = c.closed.ensures in record { state = no_room a.n a.v a.b.now a.i a.t a.w.now c.requires.open_value.0 c.if-w-n.true e; grown = (omega (arith, ap (λ (x : Census). x.classes) e), ap (λ (x : Census). x.rows) e, ap (λ (x : Census). x.size) e); size = refl; marks = λ c d o f l z k m. marked_closed (ap (λ (x : Census). x.open) e) }
 
 pub enter_class-requires : goal.enter_class-requires
 enter_class-requires c =
     let a = c.args in
     let q = c.requires.open_value in
     let k = asked a.n a.v a.b.now a.i a.t a.w.now q.0 c.if-w-n.false q.2 q.3 in
-    (c.requires.package_in, (k.0, k.1, q.4, k.2))
+    record { package_in = c.requires.package_in; classes = (k.0, k.1, q.4, k.2) }
 
 pub returns-then-enter_class : goal.returns-then-enter_class
 returns-then-enter_class c =
     let a = c.args in
-    let e = c.opened.ensures in (
-      entered a.n a.v a.b.now a.i a.t a.w.now c.requires.open_value.0 c.if-w-n.false c.if-enter_class.true c.enter_class.ensures.new e,
-      (
-        (omega (arith, ap (λ (x : Census). x.classes) e), ap (λ (x : Census). x.rows) e, ap (λ (x : Census). x.size) e),
-        (
-          back-length (48 * a.n) a.w.now c.enter_class.new.1.1.1.1.0 (omega (arith, c.requires.open_value.1)) c.enter_class.ensures.size,
-          marked a.n a.v a.b.now a.i a.t a.w.now c.requires.open_value.0 c.if-w-n.false c.if-enter_class.true c.enter_class.ensures.new e,
-        ),
-      ),
-    )
+    let e = c.opened.ensures in record { state = entered a.n a.v a.b.now a.i a.t a.w.now c.requires.open_value.0 c.if-w-n.false c.if-enter_class.true c.enter_class.ensures.new e; grown = (omega (arith, ap (λ (x : Census). x.classes) e), ap (λ (x : Census). x.rows) e, ap (λ (x : Census). x.size) e); size = back-length (48 * a.n) a.w.now c.enter_class.new.w (omega (arith, c.requires.open_value.1)) c.enter_class.ensures.size; marks = marked a.n a.v a.b.now a.i a.t a.w.now c.requires.open_value.0 c.if-w-n.false c.if-enter_class.true c.enter_class.ensures.new e }
 
 pub returns : goal.returns
 returns c =
     let a = c.args in
-    let e = c.closed-2.ensures in (
-      stands a.n a.v a.b.now a.i a.t a.w.now c.requires.open_value.0 c.if-w-n.false c.if-enter_class.false c.enter_class.ensures.old c.requires.open_value.6 e,
-      (
-        (omega (arith, ap (λ (x : Census). x.classes) e), ap (λ (x : Census). x.rows) e, ap (λ (x : Census). x.size) e),
-        (
-          back-length (48 * a.n) a.w.now c.enter_class.new.1.1.1.1.0 (omega (arith, c.requires.open_value.1)) c.enter_class.ensures.size,
-          λ c d o f l z k m. marked_closed (ap (λ (x : Census). x.open) e),
-        ),
-      ),
-    )
+    let e = c.closed-2.ensures in record { state = stands a.n a.v a.b.now a.i a.t a.w.now c.requires.open_value.0 c.if-w-n.false c.if-enter_class.false c.enter_class.ensures.old c.requires.open_value.6 e; grown = (omega (arith, ap (λ (x : Census). x.classes) e), ap (λ (x : Census). x.rows) e, ap (λ (x : Census). x.size) e); size = back-length (48 * a.n) a.w.now c.enter_class.new.w (omega (arith, c.requires.open_value.1)) c.enter_class.ensures.size; marks = λ c d o f l z k m. marked_closed (ap (λ (x : Census). x.open) e) }

@@ -4,7 +4,6 @@ use mathlib.Core.Bool.{true}
 use mathlib.Core.List.{List, ◌++◌, append-nil}
 use Prim.Native.Nat.{ℕ, ◌+◌, ◌*◌, ◌-◌, ◌/◌, ◌^◌, ◌≤◌, ◌<◌}
 use native.Mathlib.Omega.{arith}
-use borrow.Author.Rules.{rules}
 use lib.ListN.{length, take, drop}
 use Rattle.base.specs.NumberLaws.{Bytes}
 use Rattle.scriptblock.specs.Script.{Objects}
@@ -82,36 +81,23 @@ pub overflow_mul-size : goal.overflow_mul-size
 overflow_mul-size c = omega (arith, c.requires.open_value.1)
 
 pub returns-then-kind-eq0 : goal.returns-then-kind-eq0
-returns-then-kind-eq0 c = (
-  no_candidate c.args.n c.args.id c.args.i c.args.b.now c.args.t c.args.w.now c.candidate-kind.ensures c.if-kind-eq0.true,
-  (
-    (refl, omega arith, omega arith),
-    (refl, no_mark c.args.n c.args.step c.args.i c.args.b.now c.args.t c.args.w.now c.candidate-kind.ensures c.if-kind-eq0.true),
-  ),
-)
+returns-then-kind-eq0 c = record { state = no_candidate c.args.n c.args.id c.args.i c.args.b.now c.args.t c.args.w.now c.candidate-kind.ensures c.if-kind-eq0.true; grown = (refl, omega arith, omega arith); size = refl; marks = no_mark c.args.n c.args.step c.args.i c.args.b.now c.args.t c.args.w.now c.candidate-kind.ensures c.if-kind-eq0.true }
 
 pub returns-then-w-n : goal.returns-then-w-n
 returns-then-w-n c =
-    let e = c.closed.ensures in (
-      no_room c.args.n c.args.id c.args.i c.args.b.now c.args.t c.args.w.now c.candidate-kind.ensures c.if-kind-eq0.false c.requires.open_value.0 c.if-w-n.true e,
-      (
-        (ap (λ (x : Census). x.classes) e, omega (arith, ap (λ (x : Census). x.rows) e), omega (arith, ap (λ (x : Census). x.size) e)),
-        (refl, λ l x. marked_closed (ap (λ (x : Census). x.open) e)),
-      ),
-    )
+    let e = c.closed.ensures in record { state = no_room c.args.n c.args.id c.args.i c.args.b.now c.args.t c.args.w.now c.candidate-kind.ensures c.if-kind-eq0.false c.requires.open_value.0 c.if-w-n.true e; grown = (ap (λ (x : Census). x.classes) e, omega (arith, ap (λ (x : Census). x.rows) e), omega (arith, ap (λ (x : Census). x.size) e)); size = refl; marks = λ l x. marked_closed (ap (λ (x : Census). x.open) e) }
 
 pub mark_of-requires : goal.mark_of-requires
 mark_of-requires c = c.requires.open_value.5
 
 pub row_len-len-requires : goal.row_len-len-requires
-row_len-len-requires c =
-    (
-      c.requires.package_in.0,
-      c.requires.package_in.1,
-      c.requires.package_in.2,
-      held c.args.n c.args.id c.args.i c.args.b.now c.args.t c.args.w.now c.candidate-kind.ensures c.if-kind-eq0.false c.requires.open_value.0
-          c.requires.package_in.0 (λ i. (c.shared_slice_known-1.given i).fits) c.requires.package_in.3 c.row_at-v.ensures,
-    )
+row_len-len-requires c = (
+  c.requires.package_in.0,
+  c.requires.package_in.1,
+  c.requires.package_in.2,
+  held c.args.n c.args.id c.args.i c.args.b.now c.args.t c.args.w.now c.candidate-kind.ensures c.if-kind-eq0.false c.requires.open_value.0
+      c.requires.package_in.0 (λ i. (c.type_inv.b i).fits) c.requires.package_in.3 c.row_at-v.ensures,
+)
 
 pub overflow_add-t : goal.overflow_add-t
 overflow_add-t c = omega (arith, c.requires.open_value)
@@ -126,16 +112,12 @@ returns c =
     let m = c.meaning-m in
     let y = c.mark_of.ensures in
     let h = c.candidate-kind in
-    let e = c.opened.ensures in (
-      row_put a.n a.id a.i a.b.now a.t a.w.now c.candidate-kind.ensures c.if-kind-eq0.false c.requires.open_value.0
-          c.requires.package_in.0 (λ i. (c.shared_slice_known-1.given i).fits) c.requires.package_in.3 c.row_at-v.ensures c.if-w-n.false
-          m.ensures (omega (arith, m.type_inv)) (omega (arith, m.type_inv)) c.mark_of.result c.put_words.ensures c.row_len-len.ensures.0 e,
-      (
-        (ap (λ (x : Census). x.classes) e, omega (arith, ap (λ (x : Census). x.rows) e), omega (arith, ap (λ (x : Census). x.size) e, c.row_len-len.ensures.1)),
-        (
-          back-length (48 * a.n) a.w.now c.put_words.new.w (omega (arith, c.requires.open_value.1)) c.put_words.auto.w,
-          mark-put a.n a.step a.i a.b.now a.t a.w.now h.ensures c.if-kind-eq0.false c.requires.open_value.0 c.if-w-n.false
-              m.result y (omega (arith, y, c.requires.open_value.5, h.type_inv)) c.put_words.ensures e,
-        ),
-      ),
-    )
+    let e = c.opened.ensures in record {
+      state = row_put a.n a.id a.i a.b.now a.t a.w.now c.candidate-kind.ensures c.if-kind-eq0.false c.requires.open_value.0
+          c.requires.package_in.0 (λ i. (c.type_inv.b i).fits) c.requires.package_in.3 c.row_at-v.ensures c.if-w-n.false
+          m.ensures (omega (arith, m.type_inv)) (omega (arith, m.type_inv)) c.mark_of.result c.put_words.ensures c.row_len-len.ensures.0 e;
+      grown = (ap (λ (x : Census). x.classes) e, omega (arith, ap (λ (x : Census). x.rows) e), omega (arith, ap (λ (x : Census). x.size) e, c.row_len-len.ensures.1));
+      size = back-length (48 * a.n) a.w.now c.put_words.new.w (omega (arith, c.requires.open_value.1)) c.put_words.auto.w;
+      marks = mark-put a.n a.step a.i a.b.now a.t a.w.now h.ensures c.if-kind-eq0.false c.requires.open_value.0 c.if-w-n.false
+          m.result y (omega (arith, y, c.requires.open_value.5, h.type_inv)) c.put_words.ensures e;
+    }

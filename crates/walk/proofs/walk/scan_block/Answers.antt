@@ -4,7 +4,6 @@ use mathlib.Core.Bool.{false}
 use mathlib.Core.List.{List}
 use Prim.Native.Nat.{ℕ, ◌+◌}
 use native.Mathlib.Omega.{arith}
-use borrow.Author.Rules.{rules}
 use lib.ListN.{length}
 use Rattle.base.specs.Reading.{gives, refused, run_block}
 use Rattle.scriptblock.specs.Script.{Objects}
@@ -47,10 +46,7 @@ shut d b n limit v h {o = o} {f = f} k = state_closed k h (package_behind limit 
 
 pub scan_package-requires : goal.scan_package-requires
 scan_package-requires c =
-    (
-      (accepted c.args.b.now c.check_package.ensures c.in-Accepted.is, c.requires.names_len.0, c.requires.names_len.1),
-      (c.if-t.true, c.requires.some_state.0, c.requires.some_state.1, c.requires.some_state.2),
-    )
+    record { b_value = (accepted c.args.b.now c.check_package.ensures c.in-Accepted.is, c.requires.names_len.0, c.requires.names_len.1); open_value = (c.if-t.true, c.requires.some_state.0, c.requires.some_state.1, c.requires.some_state.2) }
 
 pub shape_of-w-then-t : goal.shape_of-w-then-t
 shape_of-w-then-t c = c.scan_package.ensures.size.0
@@ -58,36 +54,12 @@ shape_of-w-then-t c = c.scan_package.ensures.size.0
 pub returns-then-t : goal.returns-then-t
 returns-then-t c =
     let e = c.scan_package.ensures in
-    let a = c.args in (
-      λ q j z. not-refused z,
-      (
-        λ t z. read a.b.now c.check_package.ensures c.in-Accepted.is,
-        (
-          λ t c o f z v k. rw (← all_same z) (e.0 c o f v k),
-          (λ t x z h. rw (← all_same z) (e.1.0 x h), (e.1.1.0, λ t l z m. rw (← all_same z) (e.1.1.1 l m))),
-        ),
-      ),
-    )
+    let a = c.args in record { refused = λ q j z. not-refused z; read = λ t z. read a.b.now c.check_package.ensures c.in-Accepted.is; state = λ t c o f z v k. rw (← all_same z) (e.state c o f v k); small = λ t x z h. rw (← all_same z) (e.small x h); size = e.size; marks = λ t l z m. rw (← all_same z) (e.marks l m) }
 
 pub returns-in-Rejected : goal.returns-in-Rejected
 returns-in-Rejected c =
-    (
-      λ q j z. rejected c.args.b.now c.check_package.ensures c.in-Rejected.is z,
-      (λ t z. not-all z, (λ t c o f z v k. not-all z, (λ t x z h. not-all z, ((refl, c.requires.names_len.0, c.requires.names_len.1), λ t l z m. not-all z)))),
-    )
+    record { refused = λ q j z. rejected c.args.b.now c.check_package.ensures c.in-Rejected.is z; read = λ t z. not-all z; state = λ t c o f z v k. not-all z; small = λ t x z h. not-all z; size = (refl, c.requires.names_len.0, c.requires.names_len.1); marks = λ t l z m. not-all z }
 
 pub returns-else-t : goal.returns-else-t
 returns-else-t c =
-    let a = c.args in (
-      λ q j z. not-refused z,
-      (
-        λ t z. read a.b.now c.check_package.ensures c.in-Accepted.is,
-        (
-          λ t k o f z v x. rw (← all_same z) (shut a.b.now a.s.now a.n a.limit a.v c.if-t.false x),
-          (
-            λ t x z h. rw (← all_same z) (small-more (length a.b.now) h),
-            ((refl, c.requires.names_len.0, c.requires.names_len.1), λ t l z m. rw (← all_same z) (marked_closed c.if-t.false)),
-          ),
-        ),
-      ),
-    )
+    let a = c.args in record { refused = λ q j z. not-refused z; read = λ t z. read a.b.now c.check_package.ensures c.in-Accepted.is; state = λ t k o f z v x. rw (← all_same z) (shut a.b.now a.s.now a.n a.limit a.v c.if-t.false x); small = λ t x z h. rw (← all_same z) (small-more (length a.b.now) h); size = (refl, c.requires.names_len.0, c.requires.names_len.1); marks = λ t l z m. rw (← all_same z) (marked_closed c.if-t.false) }

@@ -4,7 +4,6 @@ use mathlib.Core.Bool.{Bool, true, false}
 use mathlib.Core.List.{List}
 use Prim.Native.Nat.{ℕ, ◌*◌, ◌≤◌, ◌<◌}
 use native.Mathlib.Omega.{arith}
-use borrow.Author.Rules.{rules}
 use lib.ListN.{length, take, drop}
 use lib.Seq.{length-take-le}
 use Rattle.scriptblock.specs.Script.{Objects}
@@ -85,7 +84,7 @@ overflow_mul-size c = let q = c.requires.open_value in omega (arith, room-is q.1
 pub keep_row-r-requires : goal.keep_row-r-requires
 keep_row-r-requires c =
     let q = c.requires.open_value in
-    (c.requires.package_in, (q.0, room-is q.1 q.0, omega (arith, q.2), q.3, q.4, q.6))
+    record { package_in = c.requires.package_in; open_value = (q.0, room-is q.1 q.0, omega (arith, q.2), q.3, q.4, q.6) }
 
 pub shape_of-w-then-not-r : goal.shape_of-w-then-not-r
 shape_of-w-then-not-r c = c.keep_row-r.ensures.size
@@ -94,10 +93,13 @@ pub returns-then-not-r : goal.returns-then-not-r
 returns-then-not-r c =
     let r = c.keep_row-r in
     let a = c.args in
-    let g = r.ensures.grown in (
-      shut a.n a.limit a.v a.i a.b.now a.s.now r.ensures.state (c.if-not-r.true),
-      (record { classes = omega (arith, g.0); rows = omega (arith, g.1); size = omega (arith, g.2) }, r.ensures.1.1),
-    )
+    let g = r.ensures.grown in
+    record {
+      state = shut a.n a.limit a.v a.i a.b.now a.s.now r.ensures.state (not-true _ c.if-not-r.true);
+      grown = record { classes = omega (arith, g.0); rows = omega (arith, g.1); size = omega (arith, g.2) };
+      size = r.ensures.size;
+      marks = r.ensures.marks;
+    }
 
 pub slice_bounds-is_class-end : goal.slice_bounds-is_class-end
 slice_bounds-is_class-end c =
@@ -108,13 +110,13 @@ pub slice_bounds-is_class-end-2 : goal.slice_bounds-is_class-end-2
 slice_bounds-is_class-end-2 c =
     let r = c.keep_row-r in
     let q = c.requires.open_value in
-    sym (length-take-le (48 * c.args.n) r.new.1.1.1.1.0 (omega (arith, room-is q.1 q.0, r.ensures.size)))
+    sym (length-take-le (48 * c.args.n) r.new.w (omega (arith, room-is q.1 q.0, r.ensures.size)))
 
 pub is_class-requires : goal.is_class-requires
 is_class-requires c =
     let r = c.keep_row-r in
     let a = c.args in
-    linked a.n a.limit a.v a.i a.b.now a.s.now r.ensures.state (c.if-not-r.false) c.requires.open_value.1
+    linked a.n a.limit a.v a.i a.b.now a.s.now r.ensures.state (not-false _ c.if-not-r.false) c.requires.open_value.1
 
 pub keep_class-requires : goal.keep_class-requires
 keep_class-requires c =
@@ -122,12 +124,13 @@ keep_class-requires c =
     let a = c.args in
     let p = c.requires.package_in in
     let q = c.requires.open_value in
-    let g = r.ensures.1 in
-    let o = c.if-not-r.false in
-    let k = asked a.n a.limit a.v a.i a.b.now a.s.now r.ensures.state o c.export_at-e.ensures c.is_class.ensures c.if-is_class.true q.1 in (
-      (p.0, p.1, p.2, p.3, k.0),
-      (o, omega (arith, room-is q.1 q.0, g.1.0), k.1, k.2, omega (arith, g.0.0, q.2), omega (arith, g.0.1, q.3), q.5),
-    )
+    let g = r.ensures.grown in
+    let o = not-false _ c.if-not-r.false in
+    let k = asked a.n a.limit a.v a.i a.b.now a.s.now r.ensures.state o c.export_at-e.ensures c.is_class.ensures c.if-is_class.true q.1 in
+    record {
+      package_in = (p.0, p.1, p.2, p.3, k.0);
+      open_value = (o, omega (arith, room-is q.1 q.0, r.ensures.size), k.1, k.2, omega (arith, g.0, q.2), omega (arith, g.1, q.3), q.5);
+    }
 
 pub shape_of-w-then-is_class : goal.shape_of-w-then-is_class
 shape_of-w-then-is_class c = c.keep_class.ensures.size ∙ c.keep_row-r.ensures.size
@@ -139,13 +142,13 @@ returns-then-is_class c =
     let a = c.args in
     let g = r.ensures.grown in
     let h = k.ensures.grown in
-    let p = some-row a.n a.limit a.v a.i a.b.now a.s.now r.ensures.state (c.if-not-r.false) c.requires.open_value.1 in (
-      a-class a.n a.limit a.v a.i a.b.now a.s.now r.ensures.state (c.if-not-r.false) c.export_at-e.ensures c.is_class.ensures c.if-is_class.true k.ensures.state,
-      (
-        record { classes = omega (arith, g.0, h.0); rows = omega (arith, g.1, h.1); size = omega (arith, g.2, h.2) },
-        (k.ensures.size ∙ r.ensures.size, λ l m. k.ensures.marks p.corpus a.s.now p.objects p.found _ p.visited p.holds (r.ensures.marks l m)),
-      ),
-    )
+    let p = some-row a.n a.limit a.v a.i a.b.now a.s.now r.ensures.state (not-false _ c.if-not-r.false) c.requires.open_value.1 in
+    record {
+      state = a-class a.n a.limit a.v a.i a.b.now a.s.now r.ensures.state (not-false _ c.if-not-r.false) c.export_at-e.ensures c.is_class.ensures c.if-is_class.true k.ensures.state;
+      grown = record { classes = omega (arith, g.0, h.0); rows = omega (arith, g.1, h.1); size = omega (arith, g.2, h.2) };
+      size = k.ensures.size ∙ r.ensures.size;
+      marks = λ l m. k.ensures.marks p.corpus a.s.now p.objects p.found _ p.visited p.holds (r.ensures.marks l m);
+    }
 
 pub shape_of-w : goal.shape_of-w
 shape_of-w c = c.keep_row-r.ensures.size
@@ -154,7 +157,10 @@ pub returns : goal.returns
 returns c =
     let r = c.keep_row-r in
     let a = c.args in
-    let g = r.ensures.grown in (
-      no_class_lem a.n a.limit a.v a.i a.b.now a.s.now r.ensures.state (c.if-not-r.false) c.export_at-e.ensures c.is_class.ensures c.if-is_class.false,
-      (record { classes = omega (arith, g.0); rows = omega (arith, g.1); size = omega (arith, g.2) }, r.ensures.1.1),
-    )
+    let g = r.ensures.grown in
+    record {
+      state = no_class_lem a.n a.limit a.v a.i a.b.now a.s.now r.ensures.state (not-false _ c.if-not-r.false) c.export_at-e.ensures c.is_class.ensures c.if-is_class.false;
+      grown = record { classes = omega (arith, g.0); rows = omega (arith, g.1); size = omega (arith, g.2) };
+      size = r.ensures.size;
+      marks = r.ensures.marks;
+    }

@@ -4,7 +4,6 @@ use mathlib.Core.Bool.{false}
 use mathlib.Core.List.{List, ◌++◌, append_assoc, append-nil}
 use Prim.Native.Nat.{ℕ, ◌+◌, ◌-◌, ◌≤◌, ◌<◌}
 use native.Mathlib.Omega.{arith}
-use borrow.Author.Rules.{rules}
 use lib.ListN.{length, take}
 use lib.Seq.{take_all}
 use Rattle.scriptblock.specs.Script.{Objects}
@@ -15,12 +14,10 @@ use Rattle.packages.specs.declared.package.Parts.{Parts}
 use Rattle.resolve.specs.MarkLaws.{marks-take}
 use Rattle.resolve.specs.Marks.{export_marks, marks_from}
 use Rattle.walk.specs.Found.{Found, with_export, with_exports, with_package, State}
-use Rattle.walk.specs.MarkedLaws.{marked_closed}
 use Rattle.walk.specs.StateLaws.{exports-next, exports-behind, state_closed}
 use Rattle.walk.specs.Steps.{SomeState, Visited, Marked, Grown}
 use Rattle.walk.specs.declared.walk.Census.{Census}
 use Rattle.walk.specs.declared.walk.Visit.{Visit}
-use Rattle.walk.proofs.Scans.{not-true, not-false}
 use Rattle.walk.proofs.walk.scan_exports.Given as goal
 
 -- after i exports of the package that is visited, whose block d is, the first in a step; b: the script block
@@ -33,7 +30,7 @@ pub record Done (d b : List ℕ) (n limit : ℕ) (v : Visit) (step : ℕ) (t₀ 
   pub marks : (l : List ℕ) → Marked n l t₀ w₀ → Marked n (l ++ marks_from (read_in d) step (take i (read_in d).exports)) t w
 
 module _ (d b : List ℕ) (n limit : ℕ) (v : Visit) (step : ℕ) {t₀ : Census} {w₀ : List ℕ} where
-  begun : SomeState b n v d t₀ w₀ → Done d b n limit v step t₀ w₀ 0 t₀ w₀
+  pub begun : SomeState b n v d t₀ w₀ → Done d b n limit v step t₀ w₀ 0 t₀ w₀
   unfolding marks_from
   begun k = record {
     size = refl;
@@ -44,7 +41,7 @@ module _ (d b : List ℕ) (n limit : ℕ) (v : Visit) (step : ℕ) {t₀ : Censu
   }
 
   module _ {i : ℕ} {t : Census} {w : List ℕ} (k : Done d b n limit v step t₀ w₀ i t w) where
-    more : {u : Census} {w' : List ℕ}
+    pub more : {u : Census} {w' : List ℕ}
         → ((c : List ℕ) (o : Objects) (f : Found) → Visited c v d → State c b o n f t w → State c b o n (with_export limit o v.block (package_in v.id d) i f) u w')
         → Grown 1 t u → length w' ≡ length w
         → i < length (read_in d).exports → ((l : List ℕ) → Marked n l t w → Marked n (l ++ export_marks (read_in d) (step + i) (export_no d i)) u w')
@@ -67,20 +64,20 @@ module _ (d b : List ℕ) (n limit : ℕ) (v : Visit) (step : ℕ) {t₀ : Censu
     }
 
     module _ {p : Parts} (a : PackageIn d p) where
-      abbrev End : Type 0
+      abbrev pub End : Type 0
       End = (c : List ℕ) (o : Objects) (f : Found) → Visited c v d → State c b o n (with_exports limit o v.block (package_in v.id d) 0 f) t₀ w₀
           → State c b o n (with_package limit o v.block (package_in v.id d) f) t w
 
       -- nothing more is entered
-      shut : i ≤ p.count → t.open ≡ false → End
+      pub shut : i ≤ p.count → t.open ≡ false → End
       shut h q c o f z s =
           state_closed (k.state c o f z s) q (exports-behind limit o v.block (package_in v.id d) f i _ (omega (arith, export_count_lem a))) refl
 
       -- all are
-      whole : i ≡ p.count → End
+      pub whole : i ≡ p.count → End
       whole e c o f z s = let q = e ∙ export_count_lem a in rw q at (k.state c o f z s)
 
-      marked : i ≡ p.count → (l : List ℕ) → Marked n l t₀ w₀ → Marked n (l ++ marks_from (read_in d) step (read_in d).exports) t w
+      pub marked : i ≡ p.count → (l : List ℕ) → Marked n l t₀ w₀ → Marked n (l ++ marks_from (read_in d) step (read_in d).exports) t w
       marked e l m = let q = take_all i (read_in d).exports (omega (arith, export_count_lem a)) in rw q at (k.marks l m)
 
 abbrev pub invariant-loop-i : goal.invariant-loop-i

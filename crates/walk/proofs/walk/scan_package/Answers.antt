@@ -1,10 +1,9 @@
 -- `walk::scan_package` meets its contract: its section is counted, then its exports. Assumes nothing.
-use mathlib.Core.Path.{◌≡◌, refl, ◌∙◌, ap}
+use mathlib.Core.Path.{◌≡◌, ap}
 use mathlib.Core.Bool.{true}
 use mathlib.Core.List.{List, ◌++◌}
 use Prim.Native.Nat.{ℕ, ◌+◌, ◌*◌, ◌^◌, ◌≤◌, ◌<◌}
 use native.Mathlib.Omega.{arith}
-use borrow.Author.Rules.{rules}
 use lib.ListN.{length}
 use Rattle.scriptblock.specs.Script.{Objects}
 use Rattle.packages.specs.Package.{read_in, package_in, PackageIn}
@@ -61,13 +60,13 @@ module _ (d b : List ℕ) (n limit : ℕ) (v : Visit) {t : Census} {w : List ℕ
 pub note_names-requires : goal.note_names-requires
 note_names-requires c =
     let a = package_in_lem c.args.b.now c.args.l c.parts_of-p.result c.requires.b_value.0 c.parts_of-p.ensures in
-    (names-held a (λ i. (c.shared_slice_known-1.given i).fits), c.requires.b_value.1)
+    (names-held a (λ i. (c.type_inv.b i).fits), c.requires.b_value.1)
 
 pub note_names-requires-2 : goal.note_names-requires-2
 note_names-requires-2 c =
     let p = c.parts_of-p in
     let a = package_in_lem c.args.b.now c.args.l p.result c.requires.b_value.0 p.ensures in
-    (imported-held a (λ i. (c.shared_slice_known-1.given i).fits), c.requires.b_value.2)
+    (imported-held a (λ i. (c.type_inv.b i).fits), c.requires.b_value.2)
 
 pub head_len-requires : goal.head_len-requires
 head_len-requires c =
@@ -92,17 +91,17 @@ scan_exports-requires c =
     let p = c.parts_of-p in
     let a = c.args in
     let k = package_in_lem a.b.now a.l p.result c.requires.b_value.0 p.ensures in
-    let (x, small, room) = c.requires.open_value.3 in (
-      (k, c.note_names.ensures.0, c.note_names-2.ensures.0),
-      (
+    let (x, small, room) = c.requires.open_value.3 in record {
+      package_in = (k, c.note_names.ensures.0, c.note_names-2.ensures.0);
+      some_state = (
         some_headed a.b.now a.s.now a.n a.limit a.v c.requires.open_value.0 h.ensures.0 o c.requires.open_value.1,
         rw o (few-classes (length a.b.now) p.result.count small (few-exports k) h.ensures.1 room),
         rw o (few-rows (length a.b.now) p.result.count small (few-exports k) h.ensures.1 room),
         rw o (few_bytes (length a.b.now) p.result.count small (few-exports k) h.ensures.1 room),
         c.requires.open_value.2,
         rw c.step_of-step.ensures (few-steps c.requires.open_value.1.visited.site k).1,
-      ),
-    )
+      );
+    }
 
 pub shape_of-w : goal.shape_of-w
 shape_of-w c = c.scan_exports.ensures.size
@@ -114,13 +113,4 @@ returns c =
     let h = c.head_len in
     let p = c.parts_of-p in
     let a = c.args in
-    let k = package_in_lem a.b.now a.l p.result c.requires.b_value.0 p.ensures in (
-      λ c o f z x. e.0 c o f z (state_headed a.b.now a.s.now a.n a.limit a.v c.requires.open_value.0 h.ensures.0 i x),
-      (
-        λ x small. small-next (length a.b.now) p.result.count small (few-exports k) h.ensures.1 (rw i at e.1.0),
-        (
-          (e.1.1.0, c.note_names.ensures.1, c.note_names-2.ensures.1),
-          marked_headed a.b.now a.s.now a.n a.limit a.v c.requires.open_value.0 h.ensures.0 i k c.step_of-step.ensures e.1.1.1,
-        ),
-      ),
-    )
+    let k = package_in_lem a.b.now a.l p.result c.requires.b_value.0 p.ensures in record { state = λ q o f z x. e.state q o f z (state_headed a.b.now a.s.now a.n a.limit a.v c.requires.open_value.0 h.ensures.0 i x); small = λ x small. small-next (length a.b.now) p.result.count small (few-exports k) h.ensures.1 (rw i at e.grown); size = (e.size, c.note_names.ensures.1, c.note_names-2.ensures.1); marks = marked_headed a.b.now a.s.now a.n a.limit a.v c.requires.open_value.0 h.ensures.0 i k c.step_of-step.ensures e.marks }

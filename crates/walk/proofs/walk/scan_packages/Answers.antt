@@ -1,37 +1,11 @@
 -- `walk::scan_packages` meets its contract. The loop's invariant: the first i packages are accepted, and the state and the marks are theirs. Assumes nothing.
-use mathlib.Core.Path.{◌≡◌, refl, sym, ◌∙◌, ap, ap₂, subst}
-use mathlib.Core.List.{List, ◌++◌}
-use Prim.Native.Nat.{ℕ, ◌+◌, ◌*◌, ◌-◌, ◌^◌, ◌≤◌, ◌<◌}
+use mathlib.Core.Path.{◌≡◌, ◌∙◌}
+use Prim.Native.Nat.{ℕ, ◌+◌, ◌^◌, ◌≤◌, ◌<◌}
 use native.Mathlib.Omega.{arith}
-use borrow.Author.Rules.{rules}
-use lib.ListN.{length, take, drop, length-drop}
-use lib.Seq.{length-take-le}
-use Rattle.base.specs.Number.{be_at}
-use Rattle.base.specs.NumberLaws.{Bytes}
-use Rattle.base.specs.Reading.{gives, refused, run_block}
-use Rattle.batch.specs.Notes.{note_count}
-use Rattle.scriptblock.specs.Script.{Objects}
-use Rattle.zen.specs.Zen.{package_block}
-use Rattle.meaning.specs.Call.{read_from, refused_in}
-use Rattle.meaning.specs.Reference.{Package}
-use Rattle.objects.specs.Work.{ObjectsIn}
-use Rattle.packages.specs.Framing.{next_at, parts_at}
-use Rattle.packages.specs.Package.{read_in, package_in}
-use Rattle.packages.specs.Walk.{block_at, package_at, Site, place_of, Sites, AllRead}
-use Rattle.packages.specs.WalkLaws.{place_none, place-next, all_none, all_more, read-refused}
-use Rattle.table.specs.Table.{cleared}
-use Rattle.table.specs.Words.{put}
-use Rattle.walk.specs.Found.{Found, with_package, found_in, Linked, State}
-use Rattle.walk.specs.KeptLaws.{back-length}
-use Rattle.resolve.specs.Lent.{lent-part, lent-front}
-use Rattle.resolve.specs.Marks.{marks_of, marks_at, marks_in}
-use Rattle.walk.specs.MarkedLaws.{marked-none, marks-next}
-use Rattle.walk.specs.StateLaws.{found-next, state-none}
-use Rattle.walk.specs.Steps.{opened_as, visit_at, Visited, SomeState, Marked, Small}
+use Rattle.walk.specs.Steps.{Small}
 use Rattle.walk.specs.declared.walk.Census.{Census}
-use Rattle.walk.specs.declared.walk.Visit.{Visit}
-use Rattle.walk.proofs.Scans.{all_same, not-refused, not-all, site_end}
-use Rattle.walk.proofs.walk.scan_packages.Invariants.{Passed}
+use Rattle.walk.proofs.Scans.{all_same, not-refused, not-all}
+use Rattle.walk.proofs.walk.scan_packages.Invariants.{table-room, whole, front, begun, site, stopped, asked, next}
 use Rattle.walk.proofs.walk.scan_packages.Goals as goal
 
 few : {x m : ℕ} {t : Census} → Small x t → x ≤ m → m < 2 ^ 32 + 4 → (t.rows < 2 ^ 32) × (t.size < 2 ^ 60)
@@ -58,7 +32,7 @@ loop-i-init c =
       omega arith,
       c.requires.sites.3,
       c.requires.sites.4,
-      begun a.c.now a.at a.s.now a.n a.limit a.w.now c.requires.linked.0 u.new.w (λ i. (c.shared_slice_known-2-1.given i).fits) c.requires.linked.1 u.ensures c.opened-t.ensures,
+      begun a.c.now a.at a.s.now a.n a.limit a.w.now c.requires.linked.0 u.new.w (λ i. (c.type_inv.s i).fits) c.requires.linked.1 u.ensures c.opened-t.ensures,
     )
 
 pub visit_at-v-requires : goal.visit_at-v-requires
@@ -79,7 +53,10 @@ pub scan_block-requires : goal.scan_block-requires
 scan_block-requires c =
     let l = c.loop-i in
     let a = c.args in
-    ((l.invariant.1, l.invariant.2), asked a.c.now a.at a.s.now a.n a.limit l.invariant.3 c.requires.sites.0 (omega (arith, c.loop-i-test)) c.block_at.ensures c.visit_at-v.ensures)
+    record {
+      names_len = (l.invariant.1, l.invariant.2);
+      some_state = asked a.c.now a.at a.s.now a.n a.limit l.invariant.3 c.requires.sites.0 (omega (arith, c.loop-i-test)) c.block_at.ensures c.visit_at-v.ensures;
+    }
 
 pub shape_of-w-in-Refused : goal.shape_of-w-in-Refused
 shape_of-w-in-Refused c =
@@ -90,20 +67,17 @@ shape_of-w-in-Refused c =
 pub returns-in-Refused : goal.returns-in-Refused
 returns-in-Refused c =
     let e = c.scan_block.ensures in
-    let a = c.args in (
-      λ q j z. let r = e.0 q j (c.in-Refused.is ∙ z) in
-          stopped a.c.now a.at a.s.now a.n a.limit c.loop-i.invariant.3 c.requires.sites.0 (omega (arith, c.loop-i-test)) c.block_at.ensures c.visit_at-v.ensures r.0 r.1,
-      (
-        λ t z. not-all z,
-        (
-          λ t o z k. not-all z,
-          (
-            e.1.1.1.1.0.0 ∙ (c.loop-i.invariant.3.size ∙ whole a.c.now a.at a.s.now a.n a.limit a.w.now c.requires.linked.0 c.clear.new.w c.clear.auto.w),
-            (λ t z. not-all z, ((e.1.1.1.1.0.1, e.1.1.1.1.0.2), λ t z. not-all z)),
-          ),
-        ),
-      ),
-    )
+    let a = c.args in
+    record {
+      refused = λ q j z. let r = e.refused q j (c.in-Refused.is ∙ z) in
+          stopped a.c.now a.at a.s.now a.n a.limit c.loop-i.invariant.3 c.requires.sites.0 (omega (arith, c.loop-i-test)) c.block_at.ensures c.visit_at-v.ensures r.0 r.1;
+      all = λ t z. not-all z;
+      state = λ t o z k. not-all z;
+      size = e.size.0 ∙ (c.loop-i.invariant.3.size ∙ whole a.c.now a.at a.s.now a.n a.limit a.w.now c.requires.linked.0 c.clear.new.w c.clear.auto.w);
+      few = λ t z. not-all z;
+      notes = (e.size.1, e.size.2);
+      marks = λ t z. not-all z;
+    }
 
 pub next_at-place-requires : goal.next_at-place-requires
 next_at-place-requires c =
@@ -126,10 +100,10 @@ loop-i-preserved c =
     let a = c.args in
     let h : l.i < a.count = omega (arith, c.loop-i-test) in (
       omega arith,
-      e.1.1.1.1.0.1,
-      e.1.1.1.1.0.2,
-      next a.c.now a.at a.s.now a.n a.limit l.invariant.3 c.requires.sites.0 h c.block_at.ensures c.visit_at-v.ensures (e.1.0 _ m)
-          (λ c o f z k. e.1.1.0 _ c o f m z k) (λ y k. e.1.1.1.0 _ y m k) e.1.1.1.1.0.0 (λ y k. e.1.1.1.1.1 _ y m k) c.next_at-place.ensures,
+      e.size.1,
+      e.size.2,
+      next a.c.now a.at a.s.now a.n a.limit l.invariant.3 c.requires.sites.0 h c.block_at.ensures c.visit_at-v.ensures (e.read _ m)
+          (λ c o f z k. e.state _ c o f m z k) (λ y k. e.small _ y m k) e.size.0 (λ y k. e.marks _ y m k) c.next_at-place.ensures,
     )
 
 pub shape_of-w : goal.shape_of-w
@@ -142,16 +116,13 @@ returns c =
     let l = c.loop-i in
     let k = l.invariant.3 in
     let a = c.args in
-    let n : l.i ≡ a.count = omega (arith, c.loop-i-test, l.invariant.0) in (
-      λ q j z. not-refused z,
-      (
-        λ t z. rw n at k.read,
-        (
-          λ t o z h. rw (← all_same z, ← n) (k.state o (front a.c.now a.at a.s.now a.n a.limit a.w.now c.requires.linked.0 c.clear.new.w h)),
-          (
-            k.size ∙ whole a.c.now a.at a.s.now a.n a.limit a.w.now c.requires.linked.0 c.clear.new.w c.clear.auto.w,
-            (λ t z. rw (← all_same z) (few k.small k.high c.requires.sites.2), ((l.invariant.1, l.invariant.2), λ t z. rw (← all_same z, ← n) k.marks)),
-          ),
-        ),
-      ),
-    )
+    let n : l.i ≡ a.count = omega (arith, c.loop-i-test, l.invariant.0) in
+    record {
+      refused = λ q j z. not-refused z;
+      all = λ t z. rw n at k.read;
+      state = λ t o z h. rw (← all_same z, ← n) (k.state o (front a.c.now a.at a.s.now a.n a.limit a.w.now c.requires.linked.0 c.clear.new.w h));
+      size = k.size ∙ whole a.c.now a.at a.s.now a.n a.limit a.w.now c.requires.linked.0 c.clear.new.w c.clear.auto.w;
+      few = λ t z. rw (← all_same z) (few k.small k.high c.requires.sites.2);
+      notes = (l.invariant.1, l.invariant.2);
+      marks = λ t z. rw (← all_same z, ← n) k.marks;
+    }

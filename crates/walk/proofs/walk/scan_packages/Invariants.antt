@@ -3,7 +3,6 @@ use mathlib.Core.Path.{◌≡◌, refl, sym, ◌∙◌, ap, ap₂, subst}
 use mathlib.Core.List.{List, ◌++◌}
 use Prim.Native.Nat.{ℕ, ◌+◌, ◌*◌, ◌-◌, ◌^◌, ◌≤◌, ◌<◌}
 use native.Mathlib.Omega.{arith}
-use borrow.Author.Rules.{rules}
 use lib.ListN.{length, take, drop, length-drop}
 use lib.Seq.{length-take-le}
 use Rattle.base.specs.Number.{be_at}
@@ -30,7 +29,7 @@ use Rattle.walk.specs.StateLaws.{found-next, state-none}
 use Rattle.walk.specs.Steps.{opened_as, visit_at, Visited, SomeState, Marked, Small}
 use Rattle.walk.specs.declared.walk.Census.{Census}
 use Rattle.walk.specs.declared.walk.Visit.{Visit}
-use Rattle.walk.proofs.Scans.{all_same, not-refused, not-all, site_end}
+use Rattle.walk.proofs.Scans.{site_end}
 use Rattle.walk.proofs.walk.scan_packages.Given as goal
 
 -- i packages of the corpus s from a place on are passed, and the walk is at `here`; b: the script block, with n objects in front of w₀
@@ -52,21 +51,21 @@ module _ (s : List ℕ) (at : ℕ) (b : List ℕ) (n limit : ℕ) where
     low-room : 48 * n ≤ length w
     low-room = omega (arith, l.room)
 
-    table-room : 4 * (4 * n) ≤ length (take (length w - 48 * n) (drop (48 * n) w))
+    pub table-room : 4 * (4 * n) ≤ length (take (length w - 48 * n) (drop (48 * n) w))
     table-room = rw (lent-part (48 * n) w, length-drop (48 * n) w) (omega (arith, l.room))
 
     module _ (ys : List ℕ) where
-      abbrev w₀ : List ℕ
+      abbrev pub w₀ : List ℕ
       w₀ = put (48 * n) (length w - 48 * n) w ys
 
       -- as long as before, and the same in front
-      whole : length ys ≡ length (take (length w - 48 * n) (drop (48 * n) w)) → length w₀ ≡ length w
+      pub whole : length ys ≡ length (take (length w - 48 * n) (drop (48 * n) w)) → length w₀ ≡ length w
       whole e = back-length (48 * n) w ys low-room e
 
-      front : {o : Objects} → ObjectsIn b o (take (48 * n) w) → ObjectsIn b o (take (48 * n) w₀)
+      pub front : {o : Objects} → ObjectsIn b o (take (48 * n) w) → ObjectsIn b o (take (48 * n) w₀)
       front k = rw (lent-front (48 * n) w ys low-room) k
 
-      begun : Bytes b → length b < 2 ^ 32 → ys ≡ cleared (4 * n) (take (length w - 48 * n) (drop (48 * n) w))
+      pub begun : Bytes b → length b < 2 ^ 32 → ys ≡ cleared (4 * n) (take (length w - 48 * n) (drop (48 * n) w))
           → {t : Census} → t ≡ opened_as 0 0 9 → Passed s at b n limit w₀ 0 at t w₀
       begun y small e q =
           rw q (let same = lent-front (48 * n) w ys low-room in
@@ -85,14 +84,14 @@ module _ (s : List ℕ) (at : ℕ) (b : List ℕ) (n limit : ℕ) where
 
   -- at the next package
   module _ {w₀ : List ℕ} {i here : ℕ} {t : Census} {w : List ℕ} (k : Passed s at b n limit w₀ i here t w) {count : ℕ} (z : Sites s at count) (h : i < count) where
-    site : Site s here (block_at s here)
+    pub site : Site s here (block_at s here)
     site = rw k.here-is (z.site i h)
 
     module _ {d : List ℕ} (is : d ≡ block_at s here) where
       own : Site s here d
       own = record { starts = site.starts; stops = site.stops; small = site.small; is = is }
 
-      stopped : {v : Visit} → v ≡ visit_at s here i → {q j : ℕ} → j ≡ v.block → run_block package_block d ≡ refused q → read_from 2 (parts_at s at count) ≡ refused_in q j
+      pub stopped : {v : Visit} → v ≡ visit_at s here i → {q j : ℕ} → j ≡ v.block → run_block package_block d ≡ refused q → read_from 2 (parts_at s at count) ≡ refused_in q j
       stopped v {q} {j} e r =
           let x : 2 + i ≡ j = omega (arith, ap (λ (x : Visit). x.block) v) in
           read-refused 2 s at count i q h k.read (ap (λ (y : List ℕ). run_block package_block y) (sym (is ∙ ap (block_at s) k.here-is)) ∙ r) ∙ ap (refused_in q) x
@@ -101,7 +100,7 @@ module _ (s : List ℕ) (at : ℕ) (b : List ℕ) (n limit : ℕ) where
         visited : Visited s v d
         visited = rw e (record { site = own; id = refl })
 
-        asked : SomeState b n v d t w × (0 < v.block) × ((x : ℕ) × Small x t × (x + 12 + length d < 2 ^ 32 + 4))
+        pub asked : SomeState b n v d t w × (0 < v.block) × ((x : ℕ) × Small x t × (x + 12 + length d < 2 ^ 32 + 4))
         asked = (
           record { corpus = s; objects = k.objects; found = found_in limit k.objects s at i; visited = visited; holds = k.state k.objects k.linked },
           rw e (omega arith),
@@ -118,7 +117,7 @@ module _ (s : List ℕ) (at : ℕ) (b : List ℕ) (n limit : ℕ) where
             (state : (c : List ℕ) (o : Objects) (f : Found) → Visited c v d → State c b o n f t w → State c b o n (with_package limit o v.block (package_in v.id d) f) t' w')
             (small : (x : ℕ) → Small x t → Small (x + 12 + length d) t') (size : length w' ≡ length w)
             (marks : (l : List ℕ) → Marked n l t w → Marked n (l ++ marks_of v.at d) t' w') where
-          next : {here' : ℕ} → here' ≡ next_at s here → Passed s at b n limit w₀ (i + 1) here' t' w'
+          pub next : {here' : ℕ} → here' ≡ next_at s here → Passed s at b n limit w₀ (i + 1) here' t' w'
           next {here'} q =
               let x : here - at + 12 + length d ≡ here' - at = omega (arith, site_end own, k.low) in
               let r : run_block package_block (block_at s (place_of s at i)) ≡ gives (read_in d) = rw (← k.here-is, ← is) read in

@@ -1,7 +1,6 @@
 -- `walk::visit_at` meets its contract. Assumes nothing.
 use mathlib.Core.Path.{ap}
 use Prim.Native.Nat.{ℕ, ◌+◌}
-use borrow.Author.Rules.{rules}
 use Rattle.walk.specs.declared.walk.Visit.{Visit}
 use Rattle.walk.proofs.walk.visit_at.Goals as goal
 
