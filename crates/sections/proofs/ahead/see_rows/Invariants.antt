@@ -1,7 +1,5 @@
 -- `ahead::see_rows` meets its contract. The loop's invariant: no row before the first is looked at. Assumes nothing.
 use Prim.Native.Nat.{◌≤◌, ◌-◌}
-use native.Mathlib.Omega.{arith}
-use borrow.Author.Rules.{rules}
 use Rattle.sections.proofs.ahead.see_rows.Given as goal
 
 abbrev pub invariant-loop-r : goal.invariant-loop-r

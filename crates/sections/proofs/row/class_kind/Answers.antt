@@ -1,5 +1,4 @@
 -- `row::class_kind` meets its contract. Assumes nothing.
-use borrow.Author.Rules.{rules}
 use borrow.Author.Tests.{le-leb, lt-leb}
 use Rattle.sections.proofs.row.class_kind.Goals as goal
 

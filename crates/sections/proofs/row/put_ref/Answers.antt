@@ -1,7 +1,6 @@
 -- `row::put_ref` meets its contract: the text's bytes behind the first four, then their number in these. Assumes nothing.
 use Prim.Native.Nat.{◌+◌, ◌≤◌}
 use native.Mathlib.Omega.{arith}
-use borrow.Author.Rules.{rules}
 use lib.ListN.{length}
 use Rattle.packages.specs.RefBytes.{ref_bytes}
 use Rattle.sections.specs.WrittenLaws.{behind-length, again-length, first-size, first-wrote}

@@ -2,7 +2,6 @@
 use mathlib.Core.List.{List}
 use Prim.Native.Nat.{ℕ, ◌≤◌}
 use native.Mathlib.Omega.{arith}
-use borrow.Author.Rules.{rules}
 use lib.ListN.{length}
 use Rattle.scriptblock.specs.Script.{Objects}
 use Rattle.meaning.specs.Scan.{Class}
@@ -11,7 +10,6 @@ use Rattle.sections.specs.Written.{row_for}
 use Rattle.sections.specs.WrittenLaws.{behind, behind-length, again-length}
 use Rattle.sections.specs.Pieces.{row_texts, row_no, RowDue}
 use Rattle.sections.specs.PieceLaws.{row_size_lem, row_wrote}
-use Rattle.sections.proofs.row.put_row.Goals.{Start}
 use Rattle.sections.proofs.row.put_row.Goals as goal
 
 -- a buffer with room for the row has room for its texts behind ten bytes
@@ -22,47 +20,54 @@ texts_fit_lem objects xs o lookups id d i out h =
     let ten : 10 ≤ length out = omega arith in
     (ten, omega (arith, behind-length 10 out ten))
 
--- what is due, and that it fits
-abbrev Due : tie.Start → Objects → List Class → ℕ → ℕ → ℕ → Type 0
-Due s o xs lookups id i = let a = s.args in RowDue a.c.now a.s.now a.n a.objects a.w.now a.b.now a.p a.v a.l o xs lookups id i
-
-due : (s : Start) → let r = s.requires.row_room in Due s r.read r.classes r.lookups r.id r.number
-due s = let r = s.requires.row_room in record { inside = r.inside; row_is = r.row_is; target = r.target }
-
-fit : (s : Start) → let r = s.requires.row_room in let a = s.args in
-    (10 ≤ length a.out.now) × (length (row_texts (row_no (limits_of r.lookups a.objects) r.classes r.read r.id a.b.now r.number)) ≤ length (behind 10 a.out.now))
-fit s = let r = s.requires.row_room in texts_fit_lem s.args.objects r.classes r.read r.lookups r.id s.args.b.now r.number s.args.out.now r.room
-
 pub slice_bounds-put_texts-count : goal.slice_bounds-put_texts-count
-slice_bounds-put_texts-count c = (fit (goal.at.slice_bounds-put_texts-count c).Start).0
+slice_bounds-put_texts-count c =
+    let r = c.requires.row_room in
+    (texts_fit_lem c.args.objects r.classes r.read r.lookups r.id c.args.b.now r.number c.args.out.now r.room).0
 
 pub slice_bounds-put_texts-start : goal.slice_bounds-put_texts-start
-slice_bounds-put_texts-start c = (fit (goal.at.slice_bounds-put_texts-start c).Start).0
+slice_bounds-put_texts-start c =
+    let r = c.requires.row_room in
+    (texts_fit_lem c.args.objects r.classes r.read r.lookups r.id c.args.b.now r.number c.args.out.now r.room).0
 
 pub put_texts-t-requires : goal.put_texts-t-requires
 put_texts-t-requires c =
     let k = c.requires.package_in in
-    let r = c.requires.row_room in (
-      (k.0, k.1, k.2, c.kind_of-kind.ensures),
-      record { read = r.read; classes = r.classes; lookups = r.lookups; id = r.id; number = r.number; due = due (goal.at.put_texts-t-requires c).Start; room = (fit (goal.at.put_texts-t-requires c).Start).1 },
-    )
+    let r = c.requires.row_room in
+    record {
+      package_in = (k.0, k.1, k.2, c.kind_of-kind.ensures);
+      texts_room = record {
+        read = r.read;
+        classes = r.classes;
+        lookups = r.lookups;
+        id = r.id;
+        number = r.number;
+        due = record { inside = r.inside; row_is = r.row_is; target = r.target };
+        room = (texts_fit_lem c.args.objects r.classes r.read r.lookups r.id c.args.b.now r.number c.args.out.now r.room).1;
+      };
+    }
 
 pub put_front-requires : goal.put_front-requires
 put_front-requires c =
     let r = c.requires.row_room in
-    let f = fit (goal.at.put_front-requires c).Start in
-    let t = c.put_texts-t.ensures r.read r.classes r.lookups r.id r.number (due (goal.at.put_front-requires c).Start) f.1 in
+    let f = texts_fit_lem c.args.objects r.classes r.read r.lookups r.id c.args.b.now r.number c.args.out.now r.room in
+    let t = c.put_texts-t.ensures r.read r.classes r.lookups r.id r.number (record { inside = r.inside; row_is = r.row_is; target = r.target }) f.1 in
     let l = behind-length 10 c.args.out.now f.0 in
     omega (arith, t.wrote.fits, again-length 10 c.args.out.now c.put_texts-t.new.out f.0 c.put_texts-t.auto.out)
 
 pub returns : goal.returns
 returns c = λ o xs lookups id i inside is target room.
-    let d : Due s o xs lookups id i = record { inside = inside; row_is = is; target = target } in
-    let f = texts_fit_lem c.args.objects xs o lookups id c.args.b.now i c.args.out.now room in
-    row_wrote c.requires.package_in.0 d c.args.out.now c.kind_of-kind.ensures f.0 (c.put_texts-t.ensures o xs lookups id i d f.1) c.put_front.ensures
+    let a = c.args in
+    let d : RowDue a.c.now a.s.now a.n a.objects a.w.now a.b.now a.p a.v a.l o xs lookups id i = record { inside = inside; row_is = is; target = target } in
+    let f = texts_fit_lem a.objects xs o lookups id a.b.now i a.out.now room in
+    row_wrote c.requires.package_in.0 d a.out.now c.kind_of-kind.ensures f.0 (c.put_texts-t.ensures o xs lookups id i d f.1) c.put_front.ensures
 
 pub overflow_add-result : goal.overflow_add-result
 overflow_add-result c =
     let r = c.requires.row_room in
-    let w = row_wrote c.requires.package_in.0 (due (goal.at.overflow_add-result c).Start) c.args.out.now c.kind_of-kind.ensures (fit (goal.at.overflow_add-result c).Start).0 (c.put_texts-t.ensures r.read r.classes r.lookups r.id r.number (due (goal.at.overflow_add-result c).Start) (fit (goal.at.overflow_add-result c).Start).1) c.put_front.ensures in
+    let a = c.args in
+    let d : RowDue a.c.now a.s.now a.n a.objects a.w.now a.b.now a.p a.v a.l r.read r.classes r.lookups r.id r.number =
+    record { inside = r.inside; row_is = r.row_is; target = r.target } in
+    let f = texts_fit_lem a.objects r.classes r.read r.lookups r.id a.b.now r.number a.out.now r.room in
+    let w = row_wrote c.requires.package_in.0 d a.out.now c.kind_of-kind.ensures f.0 (c.put_texts-t.ensures r.read r.classes r.lookups r.id r.number d f.1) c.put_front.ensures in
     omega (arith, w.fits)

@@ -3,7 +3,6 @@ use mathlib.Core.Path.{◌≡◌, sym, ◌∙◌, ap}
 use mathlib.Core.List.{List, [], ◌∷◌, ◌++◌}
 use Prim.Native.Nat.{ℕ, ◌+◌, ◌-◌, ◌^◌, ◌≤◌, ◌<◌}
 use native.Mathlib.Omega.{arith}
-use borrow.Author.Rules.{rules}
 use lib.ListN.{length, take, drop, length-append, length-drop}
 use lib.Seq.{length-take-le}
 use Rattle.base.specs.Number.{be_bytes}
@@ -21,7 +20,7 @@ use Rattle.resolve.specs.Rows.{limits_of}
 use Rattle.sections.specs.SectionLaws.{report-is}
 use Rattle.sections.specs.Sections.{How, front_of, sections_of, SectionsRoom}
 use Rattle.sections.specs.Written.{report_at, Ready}
-use Rattle.sections.proofs.section.put_report.Goals.{After-put_sections-size, After-shared_slice_known-3-1}
+use Rattle.sections.proofs.section.put_report.Goals.{After-put_sections-size}
 use Rattle.sections.proofs.section.put_report.Goals as goal
 
 module _ (c : List ℕ) (at count lookups objects : ℕ) (o : Objects) where
@@ -66,12 +65,6 @@ module _ (c : List ℕ) (at count lookups objects : ℕ) (o : Objects) where
         let f = wrote-front {s = out} v (omega (arith, size)) y in
         wrote_count (wrote_as f (ap (λ (j : ℕ). front_of j count ++ sections) e ∙ sym parts)) (omega arith)
 
--- the nine bytes are there
-nine : (c : After-shared_slice_known-3-1) → 9 ≤ length c.args.out.now
-nine c =
-    let r = c.requires.report_room in
-    omega (arith, r.room, size c.args.c.now c.args.at c.args.count r.lookups c.args.objects r.read)
-
 -- the length of what follows fits four bytes
 short : (c : After-put_sections-size) → c.put_sections-size.result + 5 < 2 ^ 32
 short c =
@@ -82,41 +75,40 @@ short c =
     omega (arith, v.size, r.small, size a.c.now a.at a.count r.lookups a.objects r.read)
 
 pub slice_bounds-put_sections-count : goal.slice_bounds-put_sections-count
-slice_bounds-put_sections-count c = nine (goal.at.slice_bounds-put_sections-count c).After-shared_slice_known-3-1
+slice_bounds-put_sections-count c = omega (arith, c.requires.report_room.room, size c.args.c.now c.args.at c.args.count c.requires.report_room.lookups c.args.objects c.requires.report_room.read)
 
 pub slice_bounds-put_sections-start : goal.slice_bounds-put_sections-start
-slice_bounds-put_sections-start c = nine (goal.at.slice_bounds-put_sections-start c).After-shared_slice_known-3-1
+slice_bounds-put_sections-start c = omega (arith, c.requires.report_room.room, size c.args.c.now c.args.at c.args.count c.requires.report_room.lookups c.args.objects c.requires.report_room.read)
 
 pub put_sections-size-requires : goal.put_sections-size-requires
 put_sections-size-requires c =
     let a = c.args in
-    let r = c.requires.report_room in (
-      (c.requires.sites.0, c.requires.sites.1, c.requires.sites.3, c.requires.sites.4),
-      (
-        (
-          how a.c.now a.at a.count r.lookups a.objects r.read,
-          room a.c.now a.at a.count r.lookups a.objects r.read a.out.now r.ready r.room,
-        ),
-        c.requires.marks_in,
-      ),
-    )
+    let r = c.requires.report_room in
+    record {
+      sites = (c.requires.sites.0, c.requires.sites.1, c.requires.sites.3, c.requires.sites.4);
+      sections_room = (
+        how a.c.now a.at a.count r.lookups a.objects r.read,
+        room a.c.now a.at a.count r.lookups a.objects r.read a.out.now r.ready r.room,
+      );
+      marks_in = c.requires.marks_in;
+    }
 
 pub overflow_add-size : goal.overflow_add-size
-overflow_add-size c = record { fits = omega (arith, short (goal.at.overflow_add-size c).After-put_sections-size) }
+overflow_add-size c = omega (arith, short (goal.at.overflow_add-size c).After-put_sections-size)
 
 pub overflow_cast-size : goal.overflow_cast-size
-overflow_cast-size c = record { fits = omega (arith, short (goal.at.overflow_cast-size c).After-put_sections-size) }
+overflow_cast-size c = omega (arith, short (goal.at.overflow_cast-size c).After-put_sections-size)
 
 pub put_front-requires : goal.put_front-requires
 put_front-requires c =
     let out = c.args.out.now in
-    rw (length-append (take 9 out), length-take-le 9 out (nine (goal.at.put_front-requires c).After-shared_slice_known-3-1)) (omega arith)
+    rw (length-append (take 9 out), length-take-le 9 out (omega (arith, c.requires.report_room.room, size c.args.c.now c.args.at c.args.count c.requires.report_room.lookups c.args.objects c.requires.report_room.read))) (omega arith)
 
 pub overflow_add-result : goal.overflow_add-result
-overflow_add-result c = record { fits = omega (arith, short (goal.at.overflow_add-result c).After-put_sections-size) }
+overflow_add-result c = omega (arith, short (goal.at.overflow_add-result c).After-put_sections-size)
 
 pub returns : goal.returns
-returns c =
+returns c = λ o lookups t fits.
     let a = c.args in
     done a.c.now a.at a.count lookups a.objects o a.out.now t fits
     (c.put_sections-size.ensures (how a.c.now a.at a.count lookups a.objects o) (room a.c.now a.at a.count lookups a.objects o a.out.now t fits))

@@ -3,7 +3,6 @@ use mathlib.Core.Path.{◌≡◌, sym, ◌∙◌, ap}
 use mathlib.Core.List.{List, ◌++◌}
 use Prim.Native.Nat.{ℕ, ◌+◌, ◌-◌, ◌≤◌}
 use native.Mathlib.Omega.{arith}
-use borrow.Author.Rules.{rules}
 use lib.ListN.{length, take, drop, length-append, length-drop}
 use lib.Seq.{length-take-le}
 use Rattle.base.specs.Number.{be_bytes}
@@ -17,7 +16,7 @@ use Rattle.resolve.specs.Lent.{lent-part}
 use Rattle.sections.specs.RefsLaws.{refs-each, refs-count, candidates-few}
 use Rattle.sections.specs.Sections.{How, behind_of, each_row, EachRoom, EachFilled, RowsRoom, RowsFilled}
 use Rattle.sections.specs.declared.section.Section.{Section}
-use Rattle.sections.proofs.section.put_rows.Goals.{After-put_be32-k, After-shared_slice_known-4-1}
+use Rattle.sections.proofs.section.put_rows.Goals.{After-put_be32-k}
 use Rattle.sections.proofs.section.put_rows.Goals as goal
 
 module _ (objects id : ℕ) (b : List ℕ) {c s : List ℕ} {n : ℕ} {w : List ℕ} {first : ℕ} {out : List ℕ} {h : How} (a : RowsRoom c s n w objects first id b out h) where
@@ -41,10 +40,6 @@ module _ (objects id : ℕ) (b : List ℕ) {c s : List ℕ} {n : ℕ} {w : List 
         let f = wrote-front {s = out} y.wrote (omega (arith, size)) (wrote_count x e) in
         record { wrote = wrote_count (wrote_as f (rw counted)) (omega arith); rows = counted ∙ sym (refs-count (package_in id b)) }
 
--- the count's four bytes are there
-room : (c : After-shared_slice_known-4-1) → 4 ≤ length c.args.out.now
-room c = omega (arith, size c.args.objects c.requires.by_index.0 c.args.b.now c.requires.by_index.2)
-
 done : (c : After-put_be32-k) → (id : ℕ) (h : How) → RowsRoom c.args.c.now c.args.s.now c.args.n c.args.w.now c.args.objects c.args.first id c.args.b.now c.args.out.now h
     → RowsFilled c.args.objects id c.args.b.now h c.args.out.now c.put_be32-k.new.out
     (behind_of c.put_be32-k.result c.put_each-z.result)
@@ -52,33 +47,33 @@ done c id h a =
     filled c.args.objects id c.args.b.now a (c.put_each-z.ensures id h (each c.args.objects id c.args.b.now a)) c.put_be32-k.ensures
 
 pub slice_bounds-put_each-count : goal.slice_bounds-put_each-count
-slice_bounds-put_each-count c = room (goal.at.slice_bounds-put_each-count c).After-shared_slice_known-4-1
+slice_bounds-put_each-count c = let (id, h, a) = c.requires.by_index in omega (arith, size c.args.objects id c.args.b.now a)
 
 pub slice_bounds-put_each-start : goal.slice_bounds-put_each-start
-slice_bounds-put_each-start c = room (goal.at.slice_bounds-put_each-start c).After-shared_slice_known-4-1
+slice_bounds-put_each-start c = let (id, h, a) = c.requires.by_index in omega (arith, size c.args.objects id c.args.b.now a)
 
 pub put_each-z-requires : goal.put_each-z-requires
 put_each-z-requires c =
-    ((c.requires.package_in.0, c.requires.package_in.1, c.requires.package_in.2), ((c.requires.by_index.0, c.requires.by_index.1, each c.args.objects c.requires.by_index.0 c.args.b.now c.requires.by_index.2), c.requires.rows_marked))
+    let k = c.requires.package_in in
+    let (id, h, a) = c.requires.by_index in
+    record { package_in = (k.0, k.1, k.2); by_index = (id, h, each c.args.objects id c.args.b.now a); rows_marked = c.requires.rows_marked }
 
 pub overflow_cast-z : goal.overflow_cast-z
 overflow_cast-z c =
     let a = c.requires.by_index.2 in
     let y = c.put_each-z.ensures c.requires.by_index.0 c.requires.by_index.1 (each c.args.objects c.requires.by_index.0 c.args.b.now a) in
-    record {
-      fits = omega (arith, counted c.args.objects c.requires.by_index.0 c.args.b.now a y, candidates-few (read_in c.args.b.now), export_count_lem c.requires.package_in.0, c.requires.package_in.3);
-    }
+    omega (arith, counted c.args.objects c.requires.by_index.0 c.args.b.now a y, candidates-few (read_in c.args.b.now), export_count_lem c.requires.package_in.0, c.requires.package_in.3)
 
 pub put_be32-k-requires : goal.put_be32-k-requires
 put_be32-k-requires c =
     let out = c.args.out.now in
-    rw (length-append (take 4 out), length-take-le 4 out (room (goal.at.put_be32-k-requires c).After-shared_slice_known-4-1)) (omega arith)
+    let (id, h, a) = c.requires.by_index in
+    rw (length-append (take 4 out), length-take-le 4 out (omega (arith, size c.args.objects id c.args.b.now a))) (omega arith)
 
 pub behind-requires : goal.behind-requires
 behind-requires c =
     let (id, h, a) = c.requires.by_index in
-    let g = c.well_formed.0.0 in
     omega (arith, (done (goal.at.behind-requires c).After-put_be32-k id h a).wrote.fits)
 
 pub returns : goal.returns
-returns c = rw c.behind.ensures (done (goal.at.returns c).After-put_be32-k id h a)
+returns c = λ id h a. rw c.behind.ensures (done (goal.at.returns c).After-put_be32-k id h a)

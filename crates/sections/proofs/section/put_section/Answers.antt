@@ -3,7 +3,6 @@ use mathlib.Core.Path.{◌≡◌, sym, ◌∙◌}
 use mathlib.Core.List.{List, ◌++◌}
 use Prim.Native.Nat.{ℕ, ◌-◌, ◌≤◌}
 use native.Mathlib.Omega.{arith}
-use borrow.Author.Rules.{rules}
 use lib.ListN.{length, take, drop}
 use Rattle.base.specs.Number.{be_at}
 use Rattle.base.specs.NumberLaws.{Bytes}
@@ -79,7 +78,7 @@ room : (c : After-id_at)
     (section_of u.objects h (package_in c.id_at.result c.block_at-b.result.now)) u.out.now h
 room c h a =
     let u = c.args in
-    room-here u.c.now u.objects u.at c.id_at.result c.block_at-b.result.now (here c.before.before.before.before.before.before.before.before).block c.id_at.ensures h a
+    room-here u.c.now u.objects u.at c.id_at.result c.block_at-b.result.now c.block_at-b.ensures c.id_at.ensures h a
 
 done : (c : After-put_rows-z)
     → let u = c.args in
@@ -90,8 +89,8 @@ done : (c : After-put_rows-z)
 done c h a =
     let u = c.args in
     let d = package_in c.id_at.result c.block_at-b.result.now in
-    let r = room c.before.before.before.before.before.before h a in
-    filled-here u.c.now u.objects u.at c.id_at.result c.block_at-b.result.now (here c.before.before.before.before.before.before.before.before.before.before.before.before.before.before).block c.id_at.ensures h
+    let r = room-here u.c.now u.objects u.at c.id_at.result c.block_at-b.result.now c.block_at-b.ensures c.id_at.ensures h a in
+    filled-here u.c.now u.objects u.at c.id_at.result c.block_at-b.result.now c.block_at-b.ensures c.id_at.ensures h
     (filled u.objects d r c.put_head-k.ensures (c.put_rows-z.ensures c.id_at.result h (rows-room u.objects d r c.put_head-k.ensures)))
 
 pub layout_of-requires : goal.layout_of-requires
@@ -127,26 +126,21 @@ step_of-requires c = (here (goal.at.step_of-requires c).After-parts_of-p).small.
 pub put_rows-z-requires : goal.put_rows-z-requires
 put_rows-z-requires c =
     let k = here (goal.at.put_rows-z-requires c).After-parts_of-p in
-    let e = c.step_of.ensures in (
-      (k.read, c.note_names.ensures.0, c.note_names-2.ensures.0, k.small.count),
-      (
-        (
-          c.id_at.result,
-          c.requires.section_room.0,
-          rows-room c.args.objects (package_in c.id_at.result c.block_at-b.result.now) (room (goal.at.put_rows-z-requires c).After-id_at c.requires.section_room.0 c.requires.section_room.1) c.put_head-k.ensures,
-        ),
-        (
-          marked-here c.args.c.now c.args.at k.block (e ∙ step-first c.args.c.now c.args.at k.block k.read) c.requires.rows_marked,
-          omega (arith, e, k.small.step),
-        ),
-      ),
-    )
+    let e = c.step_of.ensures in
+    let (h, a) = c.requires.section_room in
+    record {
+      package_in = (k.read, c.note_names.ensures.0, c.note_names-2.ensures.0, k.small.count);
+      by_index = (c.id_at.result, h, rows-room c.args.objects (package_in c.id_at.result c.block_at-b.result.now) (room (goal.at.put_rows-z-requires c).After-id_at h a) c.put_head-k.ensures);
+      rows_marked = (
+        marked-here c.args.c.now c.args.at k.block (e ∙ step-first c.args.c.now c.args.at k.block k.read) c.requires.rows_marked,
+        omega (arith, e, k.small.step),
+      );
+    }
 
 pub behind-requires : goal.behind-requires
 behind-requires c =
-    let g = c.well_formed.0.0 in
     omega (arith, (done (goal.at.behind-requires c).After-put_rows-z c.requires.section_room.0 c.requires.section_room.1).wrote.fits)
 
 pub returns : goal.returns
 returns c =
-    (λ h a. rw c.behind.ensures (done (goal.at.returns c).After-put_rows-z h a), (c.note_names.ensures.1, c.note_names-2.ensures.1))
+    record { is = λ h a. rw c.behind.ensures (done (goal.at.returns c).After-put_rows-z h a); notes = (c.note_names.ensures.1, c.note_names-2.ensures.1) }

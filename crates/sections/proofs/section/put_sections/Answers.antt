@@ -4,12 +4,8 @@ use mathlib.Core.List.{List, ◌++◌}
 use Prim.Native.Nat.{ℕ, ◌+◌, ◌-◌, ◌*◌, ◌≤◌, ◌<◌}
 use native.Mathlib.Nat.{zero-add}
 use native.Mathlib.Omega.{arith}
-use borrow.Author.Rules.{rules}
 use lib.ListN.{length, take, drop, get_or, length-drop}
-use Rattle.base.specs.Find.{flat}
-use Rattle.batch.specs.Notes.{note_count}
-use Rattle.meaning.specs.Reference.{Package}
-use Rattle.packages.specs.Walk.{place_of, package_at, packages_at}
+use Rattle.packages.specs.Walk.{package_at, packages_at}
 use Rattle.packages.specs.WalkLaws.{place_none, place-next, packages-length, package_no_lem}
 use Rattle.resolve.specs.Marks.{marks_in, MarksIn}
 use Rattle.sections.specs.MarkedLaws.{marks-first, marks-next, rows-marked}
@@ -88,28 +84,26 @@ slice_bounds-put_section-start c = (holds-size (goal.at.slice_bounds-put_section
 pub put_section-z-requires : goal.put_section-z-requires
 put_section-z-requires c =
     let l = c.loop in
-    let t = l.invariant.0 in (
-      (
+    let t = l.invariant.0 in
+    let (h, a) = c.requires.sections_room in
+    record {
+      site = (
         rw t.place (c.requires.sites.0.site l.counter c.loop-test.true),
         rw t.place (c.requires.sites.1.read l.counter c.loop-test.true),
         c.look_ahead-ahead.ensures,
         l.invariant.2,
-      ),
-      (
-        (c.requires.sections_room.0, room t c.loop-test.true c.requires.sections_room.0 c.requires.sections_room.1),
-        rw t.place (rows-marked c.args.n c.args.w.now c.requires.sites.0 c.requires.sites.1 c.requires.marks_in.0 c.requires.marks_in.1 l.counter c.loop-test.true t.marks),
-      ),
-    )
+      );
+      section_room = (h, room t c.loop-test.true h a);
+      rows_marked = rw t.place (rows-marked c.args.n c.args.w.now c.requires.sites.0 c.requires.sites.1 c.requires.marks_in.0 c.requires.marks_in.1 l.counter c.loop-test.true t.marks);
+    }
 
 pub overflow_add-size : goal.overflow_add-size
 overflow_add-size c =
-    let g = c.well_formed.0.0 in
-    record { fits = omega (arith, (summed (goal.at.overflow_add-size c).After-put_section-z).0) }
+    omega (arith, (summed (goal.at.overflow_add-size c).After-put_section-z).0)
 
 pub overflow_add-rows : goal.overflow_add-rows
 overflow_add-rows c =
-    let g = c.well_formed.1.1.1.1.1.0.0 in
-    record { fits = omega (arith, (summed (goal.at.overflow_add-rows c).After-put_section-z).1) }
+    omega (arith, (summed (goal.at.overflow_add-rows c).After-put_section-z).1)
 
 pub next_at-at-requires : goal.next_at-at-requires
 next_at-at-requires c =
@@ -145,7 +139,7 @@ pub shape_of-out : goal.shape_of-out
 shape_of-out c = (holds-size (goal.at.shape_of-out c).At-loop).1
 
 pub returns : goal.returns
-returns c =
+returns c = λ h a.
     let l = c.loop in
     let u = c.args in
     let ps = packages_at u.c.now u.from u.count in

@@ -1,20 +1,14 @@
 -- `section::put_sections` meets its contract. The loop's invariant: the sections of the first i packages are written, and the rows have their marks. Assumes nothing.
-use mathlib.Core.Path.{◌≡◌, sym, ◌∙◌, ap}
-use mathlib.Core.List.{List, ◌++◌}
-use Prim.Native.Nat.{ℕ, ◌+◌, ◌-◌, ◌*◌, ◌≤◌, ◌<◌}
-use native.Mathlib.Nat.{zero-add}
-use native.Mathlib.Omega.{arith}
-use borrow.Author.Rules.{rules}
-use lib.ListN.{length, take, drop, get_or, length-drop}
+use mathlib.Core.Path.{◌≡◌}
+use mathlib.Core.List.{List}
+use Prim.Native.Nat.{ℕ, ◌-◌, ◌≤◌}
+use lib.ListN.{length, take}
 use Rattle.base.specs.Find.{flat}
 use Rattle.batch.specs.Notes.{note_count}
 use Rattle.meaning.specs.Reference.{Package}
-use Rattle.packages.specs.Walk.{place_of, package_at, packages_at}
-use Rattle.packages.specs.WalkLaws.{place_none, place-next, packages-length, package_no_lem}
-use Rattle.resolve.specs.Marks.{marks_in, MarksIn}
-use Rattle.sections.specs.MarkedLaws.{marks-first, marks-next, rows-marked}
-use Rattle.sections.specs.SectionLaws.{filled_none, filled-inside, item_room, item-filled, item-sums, filled-all}
-use Rattle.sections.specs.Sections.{How, section_of, refs_of, Filled, SectionRoom, SectionFilled, SectionsRoom}
+use Rattle.packages.specs.Walk.{place_of, packages_at}
+use Rattle.resolve.specs.Marks.{marks_in}
+use Rattle.sections.specs.Sections.{How, section_of, refs_of, Filled, SectionsRoom}
 use Rattle.sections.specs.declared.section.Section.{Section}
 use Rattle.sections.proofs.section.put_sections.Given as goal
 
@@ -29,7 +23,7 @@ pub record Sofar (c s : List ℕ) (n : ℕ) (w : List ℕ) (objects from count :
 
 abbrev pub invariant-loop : goal.invariant-loop
 invariant-loop l =
-    Sofar l.c l.s l.n l.w l.objects l.from l.count l.initial.out l.counter l.at l.out (record { l.size = l.size; l.rows = l.rows }) × (length l.names ≡ note_count) × (length l.imported ≡ note_count)
+    Sofar l.c l.s l.n l.w l.objects l.from l.count l.initial.out l.counter l.at l.out (record { size = l.size; rows = l.rows }) × (length l.names ≡ note_count) × (length l.imported ≡ note_count)
 
 abbrev pub decreases-loop : goal.decreases-loop
 decreases-loop l = l.count - l.counter

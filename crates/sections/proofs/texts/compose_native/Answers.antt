@@ -1,7 +1,6 @@
 -- `texts::compose_native` meets its contract: the path behind the first four bytes, then its length in these, or an unknown text. Assumes nothing.
 use Prim.Native.Nat.{◌≤◌}
 use native.Mathlib.Omega.{arith}
-use borrow.Author.Rules.{rules}
 use lib.ListN.{length}
 use Rattle.resolve.specs.Rows.{limits_of}
 use Rattle.sections.specs.Written.{native_text}

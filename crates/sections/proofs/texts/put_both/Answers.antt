@@ -6,7 +6,6 @@ use mathlib.Core.List.{List, ◌++◌}
 use mathlib.Core.Option.{Option}
 use Prim.Native.Nat.{ℕ, ◌+◌, ◌-◌, ◌≤◌}
 use native.Mathlib.Omega.{arith}
-use borrow.Author.Rules.{rules}
 use lib.ListN.{length, length-append}
 use Rattle.text.specs.Name.{text_bytes}
 use Rattle.base.specs.Output.{Wrote}
@@ -21,7 +20,6 @@ use Rattle.sections.specs.Written.{is_some, Put, Target, class_of, native_text, 
 use Rattle.sections.specs.WrittenLaws.{behind, again, kept-inside, kept-size, kept-is, class_same, class_in, class-some}
 use Rattle.resolve.specs.declared.rows.Led.{Led}
 use Rattle.sections.specs.declared.texts.Told.{Told}
-use Rattle.sections.proofs.texts.put_both.Goals.{After-struct_known-3-1}
 use Rattle.sections.proofs.texts.put_both.Goals as goal
 
 -- there is room for both texts
@@ -81,32 +79,6 @@ module _ {c b : List ℕ} {o : Objects} {n : ℕ} {xs : List Class} {lookups obj
           native = put.known;
         }
 
--- the class's text is written
-module _ (p : tie.After-put-class) where
-  abbrev start : tie.Start
-  start = p.before.before.before.before.before.before.before.before.before
-
-  left : start.args.l.class ≡ 0 → ⊥
-  left = p.before.before.before.if1.left
-
-  class_in_out : p.put-class.result ≤ length p.put-class.last.0
-  class_in_out =
-      let s = start in
-      let r = s.pre in
-      class_end_lem r.target s.args.out.now r.room left (p.put-class.ensures r.classes r.target.tables.classes (class_in r.target left))
-
--- and the native class's
-both : (c : After-struct_known-3-1) → let s = start p in
-    (o : Objects) (xs : List Class) (lookups : ℕ) (r : Ref) → Target s.args.c.now s.args.s.now o s.args.n xs lookups s.args.objects s.args.w.now r s.args.l
-    → length (both_texts (limits_of lookups s.args.objects) xs o r) ≤ length s.args.out.now
-    → BothPut (limits_of lookups s.args.objects) xs o r s.args.out.now (again c.put_class-first.result c.put_class-first.new.out c.put_native-t-2.new.out)
-    (record { size = c.put_class-first.result + c.put_native-t-2.result.size; class = true; native = c.put_native-t-2.result.known })
-both c o xs lookups r t room =
-    let s = start p in
-    let v = c.put_class-first.ensures xs t.tables.classes (class_in t (left p)) in
-    both-put t s.args.out.now room (left p) v
-    (c.put_native-t-2.ensures s.args.c.now o xs lookups r t (native-next t s.args.out.now room (left p) v))
-
 pub put_native-t-requires : goal.put_native-t-requires
 put_native-t-requires c =
     let r = c.requires in
@@ -139,30 +111,41 @@ put_class-first-requires c =
     class-room c.requires.target c.args.out.now c.requires.room c.if-l-eq0.false
 
 pub slice_bounds-put_native-count : goal.slice_bounds-put_native-count
-slice_bounds-put_native-count c = class_in_out c.before.before
+slice_bounds-put_native-count c =
+    let r = c.requires in
+    let left = c.if-l-eq0.false in
+    class_end_lem r.target c.args.out.now r.room left (c.put_class-first.ensures r.classes r.target.tables.classes (class_in r.target left))
 
 pub slice_bounds-put_native-start : goal.slice_bounds-put_native-start
-slice_bounds-put_native-start c = class_in_out c.before.before
+slice_bounds-put_native-start c =
+    let r = c.requires in
+    let left = c.if-l-eq0.false in
+    class_end_lem r.target c.args.out.now r.room left (c.put_class-first.ensures r.classes r.target.tables.classes (class_in r.target left))
 
 pub put_native-t-requires-2 : goal.put_native-t-requires-2
 put_native-t-requires-2 c =
-    let s = start p in
-    let r = s.pre in
+    let r = c.requires in
+    let left = c.if-l-eq0.false in
     record {
-      corpus = s.args.c.now;
+      corpus = c.args.c.now;
       read = r.read;
       classes = r.classes;
       lookups = r.lookups;
       ref = r.ref;
       target = r.target;
-      room = native-next r.target s.args.out.now r.room (left p) (c.put_class-first.ensures r.classes r.target.tables.classes (class_in r.target (left p)));
+      room = native-next r.target c.args.out.now r.room left (c.put_class-first.ensures r.classes r.target.tables.classes (class_in r.target left));
     }
 
 pub overflow_add-result : goal.overflow_add-result
 overflow_add-result c =
-    let s = start c.before.before.before.before.before.before.before in
-    let r = s.pre in
-    omega (arith, (both (goal.at.overflow_add-result c).After-struct_known-3-1 r.read r.classes r.lookups r.ref r.target r.room).wrote.fits)
+    let r = c.requires in
+    let left = c.if-l-eq0.false in
+    let v = c.put_class-first.ensures r.classes r.target.tables.classes (class_in r.target left) in
+    let put = c.put_native-t-2.ensures c.args.c.now r.read r.classes r.lookups r.ref r.target (native-next r.target c.args.out.now r.room left v) in
+    omega (arith, (both-put r.target c.args.out.now r.room left v put).wrote.fits)
 
 pub returns : goal.returns
-returns c = both (goal.at.returns c).After-struct_known-3-1
+returns c = λ o xs lookups r t room.
+    let left = c.if-l-eq0.false in
+    let v = c.put_class-first.ensures xs t.tables.classes (class_in t left) in
+    both-put t c.args.out.now room left v (c.put_native-t-2.ensures c.args.c.now o xs lookups r t (native-next t c.args.out.now room left v))

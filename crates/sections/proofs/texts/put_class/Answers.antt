@@ -1,7 +1,6 @@
 -- `texts::put_class` meets its contract: the class's path behind the first four bytes, then its length in these. Assumes nothing.
 use Prim.Native.Nat.{◌*◌, ◌≤◌}
 use native.Mathlib.Omega.{arith}
-use borrow.Author.Rules.{rules}
 use lib.ListN.{length}
 use Rattle.text.specs.Name.{text_bytes}
 use Rattle.text.specs.NameLaws.{text_bytes-length}

@@ -1,5 +1,4 @@
 -- `texts::put_length` meets its contract: of a number beyond four bytes the low bytes are written. Assumes nothing.
-use borrow.Author.Rules.{rules}
 use Rattle.base.specs.OutputLaws.{wrote_as}
 use Rattle.sections.specs.WrittenLaws.{length-bytes}
 use Rattle.sections.proofs.texts.put_length.Goals as goal

@@ -2,7 +2,6 @@
 use mathlib.Core.Path.{◌≡◌}
 use Prim.Native.Nat.{◌+◌, ◌-◌}
 use native.Mathlib.Omega.{arith}
-use borrow.Author.Rules.{rules}
 use Rattle.table.specs.WordLaws.{mid-length}
 use Rattle.sections.specs.WrittenLaws.{kept-inside, kept-size, kept_put}
 use Rattle.sections.proofs.texts.put_native.Goals as goal

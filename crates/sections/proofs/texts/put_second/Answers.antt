@@ -3,7 +3,6 @@ use mathlib.Core.Path.{◌≡◌}
 use Prim.Native.Nat.{◌+◌, ◌-◌}
 use native.Mathlib.Omega.{arith}
 use lib.ListN.{length-take, length-drop}
-use borrow.Author.Rules.{rules}
 use Rattle.base.specs.OutputLaws.{wrote_as, wrote_count, wrote-rest}
 use Rattle.table.specs.WordLaws.{mid-length}
 use Rattle.sections.proofs.texts.put_second.Goals as goal

@@ -1,5 +1,4 @@
 -- `texts::put_unknown` meets its contract: the length, and the text's one byte behind it. Assumes nothing.
-use borrow.Author.Rules.{rules}
 use Rattle.sections.specs.WrittenLaws.{unknown-put}
 use Rattle.sections.proofs.texts.put_unknown.Goals as goal
 
