@@ -1,6 +1,6 @@
 -- Numbers, indices and answers, computed at their edges: each value here is another one where a definition is off by a bit, a byte or a case.
 -- Assumes nothing.
-use Rattle.std.specs.Prelude.{◌≡◌, refl, true, false, List, [], ◌∷◌, map, ℕ, pos, negsuc}
+use Rattle.std.specs.Prelude.{◌≡◌, refl, true, false, [], ◌∷◌, map, pos, negsuc}
 use Rattle.base.specs.Number.{le, be, le_at, be_at, be_bytes}
 use Rattle.base.specs.Signed.{twos}
 use Rattle.base.specs.SignedSize.{size_of, size_in}

@@ -1,5 +1,5 @@
 -- Laws of `find`, `filter` and `flat`: which elements they give, and how long the whole is. Assumes nothing.
-use Rattle.std.specs.Prelude.{◌≡◌, refl, ◌⊎◌, Bool, true, false, ℕ, ◌+◌, ◌*◌, T, length}
+use Rattle.std.specs.Prelude.{◌≡◌, refl, ◌⊎◌, Bool, true, false, ℕ, ◌*◌, T, length}
 use Rattle.std.proofs.Common.{ap, inl, inr, mul-suc, arith, length-append}
 use mathlib.Core.List.Memᴰ
 use mathlib.Core.List.{List, [], ◌∷◌, ◌++◌, append_assoc, Memᴰ}

@@ -1,6 +1,6 @@
 -- Laws of the house form: a length field says how many bytes follow it. Assumes nothing.
-use Rattle.std.specs.Prelude.{◌≡◌, List, ◌++◌, ℕ, ◌+◌, ◌^◌, ◌<◌, length, take}
-use Rattle.std.proofs.Common.{◌∙◌, ap, mod-eq_of_lt, arith, length-append, take_at}
+use Rattle.std.specs.Prelude.{◌≡◌, List, ℕ, ◌+◌, ◌^◌, ◌<◌, length, take}
+use Rattle.std.proofs.Common.{mod-eq_of_lt, arith, length-append, take_at}
 use Rattle.base.specs.Number.{be, be_bytes}
 use Rattle.base.specs.NumberLaws.{length-be_bytes, be-be_bytes}
 use Rattle.base.specs.House.{length_first}

@@ -1,6 +1,6 @@
 -- Lists by their first i elements, for loops: what one element more brings. Assumes nothing.
-use Rattle.std.specs.Prelude.{◌≡◌, refl, Bool, true, false, cond, List, [], ◌∷◌, ◌++◌, ℕ, zero, suc, ◌+◌, ◌≤◌, ◌<◌, length, take, get_or}
-use Rattle.std.proofs.Common.{sym, ◌∙◌, ap, append_assoc, append-nil, arith, add-one, length-append, take-suc}
+use Rattle.std.specs.Prelude.{◌≡◌, refl, Bool, true, false, cond, List, [], ◌∷◌, ◌++◌, ℕ, suc, ◌+◌, ◌≤◌, ◌<◌, length, take, get_or}
+use Rattle.std.proofs.Common.{ap, append_assoc, append-nil, arith, add-one, take-suc}
 use Rattle.base.specs.Find.{kept, filter, flat, sum}
 
 module _ {A B : Type 0} (f : A → List B) where

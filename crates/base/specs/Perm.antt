@@ -1,6 +1,6 @@
 -- A list in another order (document 01: "Reordering moves whole packages"), two lists element by element, and what does not change. Assumes
 -- nothing.
-use Rattle.std.specs.Prelude.{◌≡◌, refl, ℕ, suc, ◌+◌, length}
+use Rattle.std.specs.Prelude.{◌≡◌, refl, ℕ, suc, length}
 use Rattle.std.proofs.Common.{sym, ◌∙◌, ap, ap₂, arith}
 use mathlib.Core.List.{List, [], ◌∷◌, ◌++◌, map, Memᴰ}
 use Rattle.base.specs.Find.{flat, sum}

@@ -1,9 +1,9 @@
 -- Notes of where every step-th name starts: how they are taken, and what the nearest says of a name.
 use mathlib.Core.Path.{◌≡◌, sym, ◌∙◌, ap}
 use mathlib.Core.List.{List}
-use Prim.Native.Nat.{ℕ, zero, suc, ◌+◌, ◌*◌, ◌-◌, ◌/◌, ◌≤◌, ◌<◌}
+use Prim.Native.Nat.{ℕ, ◌+◌, ◌*◌, ◌-◌, ◌/◌, ◌≤◌, ◌<◌}
 use native.Mathlib.Omega.{arith}
-use native.Mathlib.Nat.{mul-le-mul_left, mul-suc, mul_comm, le_trans, div-mul-le_self, div-lt_iff_lt-mul}
+use native.Mathlib.Nat.{mul-le-mul_left, mul-suc, mul_comm, div-mul-le_self, div-lt_iff_lt-mul}
 use native.Mathlib.Numerals.{add-one}
 use native.Mathlib.Decide.{ℕ_discrete, dec_le}
 use lib.Arith.{lt_of_le-ne}

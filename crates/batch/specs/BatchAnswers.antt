@@ -1,5 +1,4 @@
 -- The code's answers about a batch, as functions of what a reading gives.
-use Rattle.std.specs.Prelude.{ℕ}
 use Rattle.base.specs.Reading.{Got, bad, got}
 use Rattle.batch.specs.Batch.{Batch}
 use Rattle.batch.specs.declared.names.NameBatch.{NameBatch}

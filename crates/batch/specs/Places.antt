@@ -1,5 +1,5 @@
 -- Names by number: where each starts, and the text there. Assumes nothing.
-use Rattle.std.specs.Prelude.{◌≡◌, List, [], ◌∷◌, true, ℕ, zero, suc, ◌+◌, ◌*◌, ◌-◌, ◌/◌, ◌≤◌, ◌<◌, length, take, drop, get_or}
+use Rattle.std.specs.Prelude.{◌≡◌, List, [], ◌∷◌, true, ℕ, zero, suc, ◌+◌, ◌*◌, ◌-◌, ◌≤◌, ◌<◌, length, take, drop}
 use Rattle.text.specs.Utf16.{is_well}
 use Rattle.text.specs.Name.{decoded, base}
 use Rattle.batch.specs.Batch.{head_at}

@@ -2,6 +2,7 @@
 // What is at a position.
 
 #![tactic(auto)]
+
 pub mod cursor; // a position over a borrowed block
 pub mod reader; // fields at a position
 // Names.

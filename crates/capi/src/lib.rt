@@ -1,6 +1,7 @@
 // The calls as C sees them (document 01): each slice is a pointer and a length.
 
 #![tactic(auto)]
+
 ghost use Rattle.claims.specs.Claims.{Called};
 ghost use Rattle.claims.specs.Header as Header;
 ghost use Rattle.claims.specs.Verify as Verify;

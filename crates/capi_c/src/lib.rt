@@ -1,6 +1,7 @@
 // What C sees of `capi`, under the names of its header: each slice is a pointer and a length. The functions and their clauses are those of `capi`.
 
 #![tactic(auto)]
+
 ghost use Rattle.claims.specs.Claims.{Called};
 ghost use Rattle.claims.specs.Header as Header;
 ghost use Rattle.claims.specs.Verify as Verify;

@@ -1,11 +1,11 @@
 -- Laws of bytes that are known to be UTF-8: the first says how many the first character takes, and they are there. Assumes nothing.
 use Rattle.std.specs.Prelude.{◌≡◌, refl, Bool, true, false, List, ℕ, ◌-◌, ◌≤◌, ◌<◌, length, get_or}
-use Rattle.std.proofs.Common.{sym, ◌∙◌, ⊎_elim, arith}
+use Rattle.std.proofs.Common.{sym, ⊎_elim, arith}
 use Rattle.base.specs.Choose.{lt_or_le}
 use Rattle.text.specs.Utf16.{is_well}
 use Rattle.text.specs.Utf8.{from_utf8}
 use Rattle.decode.specs.declared.chars.Char.TheVariants.{Of, Ill}
-use Rattle.decode.specs.Chars.{Range, is_two, is_three, is_four, joined, char_by, char_of}
+use Rattle.decode.specs.Chars.{Range, is_two, is_three, is_four, joined, char_of}
 use Rattle.decode.specs.TableLaws.{two_is, three-range, four-range, by_one, by_two, by_three, by-four, ill-two, ill-three, ill-four, there, char_of-bytes}
 use Rattle.decode.specs.CharLaws.{char-ill}
 

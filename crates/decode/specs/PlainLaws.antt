@@ -1,13 +1,13 @@
 -- Bytes that are all ASCII: they are the text that they mean. Assumes nothing.
-use Rattle.std.specs.Prelude.{◌≡◌, refl, Bool, true, List, [], ◌∷◌, ℕ, ◌≤◌, ◌<◌, ltb, length}
+use Rattle.std.specs.Prelude.{◌≡◌, refl, Bool, true, List, [], ◌∷◌, ℕ, ◌≤◌, ltb, length}
 use Rattle.std.proofs.Math.Path.{sym}
 use Rattle.std.proofs.Common.{ap, ◌∙◌, inl, arith, ltb-true, lt-ltb}
 use Rattle.std.proofs.Math.Bool.{and-eq-true_iff}
 use Rattle.text.specs.Affix.{all_ascii}
 use Rattle.base.specs.Output.{Wrote}
 use Rattle.base.specs.OutputLaws.{wrote_as}
-use Rattle.text.specs.Utf16.{Decoded, well, scalars, Scalars, encode16}
-use Rattle.text.specs.Utf8.{utf8, from_utf8}
+use Rattle.text.specs.Utf16.{well, scalars, Scalars}
+use Rattle.text.specs.Utf8.{from_utf8}
 use Rattle.text.specs.Utf8Laws.{utf8-ascii, utf8_decode}
 use Rattle.decode.specs.declared.measure.Measured.TheVariants.{Text}
 use Rattle.decode.specs.Measure.{text_of, fits_latin1, measured}

@@ -1,13 +1,13 @@
 -- Laws of four characters of three bytes in a row: in well-formed bytes each first byte makes the next one a first byte too. Assumes nothing.
 use Rattle.std.specs.Prelude.{◌≡◌, refl, Bool, true, false, ◌&&◌, List, [], ◌∷◌, ◌++◌, ℕ, ◌+◌, ◌*◌, ◌-◌, ◌/◌, ◌%◌, ◌≤◌, ◌<◌, leb, eqb, length, take, drop, get_or}
-use Rattle.std.proofs.Common.{sym, ap, ◌∙◌, le-leb, leb-true, leb-false, eq-eqb, ne_eqb, length-drop, get_or-drop}
+use Rattle.std.proofs.Common.{sym, ◌∙◌, le-leb, leb-true, leb-false, eq-eqb, ne_eqb, length-drop, get_or-drop}
 use Rattle.std.proofs.Math.Bool.{and-eq-true_iff}
 use native.Mathlib.Omega.{arith}
 use Rattle.std.proofs.lemmas.Bool.{lt-leb}
 use Rattle.std.specs.Int.Bits.{bit_and}
 use Rattle.std.proofs.lemmas.Nat.Bits.{and_high}
 use Rattle.text.specs.Utf16.{is_well, utf16le}
-use Rattle.decode.specs.Chars.{Range, within}
+use Rattle.decode.specs.Chars.{Range}
 use Rattle.decode.specs.KnownLaws.{range_3, first_3}
 use Rattle.decode.specs.TurnLaws.{Turn, from, text_from, turn, well-next}
 use Rattle.decode.specs.WriteLaws.{Partly, partly_room, utf16le-next, units-one}

@@ -19,7 +19,7 @@ use Rattle.written.specs.BatchBytes.{le4, le8, string_bytes, batch_bytes}
 use Rattle.zen.specs.BlockLaws.{lead_is}
 use Rattle.written.specs.HeaderBytes.{ImportedName, Description, imported_texts, export_bytes, imported_bytes, hashes_start, exports_start, imported_start, header_size}
 use Rattle.written.specs.HeaderBytes.{offsets_of, summary_bytes, content_bytes, header_with, header_of, longest_header, paired, described}
-use Rattle.zen.specs.Zen.{summary, ordered, bulk, named, Tables, tables, Imports, imports, Read, content, header, lead, package_block}
+use Rattle.zen.specs.Zen.{ordered, bulk, named, Tables, tables, Imports, imports, Read, content, header, lead, package_block}
 use Rattle.zen.specs.declared.summary.Summary.{Summary}
 use Rattle.description.specs.BatchFront.{NameFits, names_for, batch_size, batch-front, length-batch}
 use Rattle.description.specs.HeaderFront.{ExportFits, NumberFits, HashFits, summary_for, seven, length-export}

@@ -20,7 +20,7 @@ use Rattle.base.specs.SignedLaws.{non_neg-twos}
 use Rattle.batch.specs.Batch.{u32, u64}
 use Rattle.written.specs.BatchBytes.{le4, le8}
 use Rattle.written.specs.HeaderBytes.{ImportedName, export_bytes}
-use Rattle.zen.specs.Zen.{offset, summary, bulk, export, named, Tables, tables, imports}
+use Rattle.zen.specs.Zen.{offset, summary, bulk, export, named, Tables, tables}
 use Rattle.zen.specs.declared.summary.Summary.{Summary}
 use Rattle.zen.specs.declared.tables.Export.{Export}
 

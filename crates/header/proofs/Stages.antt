@@ -1,5 +1,5 @@
 -- The check by its stages: what each test says of the whole description. Assumes nothing.
-use mathlib.Core.Path.{◌≡◌, refl, sym, ◌∙◌, ap}
+use mathlib.Core.Path.{◌≡◌, sym, ◌∙◌, ap}
 use mathlib.Core.Bool.{Bool, true, false}
 use mathlib.Core.List.{List}
 use Prim.Native.Nat.{ℕ, ◌+◌, ◌*◌, ◌-◌, ◌^◌, ◌≤◌, ◌<◌}
@@ -10,13 +10,12 @@ use Rattle.base.specs.Number.{be_at}
 use Rattle.base.specs.ReadingRows.{cells}
 use Rattle.written.specs.HeaderBytes.{longest_header}
 use Rattle.zen.specs.Zen.{named}
-use Rattle.header.specs.Places.{export_in, text_place}
+use Rattle.header.specs.Places.{export_in}
 use Rattle.header.specs.Places.{text_count, exports_place, export_count, hashes_place, hash_count, imported_place, imported_count, form_end}
-use Rattle.header.specs.Parts.{texts_fit, strings_from, sized_texts, exports_in}
-use Rattle.header.specs.Parts.{Whole, parts_of, Says, Begun, Tabled, Listed, Small, regions_of}
+use Rattle.header.specs.Parts.{strings_from, sized_texts, exports_in}
+use Rattle.header.specs.Parts.{parts_of, Says, Begun, Tabled, Listed, Small, regions_of}
 use Rattle.header.specs.PartsLaws.{sized-all, sized-none, strings_bound, place_bound}
 use Rattle.header.specs.RegionLaws.{starts}
-use Rattle.header.specs.declared.check.Sized.{Sized}
 use Rattle.header.specs.declared.check.Sized.TheVariants.{To, Bad}
 use Rattle.header.specs.declared.check.Parts.{Parts}
 use Rattle.header.specs.declared.check.Regions.{Regions}

@@ -1,5 +1,5 @@
 -- The call's answer by what the check says: 27 where the description is none that can be written, 28 where the buffer is too short, else the header.
-use Rattle.std.specs.Prelude.{◌≡◌, Bool, ◌&&◌, List, ltb, length}
+use Rattle.std.specs.Prelude.{◌≡◌, Bool, ◌&&◌, List, length}
 use Rattle.std.proofs.Math.Path.{refl, sym}
 use Rattle.std.proofs.Common.{◌∙◌, ap, arith}
 use Rattle.std.proofs.Math.Bool.{true, false, and-eq-true_iff}
@@ -12,7 +12,6 @@ use Rattle.base.specs.NumberLaws.{be_at-one}
 use Rattle.base.specs.Output.{Wrote}
 use Rattle.text.specs.Utf16.{encode16}
 use Rattle.written.specs.HeaderBytes.{header_of, header_size, longest_name, longest_header, short, writable}
-use Rattle.zen.specs.Zen.{named}
 use Rattle.meaning.specs.Call.{refused_in, accepted, number_of, buffer_after}
 use Rattle.description.specs.Call.{as_described, header_answer}
 use Rattle.description.specs.CallLaws.{Writable, writable-is}

@@ -9,7 +9,7 @@ use Rattle.std.proofs.Math.ListN.{length}
 use Rattle.base.specs.Choose.{pick}
 use Rattle.base.specs.Never.{never}
 use Rattle.base.specs.Number.{be_at}
-use Rattle.base.specs.Reading.{refused, gives, run, ◌>>=◌, ◌>>◌}
+use Rattle.base.specs.Reading.{refused, gives, run}
 use Rattle.base.specs.ReadingLaws.{run-walk, out}
 use Rattle.text.specs.Utf16.{is_well}
 use Rattle.text.specs.Utf8.{from_utf8}

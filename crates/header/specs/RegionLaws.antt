@@ -1,20 +1,19 @@
 -- Laws of a header's sizes: those that the code adds up are those of what is described. Assumes nothing.
-use Rattle.std.specs.Prelude.{◌≡◌, Bool, cond, List, [], ◌∷◌, ◌++◌, map, eqb, length}
+use Rattle.std.specs.Prelude.{◌≡◌, List, [], ◌∷◌, length}
 use Rattle.std.proofs.Math.Path.{refl, ap}
-use Rattle.std.proofs.Common.{sym, ◌∙◌, arith, ne_eqb}
+use Rattle.std.proofs.Common.{◌∙◌, arith, ne_eqb}
 use Prim.Native.Nat.{ℕ, zero, suc, ◌+◌, ◌*◌}
 use Rattle.std.proofs.Math.ListN.{length-append}
-use Rattle.std.proofs.lemmas.List.{length-map}
 use Rattle.base.specs.Find.{flat}
 use Rattle.base.specs.Number.{be_at}
 use Rattle.base.specs.NumberLaws.{length-le_bytes}
-use Rattle.base.specs.ReadingRows.{cells, cells-length}
+use Rattle.base.specs.ReadingRows.{cells-length}
 use Rattle.written.specs.BatchBytes.{le4, string_bytes, batch_bytes}
 use Rattle.written.specs.HeaderBytes.{ImportedName, Description, imported_texts, imported_bytes, hashes_start, exports_start, imported_start, header_size}
-use Rattle.header.specs.Places.{text_at, next_text, texts_from, imported_at, imported_from, export_in}
+use Rattle.header.specs.Places.{next_text, texts_from, imported_from, export_in}
 use Rattle.header.specs.Places.{text_count, exports_place, export_count, hashes_place, hash_count, imported_place, imported_count, description_at}
 use Rattle.header.specs.TextLoops.{texts-count, imported_texts_lem}
-use Rattle.header.specs.Parts.{exports_in, strings_from, parts_of}
+use Rattle.header.specs.Parts.{strings_from, parts_of}
 use Rattle.header.specs.Parts.{batch_of, hashes_from, exports_from, imported_on, regions_of}
 use Rattle.base.specs.FindLaws.{length-each}
 use Rattle.description.specs.BatchFront.{batch_size, length-batch}

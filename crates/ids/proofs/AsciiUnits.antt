@@ -9,7 +9,7 @@ use native.Mathlib.Numerals.{add-one, add-two, add-three}
 use native.Mathlib.Omega.{arith}
 use lib.Bits.{bit_or, or_zero_l, or_add_and, and_le_l, and_le_r}
 use lib.ListN.{length, set, get_or, take, drop, length-take, length-drop, get_or-eq_default}
-use lib.Seq.{sets, sets-eq, paste, drop-cons, take_all, get_or-take, get_or-drop}
+use lib.Seq.{sets-eq, paste, drop-cons, take_all, get_or-take, get_or-drop}
 use Rattle.lower.specs.Ascii.{lower_ascii}
 use Rattle.lower.specs.Lower.{lowered}
 use Rattle.rules.specs.Caseless.{caseless}

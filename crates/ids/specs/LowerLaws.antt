@@ -1,12 +1,12 @@
 -- Laws of a lowered text: of its scalar values, of its units. Assumes nothing.
-use Rattle.std.specs.Prelude.{◌≡◌, refl, true, false, cond, List, [], ◌∷◌, ◌++◌, ◌⊎◌, ℕ, zero, suc, ◌+◌, ◌-◌, ◌*◌, ◌/◌, ◌%◌, ◌≤◌, ◌<◌, length, get_or}
+use Rattle.std.specs.Prelude.{◌≡◌, refl, List, [], ◌∷◌, ◌++◌, ◌⊎◌, ℕ, zero, suc, ◌+◌, ◌-◌, ◌/◌, ◌%◌, ◌≤◌, ◌<◌, length, get_or}
 use Rattle.std.proofs.Common.{sym, ◌∙◌, ap, inl, inr, arith, lt-ltb, le-ltb}
 use Rattle.std.proofs.Math.Logic.{by_cases}
 use Rattle.std.proofs.Math.Decide.{dec_lt}
 use Rattle.lower.specs.Lower.{lower, lowered}
 use Rattle.lower.specs.LowerLaws.{Alike, lower-alike, lower-single, lower_double}
 use Rattle.base.specs.NumberLaws.{Bytes}
-use Rattle.text.specs.Utf16.{Scalar, Scalars, is_high, is_low, of_pair, encode_one, encode16}
+use Rattle.text.specs.Utf16.{Scalar, Scalars, of_pair, encode_one, encode16}
 use Rattle.text.specs.Utf16Cases.{High, Low, Single, high, low, low-high, single-high, single-low}
 use Rattle.ids.specs.LoweredUnits.{lowered_unit}
 

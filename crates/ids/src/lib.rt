@@ -1,6 +1,7 @@
 // Layer 1: the id of a name.
 
 #![tactic(auto)]
+
 pub mod lowered; // the units of a lowered text
 pub mod wide; // the same of wide text, many a turn
 pub mod short; // the id of a short name of one-byte text

@@ -1,12 +1,12 @@
 -- Laws of lowering. Assumes nothing.
-use Rattle.std.specs.Prelude.{◌≡◌, refl, Bool, true, false, not, ◌&&◌, ◌||◌, List, [], ◌∷◌, ◌++◌, ◌⊎◌, ℕ, zero, suc, ◌+◌, ◌*◌, ◌-◌, ◌/◌, ◌≤◌, ◌<◌, eqb, leb, ltb, length, get_or}
-use Rattle.std.proofs.Common.{sym, ◌∙◌, ap, inl, inr, arith, lt-ltb, le-ltb, ltb-true, leb-true, eqb-true, eq-eqb, ne_eqb}
+use Rattle.std.specs.Prelude.{◌≡◌, refl, Bool, true, false, not, ◌&&◌, ◌||◌, List, [], ◌∷◌, ◌⊎◌, ℕ, ◌-◌, ◌/◌, ◌≤◌, ◌<◌, eqb, leb, ltb, length}
+use Rattle.std.proofs.Common.{sym, ap, inl, inr, arith, lt-ltb, le-ltb, ltb-true, leb-true, eqb-true, eq-eqb, ne_eqb}
 use Rattle.std.proofs.Math.Bool.{and-eq-true_iff}
 use Rattle.std.proofs.Math.Logic.{by_cases}
 use Rattle.std.proofs.Math.Decide.{dec_lt}
 use Rattle.lower.specs.Table.{pairs}
-use Rattle.lower.specs.Lower.{second_of, lower, lowered, flat}
-use Rattle.lower.specs.SearchLaws.{every, second-every}
+use Rattle.lower.specs.Lower.{second_of, lower, flat}
+use Rattle.lower.specs.SearchLaws.{second-every}
 use Rattle.lower.specs.TableLaws.{no_first, is_first, no_second-first, alike, pairs-alike}
 
 pub lower-is : (c : ℕ) → lower c ≡ second_of c pairs

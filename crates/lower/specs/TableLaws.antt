@@ -1,7 +1,6 @@
 -- What is shown over the whole table, by one computed test each. Assumes nothing.
 use Rattle.std.specs.Prelude.{◌≡◌, refl, Bool, true, false, not, ◌&&◌, ◌||◌, List, [], ◌∷◌, ℕ, ◌-◌, ◌/◌, eqb, leb, ltb, length}
 use Rattle.lower.specs.Table.{pairs}
-use Rattle.lower.specs.Lower.{flat}
 use Rattle.lower.specs.SearchLaws.{rising, every}
 
 pub count : length pairs ≡ 1487

@@ -1,6 +1,6 @@
 -- DEMAND 3, one theorem: "Take any corpus in document 01's domain, put its packages in whatever order, and give the bytes and bits that
 -- document 01 lists as passed over whatever values. Nobody can change a section of the report that way."
-use Rattle.std.specs.Prelude.{◌≡◌, refl, List, ◌++◌, map, ℕ, ◌+◌, ◌^◌, ◌<◌, length}
+use Rattle.std.specs.Prelude.{◌≡◌, List, ◌++◌, map, ℕ, ◌^◌, ◌<◌, length}
 use Rattle.std.proofs.Common.{sym, ◌∙◌, ap}
 use Rattle.base.specs.Find.{flat}
 use Rattle.base.specs.Output.{over}

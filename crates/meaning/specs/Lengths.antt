@@ -10,7 +10,6 @@ use Rattle.text.specs.NameLaws.{text_bytes-length}
 use Rattle.base.specs.NumberLaws.{length-be_bytes}
 use Rattle.scriptblock.specs.Script.{Objects}
 use Rattle.zen.specs.Zen.{package_name}
-use Rattle.zen.specs.declared.tables.Export.{Export}
 use Rattle.meaning.specs.Key.{Key}
 use Rattle.meaning.specs.Reference.{Package}
 use Rattle.meaning.specs.Scan.{Class, candidates, table}

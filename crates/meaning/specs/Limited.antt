@@ -2,7 +2,7 @@
 -- asks. Assumes nothing.
 use Rattle.std.specs.Prelude.{◌≡◌, ◌⊎◌, Bool, ◌&&◌, List, ℕ, ◌≤◌, ◌<◌, leb, length}
 use Rattle.meaning.specs.Resolve.{Limits}
-use Rattle.meaning.specs.Call.{Answer, ◌>>=◌, ◌>>◌, need, answer, number_of, buffer_after, Outcome}
+use Rattle.meaning.specs.Call.{Answer, ◌>>◌, need, answer, number_of, buffer_after, Outcome}
 
 -- neither "a lookup limit of 0 or above 64" nor "an object limit of 0 or above 65"
 abbrev pub in_range : Limits → Bool

@@ -2,7 +2,7 @@
 -- limit of the second is smaller, and both accept, a class or native class known in the first is known with the same text in the second"). Both
 -- reports are made of the rows of the same exports of the same packages. That the second accepts is what its look-up needs: within more objects
 -- there may be more classes, and question 24 says that none of them has the key of another.
-use Rattle.std.specs.Prelude.{◌≡◌, refl, false, ℕ}
+use Rattle.std.specs.Prelude.{◌≡◌, false, ℕ}
 use Rattle.std.proofs.Common.{sym, ◌∙◌}
 use Rattle.std.proofs.Math.Path.{ap}
 use mathlib.Core.List.{List, []}

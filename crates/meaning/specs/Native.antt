@@ -1,7 +1,7 @@
 -- The native class that `native_of` gives is the one that the chains of document 01 lead to, and where there is none it gives none.
 use Rattle.std.specs.Prelude.{◌≡◌, ◌↔◌, Bool}
 use Rattle.std.proofs.Math.Path.{refl}
-use Rattle.std.proofs.Common.{sym, ◌∙◌, ap, add-one, eqb-true, eqb→eq}
+use Rattle.std.proofs.Common.{sym, ◌∙◌, add-one, eqb-true, eqb→eq}
 use Rattle.std.proofs.Math.Bool.{true, false}
 use mathlib.Core.List.{List, [], ◌∷◌, ◌++◌, map, reverse, reverse-cons, map-append, append_assoc, append-nil, Memᴰ}
 use Rattle.std.proofs.Math.Option.{Option, none, some}
@@ -17,10 +17,10 @@ use Rattle.scriptblock.specs.Script.{Objects, object_name}
 use Rattle.scriptblock.specs.ScriptGood.{Good, apart_members}
 use Rattle.scriptblock.specs.declared.script.Entry.{Entry}
 use Rattle.meaning.specs.Path.{Path, object_at, separator, added, start, beyond, through, path_of}
-use Rattle.meaning.specs.Reference.{Ref, script}
+use Rattle.meaning.specs.Reference.{Ref}
 use Rattle.meaning.specs.Scan.{Class}
 use Rattle.meaning.specs.Resolve.{Limits, look, follow, native_of}
-use Rattle.meaning.specs.Chain.{Chain, Outers, outermost, within, NativeKnown, dotted, joined, chain_path}
+use Rattle.meaning.specs.Chain.{Outers, outermost, within, NativeKnown, dotted, joined, chain_path}
 use Rattle.meaning.specs.OwnChain.{OneEach, follow_sound, follow_complete}
 
 -- the path's text, one name more

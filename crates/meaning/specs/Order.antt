@@ -22,7 +22,7 @@ use Rattle.meaning.specs.KeyLaws.{same_key→eq, same_key-refl}
 use Rattle.meaning.specs.Scan.{Class}
 use Rattle.meaning.specs.Resolve.{Limits}
 use Rattle.meaning.specs.Report.{report_of}
-use Rattle.meaning.specs.Call.{Answer, refused_in, accepted, ◌>>=◌, ◌>>◌, need, in_block, read_from, Placed, placed_from, has_key, first_repeat, none_twice}
+use Rattle.meaning.specs.Call.{Answer, refused_in, accepted, ◌>>=◌, need, in_block, read_from, Placed, placed_from, has_key, first_repeat, none_twice}
 use Rattle.meaning.specs.Call.{Opened, opened_in, opened, work_bytes, weighed, answer}
 use Rattle.meaning.specs.Table.{or_first, or_second, repeats}
 use Rattle.meaning.specs.Accepted.{Good, packages_in, in_accepted, read-good, good-read}

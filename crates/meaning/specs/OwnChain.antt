@@ -14,7 +14,7 @@ use Rattle.meaning.specs.Key.{Key, same_key}
 use Rattle.meaning.specs.KeyLaws.{same_key→eq, same_key-refl}
 use Rattle.meaning.specs.Reference.{Ref, script, import, export, null, bad, meant}
 use Rattle.meaning.specs.Scan.{Class}
-use Rattle.meaning.specs.Resolve.{look, Walk, stepped, own_chain, ending, follow}
+use Rattle.meaning.specs.Resolve.{look, stepped, own_chain, ending, follow}
 use Rattle.meaning.specs.Call.{has_key}
 use Rattle.meaning.specs.Table.{or_first, or_second, not-true, repeats}
 use Rattle.meaning.specs.Chain.{Chain, empty, listed}

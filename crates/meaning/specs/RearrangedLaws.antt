@@ -1,10 +1,8 @@
 -- The bytes of a corpus whose passed-over values are others: as long, and framed where it was; so the answer stays, refusals included.
-use Rattle.std.specs.Prelude.{◌≡◌, refl, List, ℕ, ◌+◌, ◌^◌, ◌≤◌, ◌<◌}
-use Rattle.std.proofs.Common.{◌∙◌, sym}
+use Rattle.std.specs.Prelude.{◌≡◌, ℕ, ◌^◌, ◌≤◌, ◌<◌}
 use Rattle.std.proofs.Math.Decide.{dec_le}
 use native.Mathlib.Omega.{arith}
 use Rattle.std.proofs.Math.ListN.{length}
-use Rattle.base.specs.Find.{flat, sum}
 use Rattle.base.specs.FindLaws.{length-flat}
 use Rattle.base.specs.Perm.{All, each_all, each-sum}
 use Rattle.meaning.specs.Frame.{Part, Corpus}

@@ -1,5 +1,5 @@
 -- Whole packages in another order: the corpus is accepted where it was, its work and its report are as long, and each section stays.
-use Rattle.std.specs.Prelude.{◌≡◌, refl, List, [], ◌++◌, ℕ}
+use Rattle.std.specs.Prelude.{◌≡◌, List, [], ◌++◌, ℕ}
 use Rattle.std.proofs.Math.Path.{sym}
 use Rattle.std.proofs.Common.{◌∙◌, ap, length-append}
 use Rattle.std.proofs.Math.ListN.{length}

@@ -1,7 +1,7 @@
 -- Rows, sections, the report (document 01, "Report"). Assumes nothing.
 use Rattle.std.specs.Prelude.{List, [], ◌∷◌, ◌++◌, ℕ, ◌+◌, length}
 use Rattle.std.proofs.Math.Option.{Option, none, some}
-use Rattle.base.specs.Find.{flat, sum}
+use Rattle.base.specs.Find.{flat}
 use Rattle.base.specs.House.{length_first}
 use Rattle.base.specs.Literal.{quoted}
 use Rattle.text.specs.Name.{text_bytes}

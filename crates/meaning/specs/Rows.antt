@@ -4,14 +4,14 @@
 -- so this covers both reports of demand 3.
 use Rattle.std.specs.Prelude.{◌≡◌, refl, ◌↔◌, ℕ, length}
 use Rattle.std.proofs.Common.{◌∙◌, ap, arith}
-use mathlib.Core.List.{List, [], ◌∷◌, ◌++◌, append_assoc, Memᴰ}
+use mathlib.Core.List.{List, [], ◌++◌, append_assoc, Memᴰ}
 use Rattle.std.proofs.Math.Option.{Option, none, some}
 use Rattle.base.specs.Find.{flat}
 use Rattle.base.specs.FindLaws.{flat-member}
 use Rattle.base.specs.Literal.{quoted}
 use Rattle.text.specs.Name.{text_bytes}
 use Rattle.base.specs.Number.{be_bytes}
-use Rattle.base.specs.Perm.{All, all-member}
+use Rattle.base.specs.Perm.{all-member}
 use Rattle.base.specs.Reading.{gives, run_block}
 use Rattle.scriptblock.specs.Script.{Objects}
 use Rattle.scriptblock.specs.ScriptGood.{Good, script-good}

@@ -1,6 +1,6 @@
 -- `scan_header` (document 01, "scan.rs"): outers, classes and candidates. Assumes nothing.
-use Rattle.std.specs.Prelude.{Bool, true, false, cond, not, ◌&&◌, ◌||◌, List, [], ◌∷◌, ◌++◌, ℕ, zero, suc, ◌+◌, ◌-◌, eqb, length, take}
-use Rattle.std.proofs.Math.Option.{Option, none, some}
+use Rattle.std.specs.Prelude.{Bool, false, cond, not, ◌&&◌, ◌||◌, List, [], ◌∷◌, ◌++◌, ℕ, ◌+◌, ◌-◌, eqb, length, take}
+use Rattle.std.proofs.Math.Option.{Option, none}
 use Rattle.text.specs.Affix.{starts_with, ends_with}
 use Rattle.base.specs.Find.{get, option, kept, filter, flat}
 use Rattle.base.specs.Index.{kind}

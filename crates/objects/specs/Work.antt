@@ -2,7 +2,7 @@
 -- object i. Its key is 0 and the object's global index; bytes 24 to 43 are: where its outer leads (24), its name's start in the block
 -- (28), twice the name's size, and 1 if it is UTF-16 (32), its instance number (36), the length of its rendered name in UTF-8 (40).
 -- Assumes nothing.
-use Rattle.std.specs.Prelude.{◌≡◌, Bool, true, false, List, ℕ, ◌+◌, ◌*◌, ◌/◌, ◌%◌, ◌^◌, ◌<◌, eqb, length}
+use Rattle.std.specs.Prelude.{◌≡◌, Bool, true, false, List, ℕ, ◌+◌, ◌*◌, ◌/◌, ◌%◌, ◌<◌, eqb, length}
 use Rattle.base.specs.Number.{le_at}
 use Rattle.base.specs.Reading.{gives, run}
 use Rattle.text.specs.Utf8.{utf8}

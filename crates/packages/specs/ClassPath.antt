@@ -1,7 +1,7 @@
 -- A class's path from the places of its names (document 01: "its path is package name, `.`, [outer rendered, `:`,] rendered"). Assumes nothing.
-use Rattle.std.specs.Prelude.{◌≡◌, Bool, List, [], ◌++◌, ℕ, ◌<◌, length, get_or}
+use Rattle.std.specs.Prelude.{◌≡◌, Bool, List, [], ◌++◌, ℕ, ◌<◌, get_or}
 use Rattle.std.proofs.Math.Path.{refl}
-use Rattle.std.proofs.Common.{sym, ◌∙◌, ap, append_assoc, append-nil}
+use Rattle.std.proofs.Common.{sym, append_assoc, append-nil}
 use Rattle.std.proofs.Math.Bool.{true, false}
 use Rattle.text.specs.Affix.{all_ascii}
 use Rattle.base.specs.Choose.{pick}
@@ -10,9 +10,8 @@ use Rattle.base.specs.NumberLaws.{Bytes}
 use Rattle.text.specs.Utf8.{utf8}
 use Rattle.text.specs.Utf8Laws.{utf8_append, utf8-ascii}
 use Rattle.batch.specs.Holds.{Holds, holds-own}
-use Rattle.batch.specs.Places.{place_at}
 use Rattle.zen.specs.Zen.{export_name, package_name}
-use Rattle.meaning.specs.Scan.{outer_of, class_path}
+use Rattle.meaning.specs.Scan.{class_path}
 use Rattle.packages.specs.Package.{read_in, PackageIn}
 use Rattle.packages.specs.PackageLaws.{export-named, home-named, name-holds}
 use Rattle.packages.specs.Row.{export_no, is_local, name_in, home_in, row_in, base_at, whole_at}

@@ -1,6 +1,6 @@
 -- The framing by position: where the packages of a corpus are (document 01: "per package an 8-byte id, a 4-byte length and bytes"), and the
 -- code's answer as a function of what the framing gives. Assumes nothing.
-use Rattle.std.specs.Prelude.{Bool, cond, ◌&&◌, List, [], ◌∷◌, ℕ, zero, suc, ◌+◌, ◌*◌, leb, eqb, length, take, drop}
+use Rattle.std.specs.Prelude.{Bool, cond, ◌&&◌, List, [], ◌∷◌, ℕ, zero, suc, ◌+◌, leb, length, take, drop}
 use Rattle.base.specs.House.{be_number}
 use Rattle.base.specs.Number.{be_at}
 use Rattle.base.specs.Reading.{Out, refused, gives, walk, ◌>>=◌}

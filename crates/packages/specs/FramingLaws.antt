@@ -1,7 +1,7 @@
 -- Laws of the framing by position. Assumes nothing.
-use Rattle.std.specs.Prelude.{◌≡◌, Bool, ◌&&◌, List, [], ◌∷◌, eqb, take, drop, get_or}
+use Rattle.std.specs.Prelude.{◌≡◌, Bool, ◌&&◌, List, ◌∷◌, eqb, take, drop, get_or}
 use Rattle.std.proofs.Math.Path.{refl, sym, ap}
-use Rattle.std.proofs.Common.{◌∙◌, length-take}
+use Rattle.std.proofs.Common.{◌∙◌}
 use Rattle.std.proofs.Math.Bool.{true, false, cond}
 use Prim.Native.Nat.{ℕ, zero, suc, ◌+◌, ◌-◌, ◌≤◌, ◌<◌}
 use native.Mathlib.Omega.{arith}
@@ -15,11 +15,11 @@ use Rattle.base.specs.House.{be_number}
 use Rattle.base.specs.Never.{never}
 use Rattle.base.specs.Number.{be_at}
 use Rattle.base.specs.NumberLaws.{be_at-one}
-use Rattle.base.specs.Reading.{Out, refused, gives, Got, bad, got, Reading, run, walk, ◌>>=◌, ◌>>◌, taken, bytes_left, ask, rows}
+use Rattle.base.specs.Reading.{Out, refused, gives, Got, bad, got, walk, ◌>>=◌, rows}
 use Rattle.base.specs.ReadingLaws.{out, chain, walk_bind, run-walk, pick_cong, pick-by, ask-is}
 use Rattle.base.specs.ReadingRows.{map_got, map-pick, rows-zero, rows-suc}
-use Rattle.meaning.specs.Frame.{Part, Corpus, corpus_version, part, packages, frame, frame_answer, framed}
-use Rattle.meaning.specs.BytesLaws.{ended, sized, versioned, begun, frame_is}
+use Rattle.meaning.specs.Frame.{Corpus, corpus_version, part, packages, frame, frame_answer, framed}
+use Rattle.meaning.specs.BytesLaws.{ended, sized, begun, frame_is}
 use Rattle.packages.specs.Framing.{part_at, next_at, parts_at, inside, package_end, packages_end, frame_of, framed_as, parts_answer}
 use Rattle.packages.specs.declared.frame.Frame.{Frame}
 use Rattle.packages.specs.declared.frame.Framed.TheVariants.{Whole, Broken}

@@ -1,11 +1,11 @@
 -- Laws of what an index means: a reference by the index's kind, a kind by the parts, the words that a caller looks up. Assumes nothing.
 use Rattle.std.specs.Prelude.{◌≡◌, Bool, cond, ◌&&◌, ◌⊎◌, ltb, length, get_or}
 use Rattle.std.proofs.Math.Path.{refl, ap}
-use Rattle.std.proofs.Common.{sym, ◌∙◌, inl, inr, arith, ltb-true, ltb-false, eqb-true, lt-ltb, le-ltb, eq-eqb, ne_eqb}
+use Rattle.std.proofs.Common.{sym, ◌∙◌, inl, inr, arith, ltb-true, ltb-false, eqb-true}
 use Rattle.std.proofs.Math.Bool.{true, false}
 use mathlib.Core.List.{List, [], ◌∷◌}
 use Rattle.std.proofs.Math.Option.{Option, none, some}
-use Prim.Native.Nat.{ℕ, zero, suc, ◌^◌, ◌≤◌, ◌<◌}
+use Prim.Native.Nat.{ℕ, zero, suc, ◌≤◌, ◌<◌}
 use Rattle.std.proofs.Math.Decide.{ℕ_discrete}
 use Rattle.std.proofs.lemmas.Bool.{eqb-false}
 use Rattle.std.proofs.Math.Dec.{eqb}
@@ -20,9 +20,8 @@ use Rattle.meaning.specs.Reference.{Package, Ref, script, import, export, null, 
 use Rattle.meaning.specs.Resolve.{ending}
 use Rattle.packages.specs.Package.{read_in, package_in, PackageIn}
 use Rattle.packages.specs.PackageLaws.{export_count_lem, public-count, imported_count_lem}
-use Rattle.packages.specs.Meaning.{ref_kind, is_import, kind_on, kind_by, nowhere, keyed, key_words, words_of}
+use Rattle.packages.specs.Meaning.{ref_kind, kind_on, kind_by, nowhere, keyed, key_words, words_of}
 use Rattle.packages.specs.declared.package.Parts.{Parts}
-use Rattle.packages.specs.declared.package.Words.{Words}
 
 -- ---- an element by its number
 

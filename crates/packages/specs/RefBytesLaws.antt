@@ -17,7 +17,7 @@ use Rattle.text.specs.Utf8Laws.{utf8_append, utf8-ascii}
 use Rattle.zen.specs.Zen.{Read, no_export, export_name, imported_name}
 use Rattle.zen.specs.declared.tables.Export.{Export}
 use Rattle.meaning.specs.Reference.{Package, Ref, bad_import, bad_export, export_ref, import_ref, ref_by, ref_in, ref_text}
-use Rattle.packages.specs.Package.{read_in, package_in, PackageIn}
+use Rattle.packages.specs.Package.{read_in, PackageIn}
 use Rattle.packages.specs.PackageLaws.{export_count_lem, public-count, imported_count_lem}
 use Rattle.packages.specs.Meaning.{kind_by}
 use Rattle.packages.specs.MeaningLaws.{in_script, in_null, in_export, in_import, in_bad_export, in_bad_import}

@@ -1,15 +1,15 @@
 -- Laws of candidates and their rows. Assumes nothing.
-use Rattle.std.specs.Prelude.{◌≡◌, Bool, cond, ◌&&◌, List, [], ◌∷◌, ◌++◌, ℕ, zero, suc, ◌+◌, ◌*◌, ◌-◌, ◌/◌, ◌≤◌, ◌<◌, ltb, take, drop, get_or}
+use Rattle.std.specs.Prelude.{◌≡◌, Bool, cond, ◌&&◌, List, [], ◌∷◌, ◌++◌, ℕ, zero, suc, ◌+◌, ◌*◌, ◌-◌, ◌≤◌, ◌<◌, ltb, take, drop}
 use Rattle.std.proofs.Math.Path.{refl}
 use Rattle.std.proofs.Common.{sym, ◌∙◌, ap, arith, length-append, length-take, length-drop, length-take-le, take-take}
 use Rattle.std.proofs.Math.Bool.{true, false}
-use Rattle.std.proofs.Math.Option.{Option, none, some}
+use Rattle.std.proofs.Math.Option.{none, some}
 use borrow.Author.Tests.{ltb-true, ltb-false, eqb-true, eq-eqb, ne_eqb}
 use Rattle.std.proofs.Math.Dec.{eqb}
 use Rattle.std.proofs.Math.ListN.{length}
 use Rattle.text.specs.Affix.{starts_with, ends_with, all_ascii}
 use Rattle.text.specs.AffixLaws.{unit_size, ends-true, base-rest}
-use Rattle.base.specs.Find.{get, option}
+use Rattle.base.specs.Find.{option}
 use Rattle.base.specs.Index.{kind}
 use Rattle.text.specs.Name.{decoded, base, suffix, text_bytes}
 use Rattle.base.specs.Never.{never}
@@ -19,7 +19,7 @@ use Rattle.text.specs.UnitsLaws.{base-length, units_of-narrow, units_of-length}
 use Rattle.text.specs.Utf8.{utf8}
 use Rattle.text.specs.Utf8Laws.{utf8_append, utf8-ascii}
 use Rattle.text.specs.Utf16.{well, scalars, is_well, Scalars}
-use Rattle.batch.specs.Holds.{Holds, text_at, name_at, holds-own}
+use Rattle.batch.specs.Holds.{Holds, text_at, holds-own}
 use Rattle.batch.specs.Places.{place_at, part_at}
 use Rattle.batch.specs.declared.places.Place.{Place}
 use Rattle.zen.specs.Zen.{Read, no_export, base_of, export_name}
@@ -28,7 +28,7 @@ use Rattle.meaning.specs.Scan.{outer_of, outer_name, candidate_kind, instance_na
 use Rattle.packages.specs.Package.{read_in, PackageIn}
 use Rattle.packages.specs.PackageLaws.{export_count_lem, export-named, name-holds}
 use Rattle.packages.specs.MeaningLaws.{get-there, get_none}
-use Rattle.packages.specs.Row.{export_no, is_local, name_in, row_with, row_in, base_at, whole_at, instance_base, instance_at, shorter, instance_place, outer_at, names_at, RowHolds}
+use Rattle.packages.specs.Row.{export_no, is_local, row_with, row_in, base_at, whole_at, instance_base, instance_at, shorter, instance_place, names_at, RowHolds}
 use Rattle.packages.specs.declared.package.Parts.{Parts}
 use Rattle.packages.specs.declared.rows.Row.{Row}
 

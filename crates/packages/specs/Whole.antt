@@ -1,14 +1,12 @@
 -- What is read in a block's first bytes is read the same in the whole block: a name's place, a batch that is held, an export. Laws over
 -- zen's definitions. Assumes nothing.
-use Rattle.std.specs.Prelude.{◌≡◌, List, true, length, take, drop, get_or}
+use Rattle.std.specs.Prelude.{◌≡◌, List, length, take, drop}
 use Rattle.std.proofs.Math.Path.{refl}
-use Rattle.std.proofs.Common.{sym, ◌∙◌, ap, ap₂, arith, length-take-le, take-take}
-use Prim.Native.Nat.{ℕ, zero, suc, ◌+◌, ◌*◌, ◌-◌, ◌≤◌, ◌<◌}
+use Rattle.std.proofs.Common.{◌∙◌, ap, arith, length-take-le, take-take}
+use Prim.Native.Nat.{ℕ, zero, suc, ◌+◌, ◌*◌, ◌-◌, ◌≤◌}
 use Rattle.std.proofs.Math.Seq.{get_or-take}
-use Rattle.text.specs.Name.{decoded}
 use Rattle.base.specs.Number.{le_at}
 use Rattle.base.specs.NumberLaws.{le_at-part, drop-take}
-use Rattle.text.specs.Utf16.{is_well}
 use Rattle.batch.specs.Batch.{head_at}
 use Rattle.batch.specs.Field.{low30}
 use Rattle.batch.specs.Places.{name_start, place_at, part_at, Held}

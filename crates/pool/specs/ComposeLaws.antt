@@ -14,8 +14,8 @@ use Rattle.batch.specs.Places.{place_at}
 use Rattle.batch.specs.Holds.{name_at}
 use Rattle.batch.specs.declared.places.Place.{Place}
 use Rattle.scriptblock.specs.Script.{Objects, object_name}
-use Rattle.meaning.specs.Path.{Path, added}
-use Rattle.objects.specs.Numbers.{entry_no, link_of, path_no}
+use Rattle.meaning.specs.Path.{Path}
+use Rattle.objects.specs.Numbers.{entry_no, path_no}
 use Rattle.objects.specs.PathLaws.{path-up, place_no_lem, number_no_lem, outer_no}
 use Rattle.objects.specs.PathLength.{path-short}
 use Rattle.objects.specs.PutLaws.{stands-top, outer-inside}
@@ -26,7 +26,7 @@ use Rattle.objects.specs.WorkLaws.{name_no}
 use Rattle.objects.specs.declared.object.Object.{Object}
 use Rattle.objects.specs.declared.path.Path.{Path as Told}
 use Rattle.objects.specs.declared.path.Path.TheVariants.{Known, Unknown}
-use Rattle.pool.specs.Pool.{Stood, TextOf}
+use Rattle.pool.specs.Pool.{TextOf}
 
 -- a path of which so much is told
 pub known-path : (x : Option Path) {k d : ℕ} → Known k d ≡ told x → (p : Path) × (x ≡ some p) × (k ≡ length (utf8 p.text)) × (d ≡ p.depth)

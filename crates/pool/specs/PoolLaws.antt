@@ -15,17 +15,16 @@ use Rattle.table.specs.Table.{cleared}
 use Rattle.table.specs.TableLaws.{cleared-kept}
 use Rattle.table.specs.Words.{mid, put, stored, Kept}
 use Rattle.table.specs.WordLaws.{kept-part, kept_read, kept-none, kept_then, kept_wider, mid-length, put_inner, stored-kept, stored-read}
-use Rattle.objects.specs.Work.{Stands}
 use Rattle.objects.specs.declared.object.Object.{Object}
 use Rattle.resolve.specs.ClassesLaws.{classes-kept}
 use Rattle.resolve.specs.Lent.{lent-rest}
 use Rattle.resolve.specs.MarkLaws.{row-behind, marks-whole}
 use Rattle.resolve.specs.Marks.{MarksKept}
 use Rattle.resolve.specs.ResolvingLaws.{kept-drop}
-use Rattle.resolve.specs.Rows.{row_at, led_at, columns_of, object_number, Tables, TargetIn, TargetsIn, Resolved}
+use Rattle.resolve.specs.Rows.{row_at, led_at, columns_of, object_number, Tables, TargetIn, Resolved}
 use Rattle.resolve.specs.RowsLaws.{object-inside}
 use Rattle.resolve.specs.declared.rows.Led.{Led}
-use Rattle.pool.specs.Pool.{Stood, TextOf, TextAt, TextIn, Left, Done, State, same_columns, Before, noted, TextPut, RowStood, Pooled}
+use Rattle.pool.specs.Pool.{Stood, TextAt, TextIn, Left, Done, State, same_columns, Before, noted, TextPut, RowStood, Pooled}
 
 -- ---- what a change leaves
 

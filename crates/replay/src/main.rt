@@ -2,6 +2,7 @@
 // CityHash64, which list.sum has too, then each case that differs, and how many do.
 
 #![tactic(auto)]
+
 ghost use Rattle.std.specs.Prelude.{◌≤◌, length, IfOk};
 
 use std::fs::File;

@@ -1,6 +1,6 @@
 -- The rest of a buffer lent from a place on, `&mut w[a..]`: what is lent, and the buffer when ys came back. Assumes nothing.
 use Rattle.std.specs.Prelude.{◌≡◌, List, ◌++◌, ℕ, ◌-◌, ◌≤◌, length, take, drop}
-use Rattle.std.proofs.Common.{◌∙◌, ap, append-nil, arith, length-append, length-drop, drop_of_length-le, length-take-le, take_all, take_at, drop_at}
+use Rattle.std.proofs.Common.{append-nil, arith, length-append, length-drop, drop_of_length-le, length-take-le, take_all, take_at, drop_at}
 use Rattle.table.specs.Words.{put}
 
 module _ (a : ℕ) (w : List ℕ) where

@@ -1,5 +1,5 @@
 -- Laws of marks: one export more, what a mark tells, how the marks of packages follow each other, and what leaves them as they were. Assumes nothing.
-use Rattle.std.specs.Prelude.{◌≡◌, Bool, not, ◌⊎◌, eqb, take, drop, get_or}
+use Rattle.std.specs.Prelude.{◌≡◌, Bool, not, ◌⊎◌, take, drop, get_or}
 use Rattle.std.proofs.Math.Path.{refl}
 use Rattle.std.proofs.Common.{sym, ◌∙◌, ap, inl, inr, add-zero, add-one, eq-eqb, length-append, length-drop, take-suc, length-take-le, get_or-append-add}
 use Rattle.std.proofs.Math.Bool.{true, false, cond}

@@ -3,7 +3,7 @@
 -- all 0 where there is none; where that object's text stands, and its size (20, 24: crates/pool); its mark (28: Marks). Then the whole work buffer, and
 -- what linking changes in it. Assumes nothing.
 use Rattle.std.specs.Prelude.{◌≡◌, ◌⊎◌, List, ℕ, zero, suc, ◌+◌, ◌*◌, ◌-◌, ◌^◌, ◌≤◌, ◌<◌, length, take, drop, get_or}
-use Rattle.std.proofs.Math.Option.{Option, none, some}
+use Rattle.std.proofs.Math.Option.{Option, none}
 use Rattle.base.specs.Find.{option, sum}
 use Rattle.base.specs.Number.{le_at}
 use Rattle.base.specs.NumberLaws.{Bytes}

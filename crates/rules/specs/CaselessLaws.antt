@@ -1,5 +1,5 @@
 -- Where characters are caseless, lowering A to Z is lowering. Assumes nothing.
-use Rattle.std.specs.Prelude.{◌≡◌, refl, Bool, true, false, ◌&&◌, ◌||◌, ◌⊎◌, ℕ, ◌≤◌, ◌<◌, leb, ltb}
+use Rattle.std.specs.Prelude.{◌≡◌, refl, true, ◌&&◌, ◌||◌, ◌⊎◌, ℕ, ◌≤◌, ◌<◌, leb, ltb}
 use Rattle.std.proofs.Common.{sym, ◌∙◌, inl, inr, arith, lt-ltb, leb-true, ltb-true}
 use Rattle.std.proofs.Math.Bool.{and-eq-true_iff}
 use Rattle.lower.specs.Ascii.{lower_ascii}

@@ -1,7 +1,7 @@
 -- Laws of lowering by rules: a run of characters under one rule by one computed test over the run, a gap between the table's firsts by one
 -- over the table. Assumes nothing.
-use Rattle.std.specs.Prelude.{◌≡◌, refl, Bool, true, false, cond, not, ◌&&◌, ◌||◌, List, [], ◌∷◌, ◌⊎◌, ℕ, zero, suc, ◌+◌, ◌%◌, ◌≤◌, ◌<◌, eqb, leb, ltb}
-use Rattle.std.proofs.Common.{sym, ◌∙◌, inl, inr, arith, eqb-true, le-leb, lt-ltb, le-ltb, leb-true, ltb-true}
+use Rattle.std.specs.Prelude.{◌≡◌, refl, Bool, true, false, cond, ◌&&◌, ◌||◌, List, [], ◌∷◌, ◌⊎◌, ℕ, zero, suc, ◌+◌, ◌%◌, ◌≤◌, ◌<◌, eqb, leb, ltb}
+use Rattle.std.proofs.Common.{◌∙◌, inl, inr, arith, eqb-true, le-ltb, leb-true, ltb-true}
 use Rattle.std.proofs.Math.Bool.{and-eq-true_iff}
 use Rattle.std.proofs.Math.Logic.{by_cases}
 use Rattle.std.proofs.Math.Decide.{dec_lt}

@@ -1,17 +1,17 @@
 -- All that a caller needs of an accepted script block, in one place: what was read of it, how much of it there is, what its names' places
 -- hold, and which entry has a global index. Assumes nothing.
-use Rattle.std.specs.Prelude.{◌≡◌, refl, true, false, List, [], ℕ, zero, suc, ◌+◌, ◌*◌, ◌≤◌, ◌<◌, eqb, length, get_or}
+use Rattle.std.specs.Prelude.{◌≡◌, refl, List, [], ℕ, ◌+◌, ◌*◌, ◌<◌, length, get_or}
 use Rattle.std.proofs.Common.{sym, ◌∙◌, ap, arith, eqb-true, eq-eqb, ne_eqb}
 use Rattle.std.proofs.lemmas.Bool.{eqb-false}
 use Rattle.base.specs.Index.{kind}
 use Rattle.base.specs.NumberLaws.{Bytes}
 use Rattle.base.specs.Reading.{gives, run}
-use Rattle.base.specs.SeekLaws.{First, Never, never-seek, first-seek, seek-never, seek-first}
+use Rattle.base.specs.SeekLaws.{never-seek, first-seek, seek-never, seek-first}
 use Rattle.batch.specs.Places.{place_at}
 use Rattle.batch.specs.Holds.{Holds, holds-name}
 use Rattle.scriptblock.specs.Script.{Objects, script}
 use Rattle.scriptblock.specs.ScriptAnswers.{entry_at, no_entry, script_answer, entries_of, object_names}
-use Rattle.scriptblock.specs.ScriptAccepted.{accepted-objects, answer_of, entries_of_lem, names_of_lem, ScriptParts, script-parts, entry-count, name-count, entry-is, entry-inside}
+use Rattle.scriptblock.specs.ScriptAccepted.{accepted-objects, answer_of, entries_of_lem, names_of_lem, script-parts, entry-count, name-count, entry-is}
 use Rattle.scriptblock.specs.Objects.{entry_number}
 use Rattle.scriptblock.specs.declared.script.Entry.{Entry}
 use Rattle.scriptblock.specs.declared.script.Layout.{Layout}

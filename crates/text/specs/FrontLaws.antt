@@ -3,7 +3,7 @@ use Rattle.std.specs.Prelude.{◌≡◌, refl, Bool, true, false, cond, ◌⊎�
 use Rattle.std.proofs.Common.{sym, ◌∙◌, ap, inl, inr, add-zero, zero-add, suc-add, pow-suc, arith, lt-ltb, le-ltb, ltb-true, ltb-false, length-drop, get_or-drop, length-take-le}
 use Rattle.std.proofs.Math.Bool.{and-eq-true_iff}
 use mathlib.Core.List.{List, [], ◌∷◌, ◌++◌}
-use Prim.Native.Nat.{ℕ, zero, suc, ◌+◌, ◌*◌, ◌-◌, ◌/◌, ◌%◌, ◌^◌, ◌≤◌, ◌<◌}
+use Prim.Native.Nat.{ℕ, zero, suc, ◌+◌, ◌*◌, ◌/◌, ◌%◌, ◌^◌, ◌≤◌, ◌<◌}
 use Rattle.std.specs.Int.Bits.{bit_and, block_half, block_odd, shifted_half, shifted_even}
 use Rattle.std.proofs.lemmas.Nat.{and_le_r, and_block}
 use Rattle.std.proofs.lemmas.Nat.Bits.{and_high}

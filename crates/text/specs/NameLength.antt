@@ -3,7 +3,7 @@ use Rattle.std.specs.Prelude.{List, [], ◌∷◌, ◌++◌, ℕ, ◌+◌, ◌*�
 use Rattle.std.proofs.Common.{arith, length-append}
 use Rattle.text.specs.Name.{suffix}
 use Rattle.text.specs.NameLaws.{suffix-ascii, suffix-short}
-use Rattle.text.specs.Utf8.{utf8_one, utf8}
+use Rattle.text.specs.Utf8.{utf8}
 use Rattle.text.specs.Utf8Laws.{utf8_one-length, utf8_append, utf8-ascii}
 
 -- four for each scalar value

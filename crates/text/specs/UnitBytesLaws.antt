@@ -1,5 +1,5 @@
 -- Laws of the bytes of units, in parts. Assumes nothing.
-use Rattle.std.specs.Prelude.{◌≡◌, refl, List, [], ◌∷◌, ◌++◌, ℕ, zero, suc, ◌+◌, ◌*◌, length, take, drop}
+use Rattle.std.specs.Prelude.{◌≡◌, refl, List, [], ◌∷◌, ◌++◌, ℕ, zero, suc, ◌*◌, length, take, drop}
 use Rattle.std.proofs.Common.{arith}
 use Rattle.text.specs.Utf16.{unit_bytes}
 

@@ -1,6 +1,7 @@
 // Layer 1's functions for tests and benchmarks in other languages.
 
 #![tactic(auto)]
+
 ghost use Rattle.std.specs.Prelude.{◌≡◌, length};
 ghost use Rattle.lower.specs.Lower.{lower};
 ghost use Rattle.city.specs.City.{city_hash64};

@@ -1,6 +1,7 @@
 // What C sees of `textapi`, for tests and benchmarks in other languages. The functions and their clauses are those of `textapi`.
 
 #![tactic(auto)]
+
 ghost use Rattle.std.specs.Prelude.{◌≡◌, length};
 ghost use Rattle.lower.specs.Lower.{lower};
 ghost use Rattle.city.specs.City.{city_hash64};

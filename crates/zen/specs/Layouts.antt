@@ -5,7 +5,7 @@ use Rattle.std.proofs.Math.Decide.{dec_le}
 use Rattle.base.specs.Choose.{pick}
 use Rattle.base.specs.Number.{le_at}
 use Rattle.base.specs.Reading.{gives, Got, bad, got, run_block, walk, rows}
-use Rattle.base.specs.ReadingLaws.{walk_bind, chain_by, pick-by, ask-by, bad-got, walk-within, out}
+use Rattle.base.specs.ReadingLaws.{walk_bind, chain_by, pick-by, ask-by, bad-got, out}
 use Rattle.base.specs.ReadingGives.{refused-gives}
 use Rattle.base.specs.ReadingRows.{cells}
 use Rattle.batch.specs.Batch.{u32, Batch, batch, some_names, body, strings, head_at}

@@ -1,6 +1,6 @@
 -- All that a caller needs of an accepted package, in one place: what was read of it, how much of each there is, what its names' places
 -- hold. With it the accessors' promises are about what was read, and nothing of the reading is opened. Assumes nothing.
-use Rattle.std.specs.Prelude.{◌≡◌, refl, ℕ, ◌+◌, ◌*◌, ◌≤◌, ◌<◌, take}
+use Rattle.std.specs.Prelude.{◌≡◌, refl, ℕ, ◌*◌, ◌≤◌, ◌<◌, take}
 use Rattle.std.proofs.Math.Path.{sym, ap}
 use Rattle.std.proofs.Common.{◌∙◌}
 use mathlib.Core.List.{List, [], ◌++◌}
@@ -14,7 +14,7 @@ use Rattle.batch.specs.declared.places.Place.{Place}
 use Rattle.zen.specs.Zen.{Read, package_block, no_export, imported_name, package_name}
 use Rattle.zen.specs.Answers.{answer, exports_of, hashes_of, names_of, imported_of, numbers_of, imported_name_of, package_name_of, export_count, hash_count}
 use Rattle.zen.specs.AnswersLaws.{accepted-got}
-use Rattle.zen.specs.Accepted.{Parts, parts}
+use Rattle.zen.specs.Accepted.{parts}
 use Rattle.zen.specs.PackageLaws.{name-count, imported_count_lem, number-count, export-index, name-text, imported-text}
 use Rattle.zen.specs.declared.zen.Layout.{Layout}
 use Rattle.zen.specs.declared.zen.Package.TheVariants.{Accepted}

@@ -3,7 +3,7 @@ use Rattle.std.specs.Prelude.{◌≡◌, refl, true, false, List, [], ◌∷◌,
 use Rattle.text.specs.Digits.{decimal, digits}
 use Rattle.text.specs.Name.{decoded}
 use Rattle.base.specs.Number.{le_at}
-use Rattle.base.specs.Reading.{Out, refused, gives, Got, bad, got, rows}
+use Rattle.base.specs.Reading.{Out, refused, gives, bad, got, rows}
 use Rattle.base.specs.Signed.{twos}
 use Rattle.text.specs.Utf16.{utf16, units}
 use Rattle.batch.specs.Cursor.{worded, word_at}

@@ -1,6 +1,7 @@
 // Layer 2's functions for tests and benchmarks in other languages. What is not there is answered by 2^64 - 1.
 
 #![tactic(auto)]
+
 pub mod package; // a package block
 pub mod script; // a script block
 pub mod names; // a package's imported ids, and what it costs to reach names

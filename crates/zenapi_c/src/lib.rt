@@ -1,6 +1,7 @@
 // What C sees of `zenapi`, for tests and benchmarks in other languages. The functions and their clauses are those of `zenapi`.
 
 #![tactic(auto)]
+
 ghost use Rattle.std.specs.Prelude.{◌≡◌, get_or, length};
 ghost use Rattle.zen.specs.Answers.{hashes_of};
 ghost use Rattle.zenapi.specs.Answers.{package_in, id_answer, ends_answer, none, refusal, counts, export_answer, script_in, object_answer};

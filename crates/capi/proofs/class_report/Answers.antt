@@ -1,5 +1,4 @@
 -- `capi::class_report` meets its contract: 29 first, then the call within its limits.
-use borrow.Author.Rules.{rules}
 use Rattle.capi.proofs.Range.{few-objects, called_in, called_out}
 use Rattle.capi.proofs.class_report.Goals as goal
 

@@ -1,6 +1,5 @@
 -- `textapi::is_fine` meets its contract, by the test of the length. Assumes nothing.
 use mathlib.Core.Path.{◌∙◌}
-use borrow.Author.Rules.{rules}
 use Rattle.textapi.proofs.Fine.{fine-short, fine-long}
 use Rattle.textapi.proofs.is_fine.Goals as goal
 

@@ -1,6 +1,5 @@
 -- `text_lower`: the rules where they answer, else the table. Assumes nothing.
 use native.Mathlib.Omega.{arith}
-use borrow.Author.Rules.{rules}
 use Rattle.rules.specs.QuickLaws.{quick-answer}
 use Rattle.textapi.proofs.text_lower.Goals as goal
 

@@ -1,6 +1,5 @@
 -- `textapi::text_name_id` meets its contract, by whether the part is a text. Assumes nothing.
 use mathlib.Core.Path.{sym, ◌∙◌}
-use borrow.Author.Rules.{rules}
 use Rattle.textapi.specs.Answers.{id_answer}
 use Rattle.textapi.proofs.Fine.{fine-parts}
 use Rattle.textapi.proofs.text_name_id.Goals as goal

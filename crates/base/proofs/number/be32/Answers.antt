@@ -1,5 +1,4 @@
 -- `number::be32` meets its contract: four bytes, written out. Assumes nothing.
-use borrow.Author.Rules.{rules}
 use mathlib.Core.Path.{sym, ◌∙◌}
 use Rattle.base.specs.NumberLaws.{be_at_4}
 use Rattle.base.proofs.number.be32.Goals as goal

@@ -1,5 +1,4 @@
 -- `number::be64` meets its contract: four bytes and then four. Assumes nothing.
-use borrow.Author.Rules.{rules}
 use native.Mathlib.Omega.{arith}
 use Rattle.base.specs.NumberLaws.{be_at-add}
 use Rattle.base.proofs.number.be64.Goals as goal

@@ -1,5 +1,4 @@
 -- `number::le16` meets its contract: two bytes, written out. Assumes nothing.
-use borrow.Author.Rules.{rules}
 use native.Mathlib.Omega.{arith}
 use Rattle.base.specs.NumberLaws.{le_at_2}
 use Rattle.base.proofs.number.le16.Goals as goal

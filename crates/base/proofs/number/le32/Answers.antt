@@ -1,5 +1,4 @@
 -- `number::le32` meets its contract: four bytes, written out. Assumes nothing.
-use borrow.Author.Rules.{rules}
 use mathlib.Core.Path.{sym, ◌∙◌}
 use Rattle.base.specs.NumberLaws.{le_at_4}
 use Rattle.base.proofs.number.le32.Goals as goal

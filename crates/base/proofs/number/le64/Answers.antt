@@ -1,5 +1,4 @@
 -- `number::le64` meets its contract: four bytes and then four. Assumes nothing.
-use borrow.Author.Rules.{rules}
 use native.Mathlib.Omega.{arith}
 use Rattle.base.specs.NumberLaws.{le_at-add}
 use Rattle.base.proofs.number.le64.Goals as goal

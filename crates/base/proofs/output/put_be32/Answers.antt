@@ -1,5 +1,4 @@
 -- `output::put_be32` meets its contract: four stores at fixed places. Assumes nothing.
-use borrow.Author.Rules.{rules}
 use native.Mathlib.Omega.{arith}
 use lib.ListN.{length-set}
 use Rattle.base.specs.OutputLaws.{wrote_stores}

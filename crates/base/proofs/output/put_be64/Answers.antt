@@ -1,5 +1,4 @@
 -- `output::put_be64` meets its contract: the four high bytes and then the four low ones. Assumes nothing.
-use borrow.Author.Rules.{rules}
 use mathlib.Core.Path.{sym, ◌∙◌}
 use native.Mathlib.Omega.{arith}
 use Rattle.base.specs.OutputLaws.{wrote-room, wrote-rest, wrote_as}

@@ -1,5 +1,4 @@
 -- `output::put_byte` meets its contract. Assumes nothing.
-use borrow.Author.Rules.{rules}
 use Rattle.base.specs.OutputLaws.{wrote_none, wrote-byte}
 use Rattle.base.proofs.output.put_byte.Goals as goal
 

@@ -1,10 +1,7 @@
 -- `output::put_bytes` meets its contract. The invariant: the first i bytes were written. Assumes nothing.
 use mathlib.Core.Path.{◌≡◌}
 use Prim.Native.Nat.{◌≤◌, ◌-◌}
-use native.Mathlib.Omega.{arith}
 use lib.ListN.{length, take}
-use lib.Seq.{take-length}
-use Rattle.base.specs.OutputLaws.{wrote_none, wrote-length, wrote-copy, wrote_as}
 use Rattle.base.specs.Output.{Wrote}
 use Rattle.base.proofs.output.put_bytes.Given as goal
 

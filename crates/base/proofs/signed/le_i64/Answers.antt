@@ -1,5 +1,4 @@
 -- `signed::le_i64` meets its contract, by those of `le64` and `signed64`. Assumes nothing.
-use borrow.Author.Rules.{rules}
 use mathlib.Core.Path.{ap, ◌∙◌}
 use mir.Syntax.{w64}
 use mir.Facts.{to_z-of_z}

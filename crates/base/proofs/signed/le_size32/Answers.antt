@@ -1,5 +1,4 @@
 -- `signed::le_size32` meets its contract, by those of `le_i32` and `size32`. Assumes nothing.
-use borrow.Author.Rules.{rules}
 use mathlib.Core.Path.{ap, ◌∙◌}
 use mir.Syntax.{w32}
 use mir.Facts.{to_z-of_z}

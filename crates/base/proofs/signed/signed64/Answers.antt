@@ -1,5 +1,4 @@
 -- `signed::signed64` meets its contract, by the laws over the width. Assumes nothing.
-use borrow.Author.Rules.{rules}
 use mathlib.Core.Path.{refl}
 use mir.Syntax.{w64}
 use Rattle.base.proofs.Signs.{to_z-twos, flipped-fits, flipped-twos}

@@ -1,7 +1,6 @@
 -- `batch::cursor::pos_behind` meets its contract, by what the read found.
 use mathlib.Core.Path.{◌≡◌}
 use Prim.Native.Nat.{ℕ}
-use borrow.Author.Rules.{rules}
 use Rattle.batch.specs.Cursor.{behind}
 use Rattle.batch.specs.declared.cursor.Word.{Word}
 use Rattle.batch.specs.declared.cursor.Word.TheVariants.{Got, Short}

@@ -2,7 +2,6 @@
 use mathlib.Core.Path.{sym, ◌∙◌, ap}
 use Prim.Native.Nat.{ℕ, ◌+◌}
 use native.Mathlib.Omega.{arith}
-use borrow.Author.Rules.{rules}
 use Rattle.batch.specs.CursorLaws.{word-there, word-missing}
 use Rattle.batch.specs.declared.cursor.Word.TheVariants.{Got}
 use Rattle.batch.proofs.cursor.u32_from.Goals as goal

@@ -2,16 +2,12 @@
 use mathlib.Core.Path.{◌≡◌, refl, sym, ◌∙◌}
 use mathlib.Core.Bool.{Bool}
 use mathlib.Core.List.{List}
-use Prim.Native.Nat.{ℕ, ◌+◌, ◌*◌, ◌-◌, ◌≤◌}
+use Prim.Native.Nat.{ℕ, ◌+◌, ◌-◌}
 use native.Mathlib.Omega.{arith}
-use borrow.Author.Tests.{not-true, not-false}
-use lib.ListN.{length, take, drop}
+use lib.ListN.{take, drop}
 use Rattle.text.specs.Utf16.{is_well}
 use Rattle.text.specs.Name.{decoded}
-use Rattle.base.specs.Reading.{walk}
-use Rattle.base.specs.ReadingRows.{cells}
-use Rattle.batch.specs.Batch.{head_at, strings}
-use Rattle.batch.specs.BatchAnswers.{checked}
+use Rattle.batch.specs.Batch.{head_at}
 use Rattle.batch.specs.BatchLaws.{names-none, names-left, names-out, names-ill, names-pass}
 use Rattle.batch.specs.declared.names.Head.{Head}
 use Rattle.batch.proofs.names.check_names.Goals as goal

@@ -11,7 +11,6 @@ use Rattle.batch.specs.BatchAnswers.{batched}
 use Rattle.batch.specs.BatchLaws.{batch-is}
 use Rattle.batch.specs.declared.names.NameBatch.{NameBatch}
 use Rattle.batch.specs.declared.names.NameBatch.TheVariants.{Found, Refused}
-use borrow.Author.Rules.{rules}
 use Rattle.batch.proofs.names.read_batch.Goals as goal
 
 module _ (s : List ℕ) (at : ℕ) where

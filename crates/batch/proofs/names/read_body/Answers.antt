@@ -14,7 +14,6 @@ use Rattle.batch.specs.BatchLaws.{strings-got, body-hashes, body-heads, body-roo
 use Rattle.batch.specs.declared.names.Checked.{Checked}
 use Rattle.batch.specs.declared.names.Checked.TheVariants.{Passed, Failed}
 use Rattle.batch.specs.declared.names.NameBatch.TheVariants.{Found, Refused}
-use borrow.Author.Rules.{rules}
 use Rattle.batch.proofs.names.read_body.Goals as goal
 
 module _ (s : List ℕ) (at n room : ℕ) where

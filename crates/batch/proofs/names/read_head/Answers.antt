@@ -2,7 +2,6 @@
 use native.Mathlib.Omega.{arith}
 use borrow.Author.Tests.{le-leb, lt-leb}
 use Rattle.batch.specs.Batch.{head_at, head_of}
-use borrow.Author.Rules.{rules}
 use Rattle.batch.proofs.names.read_head.Goals as goal
 
 pub returns-then-a-ge128 : goal.returns-then-a-ge128

@@ -14,7 +14,6 @@ use Rattle.batch.specs.BatchAnswers.{batched}
 use Rattle.batch.specs.BatchLaws.{some_is}
 use Rattle.batch.specs.declared.names.NameBatch.{NameBatch}
 use Rattle.batch.specs.declared.names.NameBatch.TheVariants.{Refused}
-use borrow.Author.Rules.{rules}
 use Rattle.batch.proofs.names.read_some.Goals as goal
 
 module _ (s : List ℕ) (at n : ℕ) where

@@ -1,7 +1,6 @@
 -- `note_each` meets its contract: each turn notes where a name starts.
 use Prim.Native.Nat.{◌-◌}
-use native.Mathlib.Omega.{arith}
-use Rattle.batch.proofs.Noting.{Each, each_first, each-small, each-head, each_next, each_end}
+use Rattle.batch.proofs.Noting.{Each}
 use Rattle.batch.proofs.notes.note_each.Given as goal
 
 abbrev pub invariant-loop-k : goal.invariant-loop-k

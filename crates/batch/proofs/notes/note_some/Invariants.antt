@@ -1,9 +1,7 @@
 -- `note_some` meets its contract: each turn notes where a name starts and goes on to the next to note.
 use Prim.Native.Nat.{◌-◌}
-use native.Mathlib.Omega.{arith}
-use lib.ListN.{length-set}
 use Rattle.batch.specs.Notes.{note_count}
-use Rattle.batch.proofs.Noting.{Going, going_first, going_next, going_end, going_full, going_inside, going_step}
+use Rattle.batch.proofs.Noting.{Going}
 use Rattle.batch.proofs.notes.note_some.Given as goal
 
 abbrev pub invariant-loop-k : goal.invariant-loop-k

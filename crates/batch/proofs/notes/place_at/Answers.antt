@@ -1,6 +1,5 @@
 -- `place_at` meets its contract: where the name starts, and what its header says.
 use Rattle.batch.specs.Places.{place_at}
-use borrow.Author.Rules.{rules}
 use Rattle.batch.proofs.notes.place_at.Goals as goal
 
 pub returns : goal.returns

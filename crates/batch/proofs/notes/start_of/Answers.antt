@@ -1,8 +1,6 @@
 -- `start_of` meets its contract: the names from the nearest note lead to name i.
-use mathlib.Core.Path.{◌≡◌}
 use native.Mathlib.Omega.{arith}
 use Rattle.batch.proofs.Noting.{Near, near, near-start, start-inside}
-use borrow.Author.Rules.{rules}
 use Rattle.batch.proofs.notes.start_of.Goals.{After-step_of-step}
 use Rattle.batch.proofs.notes.start_of.Goals as goal
 

@@ -1,10 +1,8 @@
 -- `name_start` meets its contract: each turn goes one name on.
-use Prim.Native.Nat.{◌+◌, ◌*◌, ◌-◌, ◌≤◌}
-use mathlib.Core.Path.{◌≡◌, refl, sym, ◌∙◌}
+use Prim.Native.Nat.{◌+◌, ◌-◌}
+use mathlib.Core.Path.{refl, sym, ◌∙◌}
 use native.Mathlib.Omega.{arith}
-use lib.ListN.{length}
 use Rattle.batch.specs.Batch.{head_at}
-use Rattle.batch.specs.Places.{name_start}
 use Rattle.batch.specs.PlacesLaws.{start_none, start-step, start_mono}
 use Rattle.batch.proofs.places.name_start.Goals as goal
 

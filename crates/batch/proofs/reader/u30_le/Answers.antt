@@ -1,7 +1,6 @@
 -- `batch::reader::u30_le` meets its contract.
 use mathlib.Core.Path.{sym, ap, ◌∙◌}
 use native.Mathlib.Omega.{arith}
-use borrow.Author.Rules.{rules}
 use Rattle.base.specs.Index.{name_index}
 use Rattle.batch.specs.Field.{low30-is}
 use Rattle.batch.proofs.reader.u30_le.Goals as goal

@@ -1,6 +1,5 @@
 -- `part_of` meets its contract.
 use native.Mathlib.Nat.{add-sub_cancel_left}
-use borrow.Author.Rules.{rules}
 use Rattle.batch.proofs.texts.part_of.Goals as goal
 
 pub returns : goal.returns

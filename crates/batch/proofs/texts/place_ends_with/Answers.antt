@@ -1,5 +1,4 @@
 -- `place_ends_with` meets its contract: the part is the one at the place.
-use borrow.Author.Rules.{rules}
 use Rattle.batch.proofs.texts.place_ends_with.Goals as goal
 
 pub ends_with-requires : goal.ends_with-requires

@@ -2,7 +2,6 @@
 use native.Mathlib.Omega.{arith}
 use lib.ListN.{length-take}
 use Rattle.batch.specs.Holds.{holds-short}
-use borrow.Author.Rules.{rules}
 use Rattle.batch.proofs.texts.place_len.Goals as goal
 
 pub name_len-requires : goal.name_len-requires

@@ -1,5 +1,4 @@
 -- `place_starts_with` meets its contract: the part is the one at the place.
-use borrow.Author.Rules.{rules}
 use Rattle.batch.proofs.texts.place_starts_with.Goals as goal
 
 pub starts_with-requires : goal.starts_with-requires

@@ -1,5 +1,4 @@
 -- `put_place` meets its contract: the part is the one at the place.
-use borrow.Author.Rules.{rules}
 use Rattle.batch.proofs.texts.put_place.Goals as goal
 
 pub put_name-requires : goal.put_name-requires

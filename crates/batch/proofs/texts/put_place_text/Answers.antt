@@ -1,7 +1,6 @@
 -- `put_place_text` meets its contract: the part is the one at the place.
 use native.Mathlib.Omega.{arith}
 use Rattle.batch.specs.Holds.{holds-short}
-use borrow.Author.Rules.{rules}
 use Rattle.batch.proofs.texts.put_place_text.Goals as goal
 
 pub put_name_text-requires : goal.put_name_text-requires

@@ -1,5 +1,4 @@
 -- `city::first_state` computes `start`. Assumes nothing.
-use Rattle.std.proofs.Common.{rules}
 use Rattle.city.specs.City.{start}
 use Rattle.city.proofs.city.first_state.Goals as goal
 

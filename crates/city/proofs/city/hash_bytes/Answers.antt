@@ -1,5 +1,5 @@
 -- `city::hash_bytes` computes `hash_bytes`: no shift of a byte loses a bit. Assumes nothing.
-use Rattle.std.proofs.Common.{lit≤, shl_exact, rules}
+use Rattle.std.proofs.Common.{lit≤, shl_exact}
 use Rattle.city.specs.City.{hash_bytes}
 use Rattle.city.proofs.city.hash_bytes.Goals as goal
 

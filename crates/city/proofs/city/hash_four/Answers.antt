@@ -1,5 +1,4 @@
 -- `city::hash_four` computes `hash_four`. Assumes nothing.
-use Rattle.std.proofs.Common.{rules}
 use Rattle.city.specs.City.{hash_four}
 use Rattle.city.proofs.city.hash_four.Goals as goal
 

@@ -1,5 +1,5 @@
 -- `city::hash_halves` computes `hash_halves`: the shift of a u32 loses no bit. Assumes nothing.
-use Rattle.std.proofs.Common.{◌^◌, ◌<◌, arith, lit≤, shl_exact, rules}
+use Rattle.std.proofs.Common.{◌^◌, ◌<◌, arith, lit≤, shl_exact}
 use Rattle.city.specs.City.{hash_halves}
 use Rattle.city.proofs.city.hash_halves.Goals as goal
 

@@ -1,5 +1,5 @@
 -- `city::hash_len0to16` computes `len0to16`, by the length. Assumes nothing.
-use Rattle.std.proofs.Common.{rules, le-ltb, lt-ltb, le-leb}
+use Rattle.std.proofs.Common.{le-ltb, lt-ltb, le-leb}
 use borrow.Author.Tests.{lt-leb}
 use Rattle.city.specs.City.{len0to16}
 use Rattle.city.proofs.city.hash_len0to16.Goals as goal

@@ -1,5 +1,4 @@
 -- `city::hash_len16` computes `hash_len16`. Assumes nothing.
-use Rattle.std.proofs.Common.{rules}
 use Rattle.city.specs.City.{hash_len16}
 use Rattle.city.proofs.city.hash_len16.Goals as goal
 

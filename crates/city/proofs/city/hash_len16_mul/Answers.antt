@@ -1,5 +1,4 @@
 -- `city::hash_len16_mul` computes `hash_len16_mul`. Assumes nothing.
-use Rattle.std.proofs.Common.{rules}
 use Rattle.city.specs.City.{hash_len16_mul}
 use Rattle.city.proofs.city.hash_len16_mul.Goals as goal
 

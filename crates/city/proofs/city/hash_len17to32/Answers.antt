@@ -1,5 +1,4 @@
 -- `city::hash_len17to32` computes `len17to32`. Assumes nothing.
-use Rattle.std.proofs.Common.{rules}
 use Rattle.city.specs.City.{len17to32}
 use Rattle.city.proofs.city.hash_len17to32.Goals as goal
 

@@ -1,5 +1,4 @@
 -- `city::hash_len1to3` computes `len1to3`. Assumes nothing.
-use Rattle.std.proofs.Common.{rules}
 use Rattle.city.specs.City.{len1to3}
 use Rattle.city.proofs.city.hash_len1to3.Goals as goal
 

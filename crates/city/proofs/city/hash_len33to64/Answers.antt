@@ -1,5 +1,4 @@
 -- `city::hash_len33to64` computes `len33to64`. Assumes nothing.
-use Rattle.std.proofs.Common.{rules}
 use Rattle.city.specs.City.{len33to64}
 use Rattle.city.proofs.city.hash_len33to64.Goals as goal
 

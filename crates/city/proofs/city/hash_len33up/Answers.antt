@@ -1,5 +1,5 @@
 -- `city::hash_len33up` computes `city_hash64`, by the length. Assumes nothing.
-use Rattle.std.proofs.Common.{◌≡◌, false, leb, length, arith, rules, le-leb}
+use Rattle.std.proofs.Common.{◌≡◌, false, leb, length, arith, le-leb}
 use borrow.Author.Tests.{lt-leb}
 use Rattle.city.specs.City.{city_hash64}
 use Rattle.city.proofs.city.hash_len33up.Goals.{Start}

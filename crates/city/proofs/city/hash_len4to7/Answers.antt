@@ -1,5 +1,4 @@
 -- `city::hash_len4to7` computes `len4to7`. Assumes nothing.
-use Rattle.std.proofs.Common.{rules}
 use Rattle.city.specs.City.{len4to7}
 use Rattle.city.proofs.city.hash_len4to7.Goals as goal
 

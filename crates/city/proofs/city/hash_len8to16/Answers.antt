@@ -1,5 +1,4 @@
 -- `city::hash_len8to16` computes `len8to16`. Assumes nothing.
-use Rattle.std.proofs.Common.{rules}
 use Rattle.city.specs.City.{len8to16}
 use Rattle.city.proofs.city.hash_len8to16.Goals as goal
 

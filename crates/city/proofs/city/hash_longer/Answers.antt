@@ -1,7 +1,7 @@
 -- `city::hash_longer` computes `longer`. The loop's invariant: the turns left, over the rest, give what all turns give. Assumes nothing.
-use Rattle.std.proofs.Common.{◌≡◌, ℕ, ◌+◌, ◌-◌, ◌*◌, ◌<◌, List, length, take, drop, refl, arith, length-drop, length-take, rules}
+use Rattle.std.proofs.Common.{◌≡◌, ℕ, ◌-◌, List, length, take, drop, refl, arith, length-drop, length-take}
 use lib.Seq.{take-length}
-use Rattle.city.specs.City.{turns, longer}
+use Rattle.city.specs.City.{longer}
 use Rattle.city.specs.CityLaws.{turn-front, turns_at, turns_end}
 use Rattle.city.proofs.city.hash_longer.Goals as goal
 

@@ -1,8 +1,6 @@
 -- `city::hash_longer` computes `longer`. The loop's invariant: the turns left, over the rest, give what all turns give. Assumes nothing.
-use Rattle.std.proofs.Common.{◌≡◌, ℕ, ◌+◌, ◌-◌, ◌*◌, ◌<◌, List, length, take, drop, refl, arith, length-drop, length-take, rules}
-use lib.Seq.{take-length}
-use Rattle.city.specs.City.{turns, longer}
-use Rattle.city.specs.CityLaws.{turn-front, turns_at, turns_end}
+use Rattle.std.proofs.Common.{◌≡◌, ◌+◌, ◌*◌, ◌<◌, length, drop}
+use Rattle.city.specs.City.{turns}
 use Rattle.city.proofs.city.hash_longer.Given as goal
 
 abbrev pub invariant-loop-left : goal.invariant-loop-left

@@ -1,5 +1,4 @@
 -- `city::last_mix` computes `finish`. Assumes nothing.
-use Rattle.std.proofs.Common.{rules}
 use Rattle.city.specs.City.{finish}
 use Rattle.city.proofs.city.last_mix.Goals as goal
 

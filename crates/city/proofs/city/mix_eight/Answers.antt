@@ -1,5 +1,4 @@
 -- `city::mix_eight` computes `mix8`. Assumes nothing.
-use Rattle.std.proofs.Common.{rules}
 use Rattle.city.specs.City.{mix8}
 use Rattle.city.proofs.city.mix_eight.Goals as goal
 

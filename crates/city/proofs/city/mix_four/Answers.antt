@@ -1,5 +1,4 @@
 -- `city::mix_four` computes `mix4`. Assumes nothing.
-use Rattle.std.proofs.Common.{rules}
 use Rattle.city.specs.City.{mix4}
 use Rattle.city.proofs.city.mix_four.Goals as goal
 

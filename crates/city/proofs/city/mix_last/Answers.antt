@@ -1,5 +1,4 @@
 -- `city::mix_last` computes `mix_last`. Assumes nothing.
-use Rattle.std.proofs.Common.{rules}
 use Rattle.city.specs.City.{mix_last}
 use Rattle.city.proofs.city.mix_last.Goals as goal
 

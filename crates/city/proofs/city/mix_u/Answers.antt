@@ -1,5 +1,4 @@
 -- `city::mix_u` computes `mix_u`. Assumes nothing.
-use Rattle.std.proofs.Common.{rules}
 use Rattle.city.specs.City.{mix_u}
 use Rattle.city.proofs.city.mix_u.Goals as goal
 

@@ -1,5 +1,4 @@
 -- `city::mix_v` computes `mix_v`. Assumes nothing.
-use Rattle.std.proofs.Common.{rules}
 use Rattle.city.specs.City.{mix_v}
 use Rattle.city.proofs.city.mix_v.Goals as goal
 

@@ -1,5 +1,4 @@
 -- `city::mix_y` computes `mix_y`. Assumes nothing.
-use Rattle.std.proofs.Common.{rules}
 use Rattle.city.specs.City.{mix_y}
 use Rattle.city.proofs.city.mix_y.Goals as goal
 

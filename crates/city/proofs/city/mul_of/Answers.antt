@@ -1,5 +1,4 @@
 -- `city::mul_of` computes `mul_of`. Assumes nothing.
-use Rattle.std.proofs.Common.{rules}
 use Rattle.city.specs.City.{mul_of}
 use Rattle.city.proofs.city.mul_of.Goals as goal
 

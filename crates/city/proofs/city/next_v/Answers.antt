@@ -1,5 +1,4 @@
 -- `city::next_v` computes `next_v`. Assumes nothing.
-use Rattle.std.proofs.Common.{rules}
 use Rattle.city.specs.City.{next_v}
 use Rattle.city.proofs.city.next_v.Goals as goal
 

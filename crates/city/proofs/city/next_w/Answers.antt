@@ -1,5 +1,4 @@
 -- `city::next_w` computes `next_w`. Assumes nothing.
-use Rattle.std.proofs.Common.{rules}
 use Rattle.city.specs.City.{next_w}
 use Rattle.city.proofs.city.next_w.Goals as goal
 

@@ -1,5 +1,4 @@
 -- `city::next_x` computes `next_x`. Assumes nothing.
-use Rattle.std.proofs.Common.{rules}
 use Rattle.city.specs.City.{next_x}
 use Rattle.city.proofs.city.next_x.Goals as goal
 

@@ -1,5 +1,4 @@
 -- `city::next_y` computes `next_y`. Assumes nothing.
-use Rattle.std.proofs.Common.{rules}
 use Rattle.city.specs.City.{next_y}
 use Rattle.city.proofs.city.next_y.Goals as goal
 

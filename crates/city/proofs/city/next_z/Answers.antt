@@ -1,5 +1,4 @@
 -- `city::next_z` computes `next_z`. Assumes nothing.
-use Rattle.std.proofs.Common.{rules}
 use Rattle.city.specs.City.{next_z}
 use Rattle.city.proofs.city.next_z.Goals as goal
 

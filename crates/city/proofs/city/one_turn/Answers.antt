@@ -1,5 +1,4 @@
 -- `city::one_turn` computes `turn`. Assumes nothing.
-use Rattle.std.proofs.Common.{rules}
 use Rattle.city.specs.City.{turn}
 use Rattle.city.proofs.city.one_turn.Goals as goal
 

@@ -1,5 +1,4 @@
 -- `city::swap_mul` computes `swap_mul`. Assumes nothing.
-use Rattle.std.proofs.Common.{rules}
 use Rattle.city.specs.City.{swap_mul}
 use Rattle.city.proofs.city.swap_mul.Goals as goal
 

@@ -1,5 +1,4 @@
 -- `city::weak_at` computes `weak_at`. Assumes nothing.
-use Rattle.std.proofs.Common.{rules}
 use Rattle.city.specs.City.{weak_at}
 use Rattle.city.proofs.city.weak_at.Goals as goal
 

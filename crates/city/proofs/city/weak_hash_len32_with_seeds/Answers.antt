@@ -1,5 +1,4 @@
 -- `city::weak_hash_len32_with_seeds` computes `weak32`. Assumes nothing.
-use Rattle.std.proofs.Common.{rules}
 use Rattle.city.specs.City.{weak32}
 use Rattle.city.proofs.city.weak_hash_len32_with_seeds.Goals as goal
 

@@ -1,6 +1,5 @@
 -- `word::add` computes `addw`. Assumes nothing.
 use Rattle.city.specs.Word.{addw}
-use Rattle.std.proofs.Common.{rules}
 use Rattle.city.proofs.word.add.Goals as goal
 
 pub returns : goal.returns

@@ -1,6 +1,6 @@
 -- `word::mul` computes `mulw`. Assumes nothing.
 use lib.Bits.{mask_lt}
-use Rattle.std.proofs.Common.{shr_lt, rules}
+use Rattle.std.proofs.Common.{shr_lt}
 use Rattle.city.proofs.Words.{mul-lt_pow, mul_law}
 use Rattle.city.proofs.word.mul.Goals as goal
 

@@ -1,5 +1,5 @@
 -- `word::rotate` computes `rotr`. Assumes nothing.
-use Rattle.std.proofs.Common.{le_of_lt, rules}
+use Rattle.std.proofs.Common.{le_of_lt}
 use Rattle.city.proofs.Words.{rotr_law}
 use Rattle.city.proofs.word.rotate.Goals as goal
 

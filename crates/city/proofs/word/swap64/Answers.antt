@@ -1,5 +1,5 @@
 -- `word::swap64` puts the eight bytes in the other order, each half by `swap32`. Assumes nothing.
-use Rattle.std.proofs.Common.{ℕ, ◌+◌, ◌*◌, ◌^◌, ap, ◌∙◌, ap₂, lit≤, rules}
+use Rattle.std.proofs.Common.{ℕ, ◌+◌, ◌*◌, ◌^◌, ap, ◌∙◌, ap₂, lit≤}
 use lib.Bits.{mask_lt, and_mask}
 use Rattle.city.specs.Word.{swap}
 use Rattle.base.proofs.Joined.{or_cat}

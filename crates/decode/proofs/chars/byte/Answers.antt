@@ -1,6 +1,5 @@
 -- `decode::chars::byte` meets its contract. Assumes nothing.
 use mathlib.Core.Path.{sym}
-use borrow.Author.Rules.{rules}
 use Rattle.decode.specs.TableLaws.{get_d_out}
 use Rattle.decode.proofs.chars.byte.Goals as goal
 

@@ -1,6 +1,5 @@
 -- `decode::chars::is_common` meets its contract. Assumes nothing.
 use mathlib.Core.Path.{sym}
-use borrow.Author.Rules.{rules}
 use Rattle.decode.specs.Chars.{is_common}
 use Rattle.decode.specs.TableLaws.{common_short}
 use Rattle.decode.proofs.chars.is_common.Goals as goal

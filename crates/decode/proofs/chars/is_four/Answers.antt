@@ -1,5 +1,4 @@
 -- `decode::chars::is_four` meets its contract. Assumes nothing.
-use borrow.Author.Rules.{rules}
 use Rattle.decode.specs.Chars.{is_four}
 use Rattle.decode.proofs.chars.is_four.Goals as goal
 

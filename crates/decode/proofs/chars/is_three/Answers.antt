@@ -1,5 +1,4 @@
 -- `decode::chars::is_three` meets its contract. Assumes nothing.
-use borrow.Author.Rules.{rules}
 use Rattle.decode.specs.Chars.{is_three}
 use Rattle.decode.proofs.chars.is_three.Goals as goal
 

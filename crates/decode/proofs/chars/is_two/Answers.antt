@@ -1,5 +1,4 @@
 -- `decode::chars::is_two` meets its contract. Assumes nothing.
-use borrow.Author.Rules.{rules}
 use Rattle.decode.specs.Chars.{is_two}
 use Rattle.decode.proofs.chars.is_two.Goals as goal
 

@@ -2,7 +2,6 @@
 use mathlib.Core.Path.{ap, ◌∙◌}
 use native.Mathlib.Omega.{arith}
 use lib.ListN.{length-drop}
-use borrow.Author.Rules.{rules}
 use Rattle.decode.specs.Chars.{char_of}
 use Rattle.decode.specs.TableLaws.{part-is}
 use Rattle.decode.proofs.chars.known_char.Goals as goal

@@ -1,5 +1,4 @@
 -- `decode::chars::known_first` meets its contract: the first byte decides. Assumes nothing.
-use borrow.Author.Rules.{rules}
 use Rattle.decode.specs.KnownLaws.{first_1, first_2, first_3, first_4, there_1, there_2, there_3, range_2, range_3, range_4}
 use Rattle.decode.proofs.chars.known_first.Goals as goal
 

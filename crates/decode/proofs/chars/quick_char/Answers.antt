@@ -1,6 +1,5 @@
 -- `decode::chars::quick_char` meets its contract. Assumes nothing.
 use native.Mathlib.Omega.{arith}
-use borrow.Author.Rules.{rules}
 use Rattle.decode.specs.TableLaws.{quick-one, quick-there, quick-range, quick-three}
 use Rattle.decode.proofs.chars.quick_char.Goals as goal
 

@@ -1,6 +1,5 @@
 -- `decode::chars::second` meets its contract: one test for each row of the table. Assumes nothing.
 use borrow.Author.Tests.{eq-eqb, ne_eqb}
-use borrow.Author.Rules.{rules}
 use Rattle.decode.specs.Chars.{second}
 use Rattle.decode.proofs.chars.second.Goals as goal
 

@@ -1,5 +1,4 @@
 -- `eight::is_eight` meets its contract: eight bytes in a row. Assumes nothing.
-use borrow.Author.Rules.{rules}
 use Rattle.decode.specs.Latin.{ascii}
 use Rattle.decode.specs.LatinLaws.{every-word}
 use Rattle.decode.proofs.eight.is_eight.Goals as goal

@@ -1,6 +1,5 @@
 -- `eight::starts_eight` meets its contract. Assumes nothing.
 use mathlib.Core.Path.{sym, ◌∙◌}
-use borrow.Author.Rules.{rules}
 use Rattle.decode.specs.EightLaws.{eight-short, eight-long}
 use Rattle.decode.proofs.eight.starts_eight.Goals as goal
 

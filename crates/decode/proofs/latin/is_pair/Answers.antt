@@ -1,5 +1,4 @@
 -- `latin::is_pair` meets its contract: twice eight bytes. Assumes nothing.
-use borrow.Author.Rules.{rules}
 use Rattle.decode.specs.Latin.{low}
 use Rattle.decode.specs.LatinLaws.{every-pair}
 use Rattle.decode.proofs.latin.is_pair.Goals as goal

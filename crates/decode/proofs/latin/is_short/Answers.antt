@@ -1,11 +1,9 @@
 -- `latin::is_short` meets its contract. The invariant: the first i bytes are low or not. Assumes nothing.
 use mathlib.Core.Path.{◌≡◌, refl, sym, ◌∙◌}
-use mathlib.Core.Bool.{◌&&◌}
-use Prim.Native.Nat.{◌≤◌, ◌-◌}
 use native.Mathlib.Omega.{arith}
-use lib.ListN.{length, take}
+use lib.ListN.{length}
 use lib.Seq.{take-length}
-use Rattle.decode.specs.Latin.{every, low}
+use Rattle.decode.specs.Latin.{low}
 use Rattle.decode.specs.LatinLaws.{every-next}
 use Rattle.decode.proofs.latin.is_short.Goals as goal
 

@@ -1,5 +1,4 @@
 -- `latin::is_word` meets its contract: eight bytes in a row. Assumes nothing.
-use borrow.Author.Rules.{rules}
 use Rattle.decode.specs.Latin.{low}
 use Rattle.decode.specs.LatinLaws.{every-word}
 use Rattle.decode.proofs.latin.is_word.Goals as goal

@@ -1,14 +1,11 @@
 -- `decode::measure::by_steps` meets its contract. The loop's invariant: the bytes are measured as what is passed, added to those from `at`
 -- on. Assumes nothing.
-use mathlib.Core.Path.{◌≡◌, sym, ap, ◌∙◌}
+use mathlib.Core.Path.{◌≡◌}
 use Prim.Native.Nat.{◌-◌, ◌≤◌}
-use native.Mathlib.Omega.{arith}
 use lib.ListN.{length, drop}
-use borrow.Author.Rules.{rules}
 use Rattle.text.specs.Utf8.{from_utf8}
 use Rattle.decode.specs.Measure.{measured}
-use Rattle.decode.specs.Step.{added, Passed}
-use Rattle.decode.specs.StepLaws.{added_none, added_twice, added-ill, added-last}
+use Rattle.decode.specs.Step.{added}
 use Rattle.decode.proofs.measure.by_steps.Given as goal
 
 abbrev pub invariant-loop-at : goal.invariant-loop-at

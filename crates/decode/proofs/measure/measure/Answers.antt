@@ -1,5 +1,4 @@
 -- `decode::measure::measure` meets its contract: ASCII by its length, other bytes a few characters at a time. Assumes nothing.
-use borrow.Author.Rules.{rules}
 use Rattle.decode.specs.PlainLaws.{plain-measured}
 use Rattle.decode.proofs.measure.measure.Goals as goal
 

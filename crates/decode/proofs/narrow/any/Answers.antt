@@ -1,5 +1,4 @@
 -- `decode::narrow::any` meets its contract: the measure, made anew. Assumes nothing.
-use borrow.Author.Rules.{rules}
 use Rattle.decode.proofs.narrow.any.Goals as goal
 
 pub returns-in-Text : goal.returns-in-Text

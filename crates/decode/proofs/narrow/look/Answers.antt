@@ -1,7 +1,6 @@
 -- `decode::narrow::look` meets its contract. Assumes nothing.
 use mathlib.Core.Path.{◌≡◌}
 use native.Mathlib.Omega.{arith}
-use borrow.Author.Rules.{rules}
 use Rattle.decode.proofs.narrow.look.Goals as goal
 
 pub returns-then-n-eq32 : goal.returns-then-n-eq32

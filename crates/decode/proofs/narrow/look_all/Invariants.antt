@@ -1,11 +1,8 @@
 -- `decode::narrow::look_all` meets its contract. The loop's invariant: what is seen of the first i bytes, and what those from there on hold.
 -- Assumes nothing.
-use mathlib.Core.Path.{◌≡◌}
 use Prim.Native.Nat.{◌+◌, ◌-◌, ◌≤◌}
-use native.Mathlib.Omega.{arith}
-use borrow.Author.Rules.{rules}
 use lib.ListN.{take, drop, get_or}
-use Rattle.decode.specs.NarrowLaws.{Far, far_none, far-all, far-full, front_off}
+use Rattle.decode.specs.NarrowLaws.{Far}
 use Rattle.decode.proofs.narrow.look_all.Given as goal
 
 abbrev pub invariant-loop-i : goal.invariant-loop-i

@@ -2,10 +2,8 @@
 -- Assumes nothing.
 use mathlib.Core.Path.{◌≡◌}
 use Prim.Native.Nat.{◌+◌, ◌-◌, ◌≤◌}
-use native.Mathlib.Omega.{arith}
-use borrow.Author.Rules.{rules}
 use lib.ListN.{take, drop, get_or}
-use Rattle.decode.specs.NarrowLaws.{Far, far_none, far-all, far-next, front_off}
+use Rattle.decode.specs.NarrowLaws.{Far}
 use Rattle.decode.proofs.narrow.look_some.Given as goal
 
 abbrev pub invariant-loop-i : goal.invariant-loop-i

@@ -1,6 +1,5 @@
 -- `decode::narrow::measure_at` meets its contract. Assumes nothing.
 use native.Mathlib.Omega.{arith}
-use borrow.Author.Rules.{rules}
 use Rattle.decode.specs.NarrowLaws.{part-plain, part-some}
 use Rattle.decode.proofs.narrow.measure_at.Goals as goal
 

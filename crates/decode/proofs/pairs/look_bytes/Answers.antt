@@ -1,10 +1,7 @@
 -- `pairs::look_bytes` meets its contract. The loop's invariant: what the first k bytes mean is there. Assumes nothing.
 use mathlib.Core.Path.{◌≡◌, ◌∙◌}
-use Prim.Native.Nat.{◌-◌, ◌≤◌}
 use native.Mathlib.Omega.{arith}
-use borrow.Author.Rules.{rules}
-use lib.ListN.{length, length-set}
-use Rattle.decode.specs.Tails.{Meant}
+use lib.ListN.{length-set}
 use Rattle.decode.specs.TailsLaws.{meant-none, meant-next}
 use Rattle.decode.proofs.pairs.look_bytes.Goals as goal
 

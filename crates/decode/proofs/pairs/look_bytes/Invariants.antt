@@ -1,11 +1,8 @@
 -- `pairs::look_bytes` meets its contract. The loop's invariant: what the first k bytes mean is there. Assumes nothing.
-use mathlib.Core.Path.{◌≡◌, ◌∙◌}
+use mathlib.Core.Path.{◌≡◌}
 use Prim.Native.Nat.{◌-◌, ◌≤◌}
-use native.Mathlib.Omega.{arith}
-use borrow.Author.Rules.{rules}
-use lib.ListN.{length, length-set}
+use lib.ListN.{length}
 use Rattle.decode.specs.Tails.{Meant}
-use Rattle.decode.specs.TailsLaws.{meant-none, meant-next}
 use Rattle.decode.proofs.pairs.look_bytes.Given as goal
 
 abbrev pub invariant-loop-k : goal.invariant-loop-k

@@ -1,10 +1,7 @@
 -- `pairs::look_sizes` meets its contract. The loop's invariant: the sizes of the first k pairs are there. Assumes nothing.
 use mathlib.Core.Path.{◌≡◌, ◌∙◌}
-use Prim.Native.Nat.{◌-◌, ◌≤◌}
 use native.Mathlib.Omega.{arith}
-use borrow.Author.Rules.{rules}
-use lib.ListN.{length, length-set}
-use Rattle.decode.specs.Tails.{Counted}
+use lib.ListN.{length-set}
 use Rattle.decode.specs.TailsLaws.{counted_none, counted_next}
 use Rattle.decode.proofs.pairs.look_sizes.Goals as goal
 

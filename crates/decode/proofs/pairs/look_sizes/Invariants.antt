@@ -1,11 +1,8 @@
 -- `pairs::look_sizes` meets its contract. The loop's invariant: the sizes of the first k pairs are there. Assumes nothing.
-use mathlib.Core.Path.{◌≡◌, ◌∙◌}
+use mathlib.Core.Path.{◌≡◌}
 use Prim.Native.Nat.{◌-◌, ◌≤◌}
-use native.Mathlib.Omega.{arith}
-use borrow.Author.Rules.{rules}
-use lib.ListN.{length, length-set}
+use lib.ListN.{length}
 use Rattle.decode.specs.Tails.{Counted}
-use Rattle.decode.specs.TailsLaws.{counted_none, counted_next}
 use Rattle.decode.proofs.pairs.look_sizes.Given as goal
 
 abbrev pub invariant-loop-k : goal.invariant-loop-k

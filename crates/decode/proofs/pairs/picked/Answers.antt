@@ -1,5 +1,4 @@
 -- `pairs::picked` meets its contract, by the test. Assumes nothing.
-use borrow.Author.Rules.{rules}
 use borrow.Author.Tests.{lt-ltb, le-ltb}
 use Rattle.decode.specs.Tails.{picked}
 use Rattle.decode.proofs.pairs.picked.Goals as goal

@@ -1,11 +1,7 @@
 -- `pairs::put_pairs` meets its contract. The loop's invariant: what the first j pairs mean is written. Assumes nothing.
-use mathlib.Core.Path.{◌≡◌, refl}
-use Prim.Native.Nat.{◌+◌, ◌-◌, ◌*◌, ◌≤◌, ◌<◌}
-use native.Mathlib.Omega.{arith}
-use lib.ListN.{length, take, length-set, get_or}
-use lib.Seq.{length-take-le}
+use Prim.Native.Nat.{◌+◌, ◌-◌, ◌*◌, ◌≤◌}
+use lib.ListN.{take, get_or}
 use Rattle.decode.specs.Tails.{Filling}
-use Rattle.decode.specs.TailsLaws.{filling_room-two, counted-small, filling_paired}
 use Rattle.decode.proofs.pairs.put_pairs.Given as goal
 
 abbrev pub invariant-loop-j : goal.invariant-loop-j

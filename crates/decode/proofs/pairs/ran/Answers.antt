@@ -1,6 +1,5 @@
 -- `pairs::ran` meets its contract. Assumes nothing.
 use mathlib.Core.Path.{refl}
-use borrow.Author.Rules.{rules}
 use Rattle.decode.specs.Tails.{ran}
 use Rattle.decode.proofs.pairs.ran.Goals as goal
 

@@ -1,6 +1,5 @@
 -- `run::is_run` meets its contract. Assumes nothing.
 use mathlib.Core.Path.{sym}
-use borrow.Author.Rules.{rules}
 use Rattle.decode.specs.RunLaws.{run_short, run_long}
 use Rattle.decode.proofs.run.is_run.Goals as goal
 

@@ -1,7 +1,6 @@
 -- `run::three_at` meets its contract: the bytes are there and in their ranges, since the text is UTF-8. Assumes nothing.
 use mathlib.Core.Path.{◌≡◌, ◌∙◌}
 use native.Mathlib.Omega.{arith}
-use borrow.Author.Rules.{rules}
 use Rattle.decode.specs.Run.{three_at}
 use Rattle.decode.specs.RunLaws.{three-range, three-there, three-small}
 use Rattle.decode.proofs.run.three_at.Goals as goal

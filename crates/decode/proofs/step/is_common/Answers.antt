@@ -1,5 +1,4 @@
 -- `decode::step::is_common` meets its contract. Assumes nothing.
-use borrow.Author.Rules.{rules}
 use Rattle.decode.specs.Chars.{is_common}
 use Rattle.decode.proofs.step.is_common.Goals as goal
 

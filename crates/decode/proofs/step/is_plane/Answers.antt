@@ -1,5 +1,4 @@
 -- `decode::step::is_plane` meets its contract. Assumes nothing.
-use borrow.Author.Rules.{rules}
 use Rattle.decode.specs.Step.{is_plane}
 use Rattle.decode.proofs.step.is_plane.Goals as goal
 

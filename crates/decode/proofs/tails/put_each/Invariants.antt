@@ -1,9 +1,7 @@
 -- `tails::put_each` meets its contract. The loop's invariant: what of the bytes before place i is kept is written. Assumes nothing.
 use Prim.Native.Nat.{◌-◌, ◌≤◌}
-use native.Mathlib.Omega.{arith}
 use lib.ListN.{length}
 use Rattle.decode.specs.Tails.{Filling}
-use Rattle.decode.specs.TailsLaws.{filling_none, filling_room, filling_byte, filling_all}
 use Rattle.decode.proofs.tails.put_each.Given as goal
 
 abbrev pub invariant-loop-i : goal.invariant-loop-i

@@ -1,6 +1,5 @@
 -- `tails::put_last` meets its contract: a byte more, or two. Assumes nothing.
 use native.Mathlib.Omega.{arith}
-use borrow.Author.Rules.{rules}
 use lib.ListN.{length-set}
 use Rattle.decode.specs.TailsLaws.{filling_room, filling_byte, filling_all}
 use Rattle.decode.proofs.tails.put_last.Goals as goal

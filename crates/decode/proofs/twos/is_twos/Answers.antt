@@ -1,6 +1,5 @@
 -- `twos::is_twos` meets its contract. Assumes nothing.
 use mathlib.Core.Path.{sym}
-use borrow.Author.Rules.{rules}
 use Rattle.decode.specs.TwosLaws.{twos-short, twos-long}
 use Rattle.decode.proofs.twos.is_twos.Goals as goal
 

@@ -1,7 +1,6 @@
 -- `twos::two_at` meets its contract: the bytes are there and in their ranges, since the text is UTF-8. Assumes nothing.
 use mathlib.Core.Path.{◌≡◌, ◌∙◌}
 use native.Mathlib.Omega.{arith}
-use borrow.Author.Rules.{rules}
 use Rattle.decode.specs.Twos.{two_at}
 use Rattle.decode.specs.TwosLaws.{two-range, two-there, two-small}
 use Rattle.decode.proofs.twos.two_at.Goals as goal

@@ -1,8 +1,7 @@
 -- `decode::write::put_latin1` meets its contract: what is kept of the bytes is the text. The loop's invariant: what is kept of the bytes before
 -- place i is written. Assumes nothing.
-use Prim.Native.Nat.{◌-◌, ◌≤◌, ◌<◌}
+use Prim.Native.Nat.{◌-◌, ◌≤◌}
 use native.Mathlib.Omega.{arith}
-use borrow.Author.Rules.{rules}
 use borrow.Author.Tests.{ltb-false}
 use mir.Val.{bool_byte}
 use lib.Dec.{ltb}

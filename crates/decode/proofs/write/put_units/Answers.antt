@@ -2,7 +2,6 @@
 use mathlib.Core.Path.{ap}
 use native.Mathlib.Omega.{arith}
 use lib.ListN.{length, length-set}
-use borrow.Author.Rules.{rules}
 use Rattle.base.specs.OutputLaws.{wrote_stores}
 use Rattle.decode.specs.WriteLaws.{units-one, units-two}
 use Rattle.decode.proofs.write.put_units.Goals as goal

@@ -2,15 +2,12 @@
 -- on, which is well-formed. Assumes nothing.
 use mathlib.Core.Path.{◌≡◌, sym, ◌∙◌}
 use mathlib.Core.Bool.{true}
-use Prim.Native.Nat.{◌+◌, ◌-◌, ◌≤◌}
+use Prim.Native.Nat.{◌+◌, ◌≤◌}
 use native.Mathlib.Omega.{arith}
 use lib.ListN.{length, take, drop}
-use borrow.Author.Rules.{rules}
 use Rattle.base.specs.OutputLaws.{wrote-length}
-use Rattle.text.specs.Utf16.{is_well, utf16le}
-use Rattle.decode.specs.Measure.{text_of}
-use Rattle.decode.specs.TurnLaws.{Turn, from, text_from, turn, turn-well, well-next}
-use Rattle.decode.specs.WriteLaws.{Partly, partly_none, partly_all, partly_next, utf16le-room, utf16le-next, utf16le-last}
+use Rattle.decode.specs.TurnLaws.{Turn, turn, turn-well, well-next}
+use Rattle.decode.specs.WriteLaws.{partly_none, partly_all, partly_next, utf16le-room, utf16le-next, utf16le-last}
 use Rattle.decode.specs.RunLaws.{Leads, run-leads, run-well, run-next, run_room}
 use Rattle.decode.specs.TwosLaws.{Seconds, twos-leads, twos-well, twos-next, twos-room}
 use Rattle.decode.specs.Latin.{every, ascii}

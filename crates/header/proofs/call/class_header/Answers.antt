@@ -1,8 +1,6 @@
 -- `call::class_header` meets its contract: 27 where the check says so, 28 where the buffer is too short, else the header. Assumes nothing.
-use mathlib.Core.Path.{◌≡◌, ◌∙◌, ap}
-use native.Mathlib.Omega.{arith}
-use borrow.Author.Rules.{rules}
-use Rattle.header.specs.declared.check.Checked.TheVariants.{Described, Malformed}
+use mathlib.Core.Path.{◌∙◌, ap}
+use Rattle.header.specs.declared.check.Checked.TheVariants.{Described}
 use Rattle.header.specs.Parts.{Says, regions_of}
 use Rattle.header.specs.AnswerLaws.{said-none, said-short, header-room, said-header}
 use Rattle.header.proofs.Rooms.{small}

@@ -2,8 +2,7 @@
 use mathlib.Core.Path.{ap}
 use mathlib.Core.List.{◌++◌}
 use native.Mathlib.Omega.{arith}
-use lib.ListN.{length, length-append}
-use borrow.Author.Rules.{rules}
+use lib.ListN.{length}
 use Rattle.base.specs.OutputLaws.{wrote-rest, wrote_as, next-room, front_fits}
 use Rattle.written.specs.BatchBytes.{batch_bytes}
 use Rattle.written.specs.HeaderBytes.{imported_bytes}

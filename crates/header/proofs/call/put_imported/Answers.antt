@@ -2,7 +2,6 @@
 use mathlib.Core.Path.{ap}
 use native.Mathlib.Omega.{arith}
 use lib.ListN.{length, length-append}
-use borrow.Author.Rules.{rules}
 use Rattle.base.specs.Find.{flat}
 use Rattle.base.specs.OutputLaws.{wrote-rest, wrote_as, next-room}
 use Rattle.written.specs.BatchBytes.{batch_bytes}

@@ -1,6 +1,5 @@
 -- `call::put_summary` meets its contract: thirteen numbers, each within the longest header. Assumes nothing.
 use native.Mathlib.Omega.{arith}
-use borrow.Author.Rules.{rules}
 use Rattle.base.specs.Number.{le_bytes}
 use Rattle.base.specs.OutputLaws.{wrote_as}
 use Rattle.header.specs.Parts.{summary_words}

@@ -3,7 +3,6 @@ use mathlib.Core.Path.{ap}
 use mathlib.Core.List.{◌++◌}
 use native.Mathlib.Omega.{arith}
 use lib.ListN.{length, length-append}
-use borrow.Author.Rules.{rules}
 use Rattle.base.specs.Find.{flat}
 use Rattle.base.specs.Number.{be_at, le_bytes}
 use Rattle.base.specs.NumberLaws.{length-le_bytes}

@@ -1,5 +1,4 @@
 -- `check::batch_size` meets its contract. Assumes nothing.
-use borrow.Author.Rules.{rules}
 use borrow.Author.Tests.{eq-eqb, ne_eqb}
 use Rattle.header.specs.Parts.{batch_of}
 use Rattle.header.proofs.check.batch_size.Goals as goal

@@ -1,7 +1,6 @@
 -- `check::check` meets its contract: length, version, texts, and the rest by its stages. Assumes nothing.
-use mathlib.Core.Path.{◌≡◌, sym, ◌∙◌}
+use mathlib.Core.Path.{sym, ◌∙◌}
 use native.Mathlib.Omega.{arith}
-use borrow.Author.Rules.{rules}
 use Rattle.header.proofs.Stages.{texts-bad, texts-begun}
 use Rattle.header.proofs.check.check.Goals as goal
 

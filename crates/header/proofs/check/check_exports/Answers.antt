@@ -1,12 +1,7 @@
 -- `check::check_exports` meets its contract. The loop's invariant: the text numbers are within the list exactly if those of the exports from here
 -- on are. Assumes nothing.
-use Prim.Native.Nat.{◌+◌, ◌*◌, ◌≤◌}
-use mathlib.Core.Path.{◌≡◌, refl, sym, ◌∙◌}
+use mathlib.Core.Path.{refl, sym, ◌∙◌}
 use native.Mathlib.Omega.{arith}
-use lib.ListN.{length}
-use Rattle.base.specs.ReadingRows.{cells}
-use Rattle.zen.specs.Zen.{named}
-use Rattle.header.specs.Places.{export_in}
 use Rattle.header.specs.PartsLaws.{named_none, named-pass, named_fail}
 use Rattle.header.proofs.check.check_exports.Goals as goal
 

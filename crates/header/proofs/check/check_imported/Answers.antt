@@ -1,7 +1,5 @@
 -- `check::check_imported` meets its contract: the imported names, and nothing left over. Assumes nothing.
-use mathlib.Core.Path.{◌≡◌, sym, ◌∙◌}
-use native.Mathlib.Omega.{arith}
-use borrow.Author.Rules.{rules}
+use mathlib.Core.Path.{sym, ◌∙◌}
 use Rattle.header.proofs.Stages.{names-bad, names-left, listed}
 use Rattle.header.proofs.check.check_imported.Goals as goal
 

@@ -1,6 +1,5 @@
 -- `check::check_tables` meets its contract: exports and hashes are there. Assumes nothing.
 use native.Mathlib.Omega.{arith}
-use borrow.Author.Rules.{rules}
 use Rattle.header.proofs.Stages.{exports-short, hashes-short, tabled}
 use Rattle.header.proofs.check.check_tables.Goals as goal
 

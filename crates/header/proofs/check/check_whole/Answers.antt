@@ -1,5 +1,4 @@
 -- `check::check_whole` meets its contract: text numbers, and the header's size. Assumes nothing.
-use borrow.Author.Rules.{rules}
 use Rattle.header.proofs.Stages.{exports-room, name_out, exports-out, small, size-out, said-whole}
 use Rattle.header.proofs.check.check_whole.Goals as goal
 

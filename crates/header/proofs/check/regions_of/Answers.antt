@@ -1,6 +1,5 @@
 -- `check::regions_of` meets its contract: sums that 64 bits hold. Assumes nothing.
 use native.Mathlib.Omega.{arith}
-use borrow.Author.Rules.{rules}
 use Rattle.header.specs.Parts.{regions_of}
 use Rattle.header.specs.PartsLaws.{batch-most}
 use Rattle.header.proofs.check.regions_of.Goals as goal

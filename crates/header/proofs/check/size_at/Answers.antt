@@ -8,9 +8,8 @@ use Rattle.header.specs.SwappedLaws.{swapped-be}
 use Rattle.header.proofs.check.size_at.Goals as goal
 
 pub returns : goal.returns
-returns c =
-    (
-      c.swapped.ensures ∙ ap swapped c.le32.ensures ∙ swapped-be c.args.s.now c.args.at c.requires
-          (λ (i : ℕ). omega (arith, c.shared_slice_known-1.given i)),
-      search rules,
-    )
+returns c = (
+  c.swapped.ensures ∙ ap swapped c.le32.ensures ∙ swapped-be c.args.s.now c.args.at c.requires
+      (λ (i : ℕ). omega (arith, c.shared_slice_known-1.given i)),
+  search rules,
+)

@@ -1,5 +1,4 @@
 -- `check::sized_text` meets its contract: its tests are those of `text_fits`. Assumes nothing.
-use borrow.Author.Rules.{rules}
 use Rattle.header.specs.PartsLaws.{text-short, text-long, text-ill, text-units, text_fits_lem}
 use Rattle.header.proofs.check.sized_text.Goals as goal
 

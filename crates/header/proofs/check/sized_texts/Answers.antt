@@ -1,11 +1,10 @@
 -- `check::sized_texts` meets its contract. The loop's invariant: the texts from here on, with the size so far, give what all give. Assumes nothing.
 use mathlib.Core.Path.{◌≡◌, refl, sym, ◌∙◌}
-use Prim.Native.Nat.{◌+◌, ◌*◌, ◌-◌, ◌≤◌}
+use Prim.Native.Nat.{◌≤◌}
 use native.Mathlib.Omega.{arith}
-use lib.ListN.{length}
 use borrow.Author.Rules.{rules}
 use Rattle.header.specs.declared.check.Sized.TheVariants.{To}
-use Rattle.header.specs.Parts.{sized_text, sized_texts}
+use Rattle.header.specs.Parts.{sized_text}
 use Rattle.header.specs.PartsLaws.{sized-to, text_bound, turn-none, turn-bad, turn_more}
 use Rattle.header.proofs.check.sized_texts.Goals.{In-To}
 use Rattle.header.proofs.check.sized_texts.Goals as goal

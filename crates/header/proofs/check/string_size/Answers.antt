@@ -1,5 +1,4 @@
 -- `check::string_size` meets its contract. Assumes nothing.
-use borrow.Author.Rules.{rules}
 use Rattle.header.proofs.check.string_size.Goals as goal
 
 pub returns-then-latin : goal.returns-then-latin

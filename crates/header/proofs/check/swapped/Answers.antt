@@ -1,6 +1,5 @@
 -- `check::swapped` meets its contract. Assumes nothing.
 use mathlib.Core.Path.{refl}
-use borrow.Author.Rules.{rules}
 use Rattle.header.specs.Swapped.{swapped}
 use Rattle.header.proofs.check.swapped.Goals as goal
 

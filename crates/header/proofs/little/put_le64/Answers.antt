@@ -1,10 +1,8 @@
 -- `little::put_le64` meets its contract: eight stores at fixed places. Assumes nothing.
-use borrow.Author.Rules.{rules}
 use native.Mathlib.Omega.{arith}
 use mathlib.Core.Path.{refl}
 use lib.ListN.{length-set}
 use Rattle.base.specs.Number.{le_bytes}
-use Rattle.base.specs.NumberLaws.{length-le_bytes}
 use Rattle.base.specs.OutputLaws.{wrote_stores}
 use Rattle.header.proofs.little.put_le64.Goals as goal
 

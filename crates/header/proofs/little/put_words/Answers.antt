@@ -1,17 +1,16 @@
 -- `little::put_words` meets its contract. The loop's invariant: what is not written yet are the bytes of the numbers from i on. Assumes nothing.
-use mathlib.Core.Path.{◌≡◌, refl, sym, ◌∙◌}
-use mathlib.Core.List.{List, [], ◌∷◌, ◌++◌}
-use Prim.Native.Nat.{ℕ, suc, ◌+◌, ◌*◌, ◌-◌, ◌≤◌, ◌<◌}
+use mathlib.Core.Path.{◌≡◌, refl}
+use mathlib.Core.List.{List, [], ◌++◌}
+use Prim.Native.Nat.{ℕ, ◌+◌, ◌≤◌, ◌<◌}
 use native.Mathlib.Numerals.{add-one}
 use native.Mathlib.Omega.{arith}
-use lib.ListN.{length, drop, get_or, drop_of_length-le}
+use lib.ListN.{length, get_or, drop_of_length-le}
 use lib.Seq.{drop-cons}
 use borrow.Author.Rules.{rules}
-use Rattle.base.specs.Find.{flat}
 use Rattle.base.specs.Number.{le_bytes}
 use Rattle.base.specs.NumberLaws.{length-le_bytes}
 use Rattle.base.specs.OutputLaws.{wrote-length}
-use Rattle.decode.specs.WriteLaws.{Partly, partly_none, partly_all, partly_room, partly_next}
+use Rattle.decode.specs.WriteLaws.{partly_none, partly_all, partly_room, partly_next}
 use Rattle.header.proofs.little.put_words.Goals.{In-loop-i}
 use Rattle.header.proofs.little.put_words.Invariants.{left}
 use Rattle.header.proofs.little.put_words.Goals as goal

@@ -1,6 +1,5 @@
 -- `names::head_high` meets its contract. Assumes nothing.
 use native.Mathlib.Omega.{arith}
-use borrow.Author.Rules.{rules}
 use Rattle.header.proofs.names.head_high.Goals as goal
 
 pub returns-then-latin : goal.returns-then-latin

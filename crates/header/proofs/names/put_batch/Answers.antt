@@ -1,9 +1,7 @@
 -- `names::put_batch` meets its contract. Assumes nothing.
 use mathlib.Core.Path.{sym, ap}
-use mathlib.Core.List.{◌++◌}
 use native.Mathlib.Omega.{arith}
 use lib.ListN.{length, length-append}
-use borrow.Author.Rules.{rules}
 use Rattle.base.specs.NumberLaws.{length-le_bytes}
 use Rattle.base.specs.OutputLaws.{wrote-rest, wrote_as, next-room}
 use Rattle.header.specs.Places.{texts_from}

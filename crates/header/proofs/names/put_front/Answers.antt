@@ -1,7 +1,6 @@
 -- `names::put_front` meets its contract. Assumes nothing.
 use mathlib.Core.Path.{◌∙◌}
 use native.Mathlib.Omega.{arith}
-use borrow.Author.Rules.{rules}
 use Rattle.base.specs.NumberLaws.{length-le_bytes}
 use Rattle.base.specs.OutputLaws.{wrote-room, wrote-rest}
 use Rattle.header.specs.Parts.{front_bytes}

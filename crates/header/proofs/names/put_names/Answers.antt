@@ -4,7 +4,6 @@ use mathlib.Core.List.{◌++◌}
 use Prim.Native.Nat.{ℕ, ◌*◌}
 use native.Mathlib.Omega.{arith}
 use lib.ListN.{length, replicate, length-append, length-replicate}
-use borrow.Author.Rules.{rules}
 use Rattle.base.specs.Find.{flat}
 use Rattle.base.specs.OutputLaws.{wrote-rest, wrote_as, next-room}
 use Rattle.written.specs.BatchBytes.{head_bytes, string_bytes}

@@ -4,7 +4,6 @@ use mathlib.Core.Bool.{true, false}
 use native.Mathlib.Omega.{arith}
 use lib.ListN.{length, take}
 use lib.Seq.{length-take-le}
-use borrow.Author.Rules.{rules}
 use Rattle.base.specs.OutputLaws.{wrote_as}
 use Rattle.decode.specs.Measure.{text_of, fits_latin1}
 use Rattle.header.specs.WritingLaws.{string_latin, string_wide, plain-room, plain-put}

@@ -4,7 +4,6 @@ use Prim.Native.Nat.{ℕ, ◌+◌, ◌-◌}
 use mathlib.Core.List.{List}
 use native.Mathlib.Omega.{arith}
 use lib.ListN.{length, take, drop, length-set, length-drop}
-use borrow.Author.Rules.{rules}
 use Rattle.base.specs.Number.{be_at}
 use Rattle.decode.specs.MeasureLaws.{Said}
 use Rattle.decode.specs.TableLaws.{part-is}

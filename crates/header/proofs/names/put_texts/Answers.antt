@@ -1,5 +1,5 @@
 -- `names::put_texts` meets its contract. The loop's invariant: i texts are written. Assumes nothing.
-use Prim.Native.Nat.{◌+◌, ◌*◌, ◌-◌, ◌≤◌}
+use Prim.Native.Nat.{◌+◌, ◌*◌, ◌≤◌}
 use native.Mathlib.Omega.{arith}
 use lib.ListN.{length}
 use borrow.Author.Rules.{rules}
@@ -8,7 +8,7 @@ use Rattle.written.specs.BatchBytes.{string_bytes}
 use Rattle.header.specs.Places.{text_at, texts_from}
 use Rattle.header.specs.PartsLaws.{Fitting}
 use Rattle.header.specs.TextLoops.{texts-count}
-use Rattle.header.specs.LaidLaws.{Upto, heads-room, upto_none, upto_all, upto_first, upto_room, upto_next}
+use Rattle.header.specs.LaidLaws.{heads-room, upto_none, upto_all, upto_first, upto_room, upto_next}
 use Rattle.header.proofs.names.put_texts.Goals.{In-loop-i}
 use Rattle.header.proofs.names.put_texts.Goals as goal
 

@@ -1,14 +1,6 @@
 -- `names::put_texts` meets its contract. The loop's invariant: i texts are written. Assumes nothing.
-use Prim.Native.Nat.{◌+◌, ◌*◌, ◌-◌, ◌≤◌}
-use native.Mathlib.Omega.{arith}
-use lib.ListN.{length}
-use borrow.Author.Rules.{rules}
-use Rattle.base.specs.OutputLaws.{wrote-length}
-use Rattle.written.specs.BatchBytes.{string_bytes}
-use Rattle.header.specs.Places.{text_at, texts_from}
-use Rattle.header.specs.PartsLaws.{Fitting}
-use Rattle.header.specs.TextLoops.{texts-count}
-use Rattle.header.specs.LaidLaws.{Upto, heads-room, upto_none, upto_all, upto_first, upto_room, upto_next}
+use Prim.Native.Nat.{◌-◌}
+use Rattle.header.specs.LaidLaws.{Upto}
 use Rattle.header.proofs.names.put_texts.Given as goal
 
 abbrev pub invariant-loop-i : goal.invariant-loop-i

@@ -1,14 +1,11 @@
 -- `tables::put_exports` meets its contract. The loop's invariant: what is not written yet is the exports from here on. Assumes nothing.
-use mathlib.Core.Path.{◌≡◌, refl, sym, ◌∙◌, ap}
-use mathlib.Core.Bool.{true}
-use mathlib.Core.List.{List, [], ◌++◌}
-use Prim.Native.Nat.{ℕ, ◌+◌, ◌*◌, ◌-◌, ◌≤◌, ◌<◌}
+use mathlib.Core.Path.{refl}
+use Prim.Native.Nat.{◌+◌, ◌-◌}
 use native.Mathlib.Omega.{arith}
-use lib.ListN.{length}
 use borrow.Author.Rules.{rules}
 use Rattle.base.specs.Find.{flat}
-use Rattle.base.specs.OutputLaws.{wrote-length, wrote_as}
-use Rattle.decode.specs.WriteLaws.{Partly, partly_none, partly_all, partly_room, partly_next}
+use Rattle.base.specs.OutputLaws.{wrote-length}
+use Rattle.decode.specs.WriteLaws.{partly_none, partly_all, partly_room, partly_next}
 use Rattle.base.specs.ReadingRows.{cells}
 use Rattle.written.specs.HeaderBytes.{export_bytes}
 use Rattle.header.specs.Places.{export_in}
@@ -26,8 +23,7 @@ slice_bounds-put_export-start c = omega (arith, c.loop-left.invariant.2.wrote.fi
 
 pub put_export-n-requires : goal.put_export-n-requires
 put_export-n-requires c =
-    let l = c.loop-left in
-    (
+    let l = c.loop-left in (
       omega arith,
       partly_room l.invariant.2 (export_bytes (export_in c.args.s.now l.at))
           (flat export_bytes (cells (export_in c.args.s.now) 40 (l.at + 40) (l.left - 1))) (cell-turn export_bytes (export_in c.args.s.now) 40

@@ -1,18 +1,11 @@
 -- `tables::put_hashes` meets its contract. The loop's invariant: what is not written yet is the hashes from here on. Assumes nothing.
-use mathlib.Core.Path.{◌≡◌, refl, sym, ◌∙◌, ap}
-use mathlib.Core.Bool.{true}
-use mathlib.Core.List.{List, [], ◌++◌}
-use Prim.Native.Nat.{ℕ, ◌+◌, ◌*◌, ◌-◌, ◌≤◌, ◌<◌}
-use native.Mathlib.Omega.{arith}
+use mathlib.Core.Path.{◌≡◌}
+use Prim.Native.Nat.{◌+◌, ◌*◌, ◌≤◌}
 use lib.ListN.{length}
-use borrow.Author.Rules.{rules}
 use Rattle.base.specs.Find.{flat}
-use Rattle.base.specs.OutputLaws.{wrote-length, wrote_as}
-use Rattle.decode.specs.WriteLaws.{Partly, partly_none, partly_all, partly_room, partly_next}
+use Rattle.decode.specs.WriteLaws.{Partly}
 use Rattle.base.specs.Number.{be_at, le_bytes}
-use Rattle.base.specs.NumberLaws.{length-le_bytes}
 use Rattle.base.specs.ReadingRows.{cells}
-use Rattle.header.specs.WritingLaws.{cell-turn, cell-last}
 use Rattle.header.proofs.tables.put_hashes.Given as goal
 
 abbrev pub invariant-loop-left : goal.invariant-loop-left

@@ -1,18 +1,14 @@
 -- `tables::put_numbers` meets its contract. The loop's invariant: what is not written yet is the numbers from here on. Assumes nothing.
-use mathlib.Core.Path.{◌≡◌, refl, sym, ◌∙◌, ap}
-use mathlib.Core.Bool.{true}
-use mathlib.Core.List.{List, [], ◌++◌}
-use Prim.Native.Nat.{ℕ, ◌+◌, ◌*◌, ◌-◌, ◌≤◌, ◌<◌}
+use mathlib.Core.Path.{◌≡◌, refl, ◌∙◌, ap}
+use Prim.Native.Nat.{◌-◌}
 use native.Mathlib.Omega.{arith}
-use lib.ListN.{length}
 use borrow.Author.Rules.{rules}
 use Rattle.base.specs.Find.{flat}
 use Rattle.base.specs.OutputLaws.{wrote-length, wrote_as}
-use Rattle.decode.specs.WriteLaws.{Partly, partly_none, partly_all, partly_room, partly_next}
+use Rattle.decode.specs.WriteLaws.{partly_none, partly_all, partly_room, partly_next}
 use Rattle.base.specs.Number.{be_at, le_bytes}
 use Rattle.base.specs.NumberLaws.{length-le_bytes}
 use Rattle.header.specs.Places.{text_end, next_text, imported_from}
-use Rattle.header.specs.Parts.{texts_fit}
 use Rattle.header.specs.PartsLaws.{fit-first}
 use Rattle.header.specs.RegionLaws.{number_bytes}
 use Rattle.header.specs.WritingLaws.{number-turn, number-last}

@@ -1,7 +1,6 @@
 -- `ascii::array_hash`: by the first and the last word, where there are four to eight units. Assumes nothing.
 use mathlib.Core.Path.{sym}
 use native.Mathlib.Omega.{arith}
-use borrow.Author.Rules.{rules}
 use Rattle.ids.proofs.ShortUnits.{first_two}
 use Rattle.ids.proofs.ascii.array_hash.Goals as goal
 

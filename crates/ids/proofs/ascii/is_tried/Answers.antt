@@ -1,5 +1,4 @@
 -- `ascii::is_tried`: 16 units at most. Assumes nothing.
-use borrow.Author.Rules.{rules}
 use Rattle.base.specs.Never.{never}
 use Rattle.ids.proofs.ascii.is_tried.Goals as goal
 

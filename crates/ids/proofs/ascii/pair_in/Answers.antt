@@ -1,7 +1,6 @@
 -- `ascii::pair_in`: a unit of 16 bits shifted by 16 loses none. Assumes nothing.
 use Prim.Native.Nat.{◌+◌}
 use native.Mathlib.Omega.{arith}
-use borrow.Author.Rules.{rules}
 use Rattle.ids.proofs.ShortUnits.{pair_of}
 use Rattle.ids.proofs.ascii.pair_in.Goals as goal
 

@@ -1,20 +1,13 @@
 -- `ascii::put_all`: after i turns the array's front has the first i units, and their bits are gathered. Assumes nothing.
-use mathlib.Core.Path.{◌≡◌, refl, ◌∙◌, ap}
+use mathlib.Core.Path.{◌≡◌}
 use mathlib.Core.Bool.{true}
-use mathlib.Core.List.{List, map}
-use Prim.Native.Nat.{ℕ, ◌+◌, ◌-◌, ◌≤◌}
-use native.Mathlib.Nat.{zero-add}
-use native.Mathlib.Omega.{arith}
-use borrow.Author.Rules.{rules}
-use lib.ListN.{length, take, length-set}
-use lib.Seq.{take_all}
+use mathlib.Core.List.{map}
+use Prim.Native.Nat.{◌-◌, ◌≤◌}
+use lib.ListN.{length, take}
 use Rattle.base.specs.Output.{Wrote}
-use Rattle.base.specs.OutputLaws.{wrote_none, wrote-copy, wrote_as, wrote_count}
 use Rattle.lower.specs.Ascii.{lower_ascii}
 use Rattle.text.specs.Units.{units_of}
 use Rattle.ids.specs.LoweredUnits.{bits_from}
-use Rattle.ids.proofs.AsciiUnits.{lowered-there}
-use Rattle.ids.proofs.WideUnits.{mapped-length, bits-next}
 use Rattle.ids.proofs.ascii.put_all.Given as goal
 
 abbrev pub invariant-loop-i : goal.invariant-loop-i

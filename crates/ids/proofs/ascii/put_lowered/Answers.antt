@@ -4,7 +4,6 @@ use mathlib.Core.Bool.{true}
 use mathlib.Core.List.{List, map}
 use Prim.Native.Nat.{ℕ, ◌+◌, ◌-◌, ◌≤◌}
 use native.Mathlib.Omega.{arith}
-use borrow.Author.Rules.{rules}
 use lib.Seq.{take_all}
 use Rattle.lower.specs.Ascii.{lower_ascii}
 use Rattle.base.specs.OutputLaws.{wrote_none, wrote-paste, wrote_as, wrote_count}

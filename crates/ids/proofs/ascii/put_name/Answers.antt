@@ -3,7 +3,6 @@ use mathlib.Core.Path.{◌≡◌}
 use mathlib.Core.Bool.{true}
 use Prim.Native.Nat.{◌+◌}
 use native.Mathlib.Omega.{arith}
-use borrow.Author.Rules.{rules}
 use lib.ListN.{length}
 use Rattle.base.specs.Never.{never}
 use Rattle.base.specs.OutputLaws.{wrote-rest, wrote-room, wrote_as, wrote_count}

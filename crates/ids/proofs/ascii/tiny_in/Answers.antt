@@ -1,7 +1,6 @@
 -- `ascii::tiny_in`: no unit, one by its bytes, or two or three by their first and last two. Assumes nothing.
 use mathlib.Core.Path.{sym, ◌∙◌}
 use native.Mathlib.Omega.{arith}
-use borrow.Author.Rules.{rules}
 use Rattle.ids.proofs.ShortUnits.{first-none, first_one, first_halves}
 use Rattle.ids.proofs.ascii.tiny_in.Goals as goal
 

@@ -1,12 +1,9 @@
 -- `id::long_hash`: the turns left, over the bytes from here on, end where all turns end. Assumes nothing.
-use mathlib.Core.Path.{◌≡◌, refl, ◌∙◌}
+use mathlib.Core.Path.{refl, ◌∙◌}
 use mathlib.Core.List.{List}
-use Prim.Native.Nat.{ℕ, ◌+◌, ◌*◌, ◌<◌}
+use Prim.Native.Nat.{ℕ}
 use native.Mathlib.Omega.{arith}
 use borrow.Author.Rules.{rules}
-use lib.ListN.{drop}
-use Rattle.text.specs.Utf16.{unit_bytes}
-use Rattle.city.specs.City.{turns}
 use Rattle.city.specs.CityLaws.{turns_end}
 use Rattle.text.specs.Name.{base}
 use Rattle.ids.specs.LoweredUnits.{name_units}

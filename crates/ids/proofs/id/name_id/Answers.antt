@@ -2,7 +2,6 @@
 use mathlib.Core.Path.{sym, ◌∙◌}
 use native.Mathlib.Omega.{arith}
 use borrow.Author.Rules.{rules}
-use borrow.Author.Tests.{not-true}
 use Rattle.text.specs.Name.{base}
 use Rattle.text.specs.NameLaws.{suffix-short}
 use Rattle.ids.specs.Id.{id_of}

@@ -2,7 +2,6 @@
 use mathlib.Core.Path.{refl}
 use mathlib.Core.Logic.{inl, inr}
 use native.Mathlib.Omega.{arith}
-use borrow.Author.Rules.{rules}
 use Rattle.ids.proofs.id.part_units.Goals as goal
 
 pub returns-then-count-from : goal.returns-then-count-from

@@ -1,12 +1,9 @@
 -- `id::put_end`: after each turn the buffer's front has the bytes of the first i units, 2 * i of them. Assumes nothing.
 use mathlib.Core.Path.{◌≡◌}
 use mathlib.Core.List.{◌++◌}
-use Prim.Native.Nat.{◌*◌, ◌-◌, ◌≤◌}
 use native.Mathlib.Omega.{arith}
 use borrow.Author.Rules.{rules}
-use lib.ListN.{length, take, length-set}
-use Rattle.base.specs.Output.{Wrote}
-use Rattle.text.specs.Utf16.{unit_bytes}
+use lib.ListN.{length-set}
 use Rattle.lower.specs.Lower.{lowered}
 use Rattle.ids.proofs.ShortUnits.{narrow-length, wrote-there, wrote-next}
 use Rattle.ids.proofs.id.put_end.Goals as goal

@@ -2,13 +2,10 @@
 use mathlib.Core.Path.{◌≡◌}
 use mathlib.Core.List.{◌++◌}
 use Prim.Native.Nat.{◌*◌, ◌-◌, ◌≤◌}
-use native.Mathlib.Omega.{arith}
-use borrow.Author.Rules.{rules}
-use lib.ListN.{length, take, length-set}
+use lib.ListN.{length, take}
 use Rattle.base.specs.Output.{Wrote}
 use Rattle.text.specs.Utf16.{unit_bytes}
 use Rattle.lower.specs.Lower.{lowered}
-use Rattle.ids.proofs.ShortUnits.{narrow-length, wrote-there, wrote-next}
 use Rattle.ids.proofs.id.put_end.Given as goal
 
 abbrev pub invariant-loop-i : goal.invariant-loop-i

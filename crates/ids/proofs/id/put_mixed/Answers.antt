@@ -1,10 +1,10 @@
 -- `id::put_mixed`: units of the base, and behind them units of the suffix. Assumes nothing.
 use mathlib.Core.Path.{◌≡◌, sym, ◌∙◌, ap}
 use mathlib.Core.List.{List}
-use Prim.Native.Nat.{ℕ, ◌+◌, ◌*◌, ◌-◌, ◌≤◌, ◌<◌}
+use Prim.Native.Nat.{ℕ, ◌+◌, ◌-◌}
 use native.Mathlib.Omega.{arith}
 use borrow.Author.Rules.{rules}
-use lib.ListN.{length, take, drop}
+use lib.ListN.{take, drop}
 use Rattle.lower.specs.Lower.{lowered}
 use Rattle.base.specs.NumberLaws.{Bytes}
 use Rattle.base.specs.OutputLaws.{wrote_as, wrote_count, wrote-room}

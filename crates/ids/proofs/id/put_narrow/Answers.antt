@@ -1,13 +1,10 @@
 -- `id::put_narrow`: after i turns the buffer's front has the bytes of the first i units, 2 * i of them. Assumes nothing.
-use mathlib.Core.Path.{◌≡◌, refl, sym, ◌∙◌, ap}
-use mathlib.Core.List.{List}
-use Prim.Native.Nat.{ℕ, ◌+◌, ◌*◌, ◌-◌, ◌≤◌, ◌<◌}
+use mathlib.Core.Path.{◌≡◌, sym, ◌∙◌}
+use Prim.Native.Nat.{◌+◌, ◌<◌}
 use native.Mathlib.Omega.{arith}
 use borrow.Author.Rules.{rules}
-use lib.ListN.{length, take, drop, length-set}
-use Rattle.base.specs.Output.{Wrote}
+use lib.ListN.{length, length-set}
 use Rattle.base.specs.OutputLaws.{wrote_none, wrote_count}
-use Rattle.text.specs.Utf16.{unit_bytes}
 use Rattle.lower.specs.Lower.{lowered}
 use Rattle.ids.specs.LowerLaws.{lowered-at, lowered-length}
 use Rattle.ids.proofs.NameUnits.{wrote-narrow}

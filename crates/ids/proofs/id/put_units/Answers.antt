@@ -1,18 +1,15 @@
 -- `id::put_units`: one-byte text at once, else its base and its suffix. Assumes nothing.
-use mathlib.Core.Path.{◌≡◌, sym, ◌∙◌, ap}
-use mathlib.Core.List.{List}
-use Prim.Native.Nat.{ℕ, ◌+◌, ◌*◌, ◌-◌, ◌≤◌, ◌<◌}
+use mathlib.Core.Path.{ap}
+use Prim.Native.Nat.{◌-◌, ◌≤◌}
 use native.Mathlib.Omega.{arith}
 use borrow.Author.Rules.{rules}
-use lib.ListN.{length, take, drop}
+use lib.ListN.{length}
 use Rattle.lower.specs.Lower.{lowered}
 use Rattle.base.specs.NumberLaws.{Bytes}
-use Rattle.base.specs.OutputLaws.{wrote_as, wrote_count}
+use Rattle.base.specs.OutputLaws.{wrote_as}
 use Rattle.text.specs.Utf16.{encode16, unit_bytes}
 use Rattle.text.specs.Name.{base}
-use Rattle.ids.specs.LoweredUnits.{name_units}
 use Rattle.text.specs.UnitsLaws.{units_of_bound}
-use borrow.Author.Tests.{not-true}
 use Rattle.ids.proofs.NameUnits.{part_length, name-length, narrow-is, narrow-count, name-first}
 use Rattle.ids.proofs.id.put_units.Goals as goal
 

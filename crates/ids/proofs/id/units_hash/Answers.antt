@@ -8,7 +8,6 @@ use lib.ListN.{length}
 use Rattle.text.specs.Utf16.{unit_bytes}
 use Rattle.city.specs.City.{city_hash64}
 use Rattle.text.specs.Name.{base}
-use Rattle.text.specs.Units.{units_of}
 use Rattle.ids.specs.LoweredUnits.{name_units}
 use Rattle.text.specs.UnitsLaws.{units_of_bound}
 use Rattle.ids.proofs.NameUnits.{name-length, narrow-name, narrow-count, middle-is}

@@ -2,7 +2,6 @@
 use mathlib.Core.Path.{sym, ◌∙◌, ap}
 use Prim.Native.Nat.{ℕ, ◌+◌, ◌-◌, ◌%◌}
 use native.Mathlib.Omega.{arith}
-use borrow.Author.Rules.{rules}
 use Rattle.lower.specs.LowerLaws.{lower_double}
 use Rattle.text.specs.Utf16.{of_pair}
 use Rattle.ids.specs.LowerLaws.{low-lowered}

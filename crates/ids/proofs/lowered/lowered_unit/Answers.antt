@@ -1,6 +1,5 @@
 -- `lowered_unit` meets its contract: unit i of a lowered text is unit i of the text, lowered by itself and the unit before it. Assumes nothing.
 use mathlib.Core.Path.{sym, ◌∙◌}
-use borrow.Author.Rules.{rules}
 use Rattle.base.specs.NumberLaws.{Bytes}
 use Rattle.ids.proofs.NameUnits.{place}
 use Rattle.ids.proofs.lowered.lowered_unit.Goals as goal

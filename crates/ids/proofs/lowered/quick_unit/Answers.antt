@@ -5,7 +5,6 @@ use mathlib.Core.List.{List, ◌∷◌}
 use mathlib.Core.Logic.{inl, inr}
 use Prim.Native.Nat.{ℕ, ◌<◌}
 use native.Mathlib.Omega.{arith}
-use borrow.Author.Rules.{rules}
 use lib.ListN.{length, get_or}
 use Rattle.lower.specs.Ascii.{lower_ascii}
 use Rattle.lower.specs.Lower.{lowered}

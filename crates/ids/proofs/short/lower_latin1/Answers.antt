@@ -1,7 +1,6 @@
 -- `short::lower_latin1`: below U+00C0 only A to Z are lowered. Assumes nothing.
 use mathlib.Core.Path.{sym, ◌∙◌}
 use native.Mathlib.Omega.{arith}
-use borrow.Author.Rules.{rules}
 use Rattle.rules.specs.LatinLaws.{lower_ascii_lem}
 use Rattle.ids.proofs.short.lower_latin1.Goals as goal
 

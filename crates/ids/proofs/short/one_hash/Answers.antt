@@ -3,7 +3,6 @@ use mathlib.Core.Path.{◌≡◌, refl, sym, ◌∙◌}
 use mathlib.Core.List.{[], ◌∷◌}
 use Prim.Native.Nat.{◌/◌, ◌%◌}
 use native.Mathlib.Omega.{arith}
-use borrow.Author.Rules.{rules}
 use Rattle.lower.specs.Lower.{lower, lowered}
 use Rattle.ids.proofs.ShortUnits.{units-one}
 use Rattle.ids.proofs.short.one_hash.Goals as goal

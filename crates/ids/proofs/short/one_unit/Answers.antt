@@ -1,7 +1,6 @@
 -- `short::one_unit`: of the base, lowered, or of the suffix. Assumes nothing.
 use mathlib.Core.Path.{sym, ◌∙◌, ap}
 use native.Mathlib.Omega.{arith}
-use borrow.Author.Rules.{rules}
 use Rattle.lower.specs.Lower.{lower}
 use Rattle.lower.specs.LowerLaws.{lower-single}
 use Rattle.ids.proofs.ShortUnits.{unit-first, unit-rest}

@@ -1,7 +1,6 @@
 -- `short::pair_at`: a unit of 16 bits shifted by 16 loses none. Assumes nothing.
 use mathlib.Core.List.{◌++◌}
 use native.Mathlib.Omega.{arith}
-use borrow.Author.Rules.{rules}
 use Rattle.lower.specs.Lower.{lowered}
 use Rattle.ids.proofs.ShortUnits.{narrow-length, pair_of}
 use Rattle.ids.proofs.short.pair_at.Goals as goal

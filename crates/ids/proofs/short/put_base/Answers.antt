@@ -1,11 +1,10 @@
 -- `short::put_base`: after i turns the array's front has the first i units. Assumes nothing.
 use mathlib.Core.Path.{◌≡◌, sym, ◌∙◌, ap}
-use Prim.Native.Nat.{◌-◌, ◌≤◌, ◌<◌}
+use Prim.Native.Nat.{◌<◌}
 use native.Mathlib.Omega.{arith}
 use borrow.Author.Rules.{rules}
-use lib.ListN.{length, take, length-set}
+use lib.ListN.{length, length-set}
 use lib.Seq.{take_all}
-use Rattle.base.specs.Output.{Wrote}
 use Rattle.base.specs.OutputLaws.{wrote_none, wrote-copy, wrote_as}
 use Rattle.lower.specs.Lower.{lower, lowered}
 use Rattle.ids.specs.LowerLaws.{lowered-at, lowered-length}

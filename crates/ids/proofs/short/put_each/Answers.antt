@@ -1,5 +1,4 @@
 -- `short::put_each`: the units of the base, and those of the suffix behind them. Assumes nothing.
-use borrow.Author.Rules.{rules}
 use Rattle.base.specs.OutputLaws.{wrote-rest}
 use Rattle.ids.proofs.short.put_each.Goals as goal
 

@@ -1,12 +1,8 @@
 -- `short::put_number`: after i turns the array's front has the first i units. Assumes nothing.
 use mathlib.Core.Path.{◌≡◌}
 use Prim.Native.Nat.{◌-◌, ◌≤◌}
-use native.Mathlib.Omega.{arith}
-use borrow.Author.Rules.{rules}
-use lib.ListN.{length, take, length-set}
-use lib.Seq.{take_all}
+use lib.ListN.{length, take}
 use Rattle.base.specs.Output.{Wrote}
-use Rattle.base.specs.OutputLaws.{wrote_none, wrote-copy, wrote_as}
 use Rattle.ids.proofs.short.put_number.Given as goal
 
 abbrev pub invariant-loop-i : goal.invariant-loop-i

@@ -2,7 +2,6 @@
 use mathlib.Core.Path.{sym, ◌∙◌}
 use mathlib.Core.List.{◌++◌}
 use native.Mathlib.Omega.{arith}
-use borrow.Author.Rules.{rules}
 use Rattle.lower.specs.Lower.{lowered}
 use Rattle.ids.proofs.ShortUnits.{narrow-length, units-none, units-one, units-halves}
 use Rattle.ids.proofs.short.tiny_hash.Goals as goal

@@ -1,7 +1,6 @@
 -- `short::two_hash`: by the first and the last word, each of two half words. Assumes nothing.
 use mathlib.Core.Path.{sym, ◌∙◌}
 use mathlib.Core.List.{◌++◌}
-use borrow.Author.Rules.{rules}
 use Rattle.lower.specs.Lower.{lowered}
 use Rattle.ids.proofs.ShortUnits.{narrow-length, units-two}
 use Rattle.ids.proofs.short.two_hash.Goals as goal

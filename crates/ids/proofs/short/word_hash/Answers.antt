@@ -2,7 +2,6 @@
 use mathlib.Core.Path.{sym, ◌∙◌}
 use mathlib.Core.List.{◌++◌}
 use native.Mathlib.Omega.{arith}
-use borrow.Author.Rules.{rules}
 use Rattle.lower.specs.Lower.{lowered}
 use Rattle.ids.proofs.ShortUnits.{narrow-length, units-two}
 use Rattle.ids.proofs.short.word_hash.Goals as goal

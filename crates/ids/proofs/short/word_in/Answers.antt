@@ -1,7 +1,6 @@
 -- `short::word_in`: four units of 16 bits. Assumes nothing.
 use mathlib.Core.Path.{sym, ◌∙◌}
 use Prim.Native.Nat.{◌+◌}
-use borrow.Author.Rules.{rules}
 use Rattle.ids.proofs.ShortUnits.{word_of}
 use Rattle.ids.proofs.short.word_in.Goals as goal
 

@@ -1,6 +1,5 @@
 -- `short::words_hash`: by the first two and the last two words of the units. Assumes nothing.
 use mathlib.Core.Path.{sym}
-use borrow.Author.Rules.{rules}
 use Rattle.ids.proofs.ShortUnits.{units-four}
 use Rattle.ids.proofs.short.words_hash.Goals as goal
 

@@ -1,17 +1,15 @@
 -- `wide::put_ascii`: a turn puts one unit more, and adds its bits. Assumes nothing.
 use mathlib.Core.Path.{◌≡◌, refl, sym, ◌∙◌, ap}
 use mathlib.Core.Bool.{true}
-use mathlib.Core.List.{List, map}
-use Prim.Native.Nat.{ℕ, ◌+◌, ◌-◌, ◌<◌}
+use mathlib.Core.List.{List}
+use Prim.Native.Nat.{ℕ, ◌+◌, ◌<◌}
 use native.Mathlib.Omega.{arith}
 use borrow.Author.Rules.{rules}
-use lib.ListN.{take, drop, length-set}
 use Rattle.lower.specs.Ascii.{lower_ascii}
 use Rattle.lower.specs.AsciiLaws.{ascii-unit}
 use Rattle.rules.specs.ScriptLaws.{caseless-script}
 use Rattle.text.specs.Units.{units_of}
-use Rattle.ids.specs.LoweredUnits.{bits_from}
-use Rattle.ids.proofs.PutUnits.{Put, put-none, put_next, put_all}
+use Rattle.ids.proofs.PutUnits.{put-none, put_next, put_all}
 use Rattle.ids.proofs.WideUnits.{mapped_at, mapped-length, bits-next}
 use Rattle.ids.proofs.wide.put_ascii.Goals as goal
 

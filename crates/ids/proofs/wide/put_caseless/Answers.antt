@@ -1,13 +1,10 @@
 -- `wide::put_caseless`: a turn puts one unit more, and tests it. Assumes nothing.
-use mathlib.Core.Bool.{true}
-use Prim.Native.Nat.{◌-◌, ◌<◌}
+use Prim.Native.Nat.{◌<◌}
 use native.Mathlib.Omega.{arith}
 use borrow.Author.Rules.{rules}
-use lib.ListN.{length-set}
 use Rattle.lower.specs.AsciiLaws.{ascii-unit}
 use Rattle.rules.specs.ScriptLaws.{caseless-script}
-use Rattle.text.specs.Units.{units_of}
-use Rattle.ids.proofs.WideUnits.{Passed, passed_none, passed-next, passed-all}
+use Rattle.ids.proofs.WideUnits.{passed_none, passed-next, passed-all}
 use Rattle.ids.proofs.wide.put_caseless.Goals as goal
 
 pub loop-i-init : goal.loop-i-init

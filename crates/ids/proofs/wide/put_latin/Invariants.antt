@@ -1,12 +1,9 @@
 -- `wide::put_latin`: a turn puts one unit more, and tests it. Assumes nothing.
 use mathlib.Core.Bool.{true}
 use Prim.Native.Nat.{◌-◌}
-use native.Mathlib.Omega.{arith}
-use borrow.Author.Rules.{rules}
-use lib.ListN.{length-set}
 use Rattle.rules.specs.ScriptLaws.{latin-script}
 use Rattle.text.specs.Units.{units_of}
-use Rattle.ids.proofs.WideUnits.{Passed, passed_none, passed-next, passed-all}
+use Rattle.ids.proofs.WideUnits.{Passed}
 use Rattle.ids.proofs.wide.put_latin.Given as goal
 
 abbrev pub invariant-loop-i : goal.invariant-loop-i

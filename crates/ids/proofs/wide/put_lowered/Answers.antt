@@ -1,16 +1,11 @@
 -- `wide::put_lowered`: a turn puts one unit more. Assumes nothing.
 use mathlib.Core.Bool.{true}
-use Prim.Native.Nat.{◌-◌}
 use native.Mathlib.Omega.{arith}
 use borrow.Author.Rules.{rules}
-use lib.ListN.{length-set}
-use Rattle.lower.specs.Lower.{lowered}
 use Rattle.base.specs.NumberLaws.{Bytes}
-use Rattle.text.specs.Utf16.{encode16}
-use Rattle.text.specs.Name.{base}
 use Rattle.text.specs.UnitsLaws.{units_of_bound}
 use Rattle.ids.proofs.NameUnits.{part_length}
-use Rattle.ids.proofs.PutUnits.{Put, put-none, put_next, put_all}
+use Rattle.ids.proofs.PutUnits.{put-none, put_next, put_all}
 use Rattle.ids.proofs.wide.put_lowered.Goals as goal
 
 pub loop-i-init : goal.loop-i-init

@@ -3,10 +3,10 @@ use mathlib.Core.Path.{refl}
 use mathlib.Core.Bool.{true}
 use mathlib.Core.List.{List, ◌∷◌}
 use mathlib.Core.Logic.{inl, inr}
-use Prim.Native.Nat.{ℕ, ◌+◌, ◌-◌, ◌<◌}
+use Prim.Native.Nat.{ℕ, ◌+◌, ◌<◌}
 use native.Mathlib.Omega.{arith}
 use borrow.Author.Rules.{rules}
-use lib.ListN.{get_or, length-set}
+use lib.ListN.{get_or}
 use Rattle.lower.specs.Lower.{lowered}
 use Rattle.rules.specs.Quick.{asks}
 use Rattle.rules.specs.QuickLaws.{not-asked}
@@ -17,7 +17,7 @@ use Rattle.text.specs.Name.{base}
 use Rattle.text.specs.Units.{units_of}
 use Rattle.text.specs.UnitsLaws.{units_of_bound, units_of-words}
 use Rattle.ids.proofs.NameUnits.{part_length, place}
-use Rattle.ids.proofs.PutUnits.{Put, put-none, put_next, put_all}
+use Rattle.ids.proofs.PutUnits.{put-none, put_next, put_all}
 use Rattle.ids.proofs.WideUnits.{lowered-word, asked}
 use Rattle.ids.proofs.wide.put_ruled.Goals as goal
 

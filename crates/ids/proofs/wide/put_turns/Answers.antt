@@ -4,7 +4,6 @@ use native.Mathlib.Omega.{arith}
 use Rattle.rules.specs.ScriptLaws.{caseless-script, latin-script, greek_script}
 use Rattle.base.specs.NumberLaws.{Bytes}
 use Rattle.ids.proofs.WideUnits.{turned}
-use borrow.Author.Rules.{rules}
 use Rattle.ids.proofs.wide.put_turns.Goals as goal
 
 pub returns-in-Ascii : goal.returns-in-Ascii

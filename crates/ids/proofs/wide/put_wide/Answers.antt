@@ -7,7 +7,6 @@ use Rattle.base.specs.OutputLaws.{wrote_as}
 use Rattle.text.specs.Utf16.{encode16}
 use Rattle.text.specs.Name.{base}
 use Rattle.ids.proofs.PutUnits.{wrote-behind}
-use borrow.Author.Rules.{rules}
 use Rattle.ids.proofs.wide.put_wide.Goals as goal
 
 pub returns-then-k-n : goal.returns-then-k-n

@@ -1,12 +1,11 @@
 -- `lower_ascii`: 32 times the outcome of the range test, by cases on its two halves. Assumes nothing.
-use mathlib.Core.Path.{◌≡◌, refl}
+use mathlib.Core.Path.{◌≡◌}
 use mathlib.Core.Bool.{Bool, true, false, cond, ◌&&◌}
 use mathlib.Core.Logic.{◌⊎◌, inl, inr}
 use Prim.Native.Nat.{ℕ, ◌+◌, ◌*◌, ◌^◌, ◌≤◌, ◌<◌}
 use native.Mathlib.Omega.{arith}
 use mir.Val.{bool_byte}
 use lib.Dec.{leb}
-use borrow.Author.Rules.{rules}
 use Rattle.lower.specs.Ascii.{lower_ascii}
 use Rattle.lower.specs.AsciiLaws.{ascii-cases}
 use Rattle.lower.proofs.ascii.lower_ascii.Goals as goal

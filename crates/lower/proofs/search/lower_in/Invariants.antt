@@ -1,16 +1,9 @@
 -- `lower_in`: the character stands at the place that is kept, or between it and the end of what is left. Assumes nothing.
-use mathlib.Core.Path.{◌≡◌, refl, sym, ◌∙◌, ap}
-use mathlib.Core.List.{List}
-use mathlib.Core.Logic.{◌⊎◌, inl, inr, ⊎_elim, by_cases}
-use native.Mathlib.Decide.{dec_lt}
-use Prim.Native.Nat.{ℕ, suc, ◌+◌, ◌*◌, ◌-◌, ◌/◌, ◌≤◌, ◌<◌}
-use native.Mathlib.Omega.{arith}
-use lib.ListN.{length, get_or}
+use mathlib.Core.Path.{◌≡◌}
+use mathlib.Core.Logic.{◌⊎◌}
+use Prim.Native.Nat.{ℕ, ◌+◌, ◌≤◌, ◌<◌}
 use Rattle.lower.specs.Table.{pairs}
-use Rattle.lower.specs.TableLaws.{count, firsts-rise}
-use Rattle.lower.specs.Lower.{lower, flat, second_of}
-use Rattle.lower.specs.SearchLaws.{first_at, second_at, first-later, second_at_lem, second_below, second-between}
-use Rattle.lower.specs.LowerLaws.{lower-is, table-length}
+use Rattle.lower.specs.SearchLaws.{first_at}
 use Rattle.lower.proofs.search.lower_in.Given as goal
 
 -- the first at a place is at most c, or the place is the table's start

@@ -1,6 +1,5 @@
 -- `class::ends_in_class` meets its contract: the columns give the name's number and its place. Assumes nothing.
 use mathlib.Core.Path.{refl, sym, ◌∙◌, ap}
-use borrow.Author.Rules.{rules}
 use Rattle.meaning.specs.ClassTest.{name_numbered_lem, name-plain}
 use Rattle.objects.specs.Numbers.{entry_no}
 use Rattle.objects.specs.Work.{place_of}

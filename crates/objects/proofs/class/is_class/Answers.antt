@@ -2,7 +2,6 @@
 use mathlib.Core.Path.{◌≡◌, sym, ◌∙◌}
 use Prim.Native.Nat.{◌+◌, ◌-◌}
 use native.Mathlib.Omega.{arith}
-use borrow.Author.Rules.{rules}
 use Rattle.meaning.specs.ClassTest.{is_known}
 use Rattle.objects.specs.Numbers.{number_of, path_no}
 use Rattle.objects.specs.PathLaws.{of_linked, number-inside, class-none, class_no_lem, and-true, and-false}

@@ -1,15 +1,8 @@
 -- `class::known` meets its contract. The loop's invariant: the path is known where that of the object at hand, of at most as many objects as are
 -- left, is. Assumes nothing.
-use mathlib.Core.List.{List}
-use mathlib.Core.Path.{◌≡◌, sym, ◌∙◌}
-use Prim.Native.Nat.{ℕ, ◌*◌, ◌≤◌, ◌<◌}
+use mathlib.Core.Path.{sym, ◌∙◌}
 use native.Mathlib.Omega.{arith}
-use borrow.Author.Rules.{rules}
-use lib.ListN.{length}
-use Rattle.scriptblock.specs.Script.{Objects}
-use Rattle.meaning.specs.ClassTest.{is_known}
-use Rattle.objects.specs.Numbers.{entry_no, path_no}
-use Rattle.objects.specs.Work.{ObjectsIn}
+use Rattle.objects.specs.Numbers.{entry_no}
 use Rattle.objects.specs.PathLaws.{path_end, known_end, known_up, link-inside, link_at_lem}
 use Rattle.objects.proofs.class.known.Goals as goal
 

@@ -1,15 +1,12 @@
 -- `enter::enter` meets its contract. The loop's invariant: the first i objects are entered, and the first fault from object i on is the first of
 -- all. Assumes nothing.
 use mathlib.Core.Path.{◌≡◌, sym, ◌∙◌}
-use Prim.Native.Nat.{◌-◌, ◌≤◌, ◌<◌}
+use Prim.Native.Nat.{◌<◌}
 use native.Mathlib.Omega.{arith}
-use borrow.Author.Rules.{rules}
 use Rattle.base.specs.NumberLaws.{Bytes}
-use Rattle.scriptblock.specs.ScriptAnswers.{fault_at}
-use Rattle.scriptblock.specs.ScriptFaults.{fault_from, no_fault, fault-first, fault-none, fault-own, fault-seen, fault-next}
+use Rattle.scriptblock.specs.ScriptFaults.{no_fault, fault-first, fault-none, fault-own, fault-seen, fault-next}
 use Rattle.scriptblock.specs.ScriptLaws.{open_fits}
 use Rattle.table.specs.TableLaws.{holds-linked}
-use Rattle.objects.specs.Work.{Entered}
 use Rattle.objects.specs.WorkLaws.{entered-none}
 use Rattle.objects.specs.EnterLaws.{open_held, is-new, is-old, entered-next}
 use Rattle.objects.proofs.enter.enter.Goals as goal

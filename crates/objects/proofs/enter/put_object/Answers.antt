@@ -1,12 +1,6 @@
 -- `enter::put_object` meets its contract: the place holds a name. Assumes nothing.
 use Rattle.batch.specs.Holds.{holds-name, holds-own}
 use Rattle.batch.specs.PlacesLaws.{place-size}
-use borrow.Author.Rules.{rules}
-use Rattle.objects.proofs.enter.put_object.Reads as reads
-use Rattle.objects.proofs.enter.put_object.Lts as lts
-use Rattle.objects.proofs.enter.describe.Reads as describe-reads
-use Rattle.batch.proofs.notes.place_at.Reads as place-at-reads
-use Rattle.batch.proofs.texts.place_len.Reads as place-len-reads
 use Rattle.objects.proofs.enter.put_object.Goals as goal
 
 pub place_len-len-requires : goal.place_len-len-requires

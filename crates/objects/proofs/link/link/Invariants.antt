@@ -1,14 +1,12 @@
 -- `link::link` meets its contract. The loop's invariant: all objects are entered, and the first i are linked. Assumes nothing.
 use mathlib.Core.Path.{◌≡◌}
 use Prim.Native.Nat.{◌-◌, ◌≤◌}
-use native.Mathlib.Omega.{arith}
 use Rattle.base.specs.Reading.{run}
 use Rattle.scriptblock.specs.Script.{script}
 use Rattle.scriptblock.specs.ScriptAnswers.{script_answer}
 use Rattle.scriptblock.specs.declared.script.Script.TheVariants.{Accepted}
 use Rattle.objects.specs.Work.{Entered}
-use Rattle.objects.specs.WorkLaws.{link-kept}
-use Rattle.objects.specs.LinkLaws.{all-keyed, entries-there, LinkedTo, linked-more, all-linked}
+use Rattle.objects.specs.LinkLaws.{LinkedTo}
 use Rattle.objects.proofs.link.link.Given as goal
 
 abbrev pub invariant-loop-i : goal.invariant-loop-i

@@ -1,7 +1,6 @@
 -- `link::link_of` meets its contract. Assumes nothing.
 use mathlib.Core.Path.{sym, ◌∙◌}
 use native.Mathlib.Omega.{arith}
-use borrow.Author.Rules.{rules}
 use Rattle.objects.specs.NumberLaws.{number-le, link-null, link-found, raised-some}
 use Rattle.objects.specs.WorkLaws.{entries-length}
 use Rattle.objects.proofs.link.link_of.Goals as goal

@@ -1,6 +1,5 @@
 -- `object::object_at` meets its contract: the columns of the record. Assumes nothing.
 use mathlib.Core.Path.{◌∙◌}
-use borrow.Author.Rules.{rules}
 use Rattle.objects.specs.Work.{object_no}
 use Rattle.objects.specs.PathLaws.{link_at_lem, columns-at}
 use Rattle.objects.proofs.object.object_at.Goals as goal

@@ -1,8 +1,8 @@
 -- `path::put_path` meets its contract: the outer's path by the recursive call, then the separator and the name. The measure is how many objects may
 -- still come. Assumes nothing.
-use Rattle.std.proofs.Common.{arith, rules, ◌-◌, ℕ}
+use Rattle.std.proofs.Common.{arith, ◌-◌, ℕ}
 use Rattle.base.specs.Output.{Wrote}
-use Rattle.base.specs.OutputLaws.{wrote-length, wrote-rest}
+use Rattle.base.specs.OutputLaws.{wrote-length}
 use Rattle.objects.specs.Numbers.{path_no}
 use Rattle.objects.specs.PathLaws.{path_end}
 use Rattle.objects.specs.Told.{path_bytes}

@@ -2,16 +2,13 @@
 -- left, behind the bytes and objects passed. Each name takes fewer than 2^32 bytes, its separator included no more. Assumes nothing.
 use mathlib.Core.List.{List}
 use mathlib.Core.Path.{◌≡◌}
-use Prim.Native.Nat.{ℕ, ◌+◌, ◌*◌, ◌-◌, ◌≤◌, ◌<◌}
-use native.Mathlib.Omega.{arith}
+use Prim.Native.Nat.{ℕ, ◌*◌, ◌-◌, ◌≤◌, ◌<◌}
 use lib.ListN.{length}
-use Rattle.base.specs.NumberLaws.{le_at-lt}
 use Rattle.scriptblock.specs.Script.{Objects}
-use Rattle.objects.specs.Numbers.{entry_no, path_no}
+use Rattle.objects.specs.Numbers.{path_no}
 use Rattle.objects.specs.Work.{ObjectsIn}
-use Rattle.objects.specs.PathLaws.{path-lost, path-top, path-up, link-inside, link_at_lem}
 use Rattle.objects.specs.Told.{told}
-use Rattle.objects.specs.ToldLaws.{behind, behind-none, told_end, told-lost, told-top, told-up, rendered-at}
+use Rattle.objects.specs.ToldLaws.{behind}
 use Rattle.objects.proofs.path.path_len.Given as goal
 
 abbrev pub invariant-loop-depth : goal.invariant-loop-depth

@@ -1,5 +1,4 @@
 -- `path::put_name` meets its contract. Assumes nothing.
-use borrow.Author.Rules.{rules}
 use Rattle.objects.proofs.path.put_name.Goals as goal
 
 pub put_place-requires : goal.put_place-requires

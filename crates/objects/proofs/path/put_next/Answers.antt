@@ -1,6 +1,5 @@
 -- `path::put_next` meets its contract: the separator, and the name behind it. Assumes nothing.
 use native.Mathlib.Omega.{arith}
-use borrow.Author.Rules.{rules}
 use lib.ListN.{length-set}
 use Rattle.base.specs.OutputLaws.{wrote-length}
 use Rattle.objects.specs.PutLaws.{name_of}

@@ -1,5 +1,4 @@
 -- `packages::described::row_from` meets its contract. Assumes nothing.
-use borrow.Author.Rules.{rules}
 use Rattle.packages.proofs.RowMade.{alone, nested, outer-there, named, own-start, outer_start}
 use Rattle.packages.proofs.described.row_from.Goals as goal
 

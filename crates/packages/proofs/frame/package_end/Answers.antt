@@ -1,5 +1,4 @@
 -- `packages::frame::package_end` meets its contract: the two tests are those of `inside`. Assumes nothing.
-use borrow.Author.Rules.{rules}
 use Rattle.packages.specs.FramingLaws.{end_short, end_long, end_there}
 use Rattle.packages.proofs.frame.package_end.Goals as goal
 

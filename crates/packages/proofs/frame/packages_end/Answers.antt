@@ -4,7 +4,6 @@ use mathlib.Core.List.{List}
 use Prim.Native.Nat.{ℕ, zero, suc, ◌-◌, ◌≤◌, ◌<◌}
 use native.Mathlib.Omega.{arith}
 use borrow.Author.Rules.{rules}
-use lib.ListN.{length}
 use Rattle.packages.specs.Framing.{package_end, packages_end}
 use Rattle.packages.specs.FramingLaws.{end_zero, end_more, end_broken, end_in}
 use Rattle.packages.proofs.frame.packages_end.Invariants.{Left}

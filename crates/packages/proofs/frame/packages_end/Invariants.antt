@@ -1,12 +1,9 @@
 -- `packages::frame::packages_end` meets its contract. What is left from here on ends where all of it does. Assumes nothing.
-use mathlib.Core.Path.{◌≡◌, refl, sym, ◌∙◌, ap}
+use mathlib.Core.Path.{◌≡◌}
 use mathlib.Core.List.{List}
-use Prim.Native.Nat.{ℕ, zero, suc, ◌-◌, ◌≤◌, ◌<◌}
-use native.Mathlib.Omega.{arith}
-use borrow.Author.Rules.{rules}
+use Prim.Native.Nat.{ℕ, ◌≤◌, ◌<◌}
 use lib.ListN.{length}
-use Rattle.packages.specs.Framing.{package_end, packages_end}
-use Rattle.packages.specs.FramingLaws.{end_zero, end_more, end_broken, end_in}
+use Rattle.packages.specs.Framing.{packages_end}
 use Rattle.packages.proofs.frame.packages_end.Given as goal
 
 -- packages from here on end where all do

@@ -1,8 +1,7 @@
 -- `packages::frame::read_frame` meets its contract: length, version, parts. Assumes nothing.
 use mathlib.Core.Path.{◌≡◌, sym, ◌∙◌}
 use mathlib.Core.List.{List}
-use Prim.Native.Nat.{ℕ, ◌-◌, ◌≤◌, ◌<◌}
-use borrow.Author.Rules.{rules}
+use Prim.Native.Nat.{ℕ, ◌-◌, ◌≤◌}
 use lib.ListN.{length, get_or}
 use Rattle.base.specs.Number.{be_at}
 use Rattle.meaning.specs.Frame.{framed}

@@ -1,5 +1,4 @@
 -- `packages::names::put_number` meets its contract: the text, then the number. Assumes nothing.
-use borrow.Author.Rules.{rules}
 use Rattle.base.specs.OutputLaws.{wrote-rest, next-room, front_fits}
 use Rattle.packages.proofs.names.put_number.Goals as goal
 

@@ -1,5 +1,4 @@
 -- `packages::names::put_numbers` meets its contract: one, then the other. Assumes nothing.
-use borrow.Author.Rules.{rules}
 use Rattle.base.specs.OutputLaws.{wrote-rest, next-room, front_fits}
 use Rattle.packages.proofs.names.put_numbers.Goals as goal
 

@@ -2,7 +2,6 @@
 use mathlib.Core.Path.{◌≡◌}
 use mathlib.Core.List.{List, []}
 use Prim.Native.Nat.{ℕ}
-use borrow.Author.Rules.{rules}
 use lib.ListN.{get_or}
 use Rattle.ids.specs.Id.{id_of}
 use Rattle.base.specs.Index.{import_name, import_hash}

@@ -3,7 +3,6 @@ use mathlib.Core.Path.{◌≡◌, sym, ◌∙◌, ap}
 use mathlib.Core.List.{List}
 use Prim.Native.Nat.{ℕ, ◌<◌}
 use native.Mathlib.Decide.{ℕ_discrete}
-use borrow.Author.Rules.{rules}
 use lib.ListN.{get_or}
 use Rattle.ids.specs.Id.{id_of}
 use Rattle.base.specs.Index.{kind, import_name, import_hash}

@@ -1,5 +1,4 @@
 -- `packages::package::parts_of` meets its contract. Assumes nothing.
-use borrow.Author.Rules.{rules}
 use Rattle.packages.specs.Package.{parts_at}
 use Rattle.packages.proofs.package.parts_of.Goals as goal
 

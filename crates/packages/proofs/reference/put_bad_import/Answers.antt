@@ -2,14 +2,12 @@
 use mathlib.Core.Path.{◌≡◌}
 use mathlib.Core.List.{List, ◌++◌}
 use Prim.Native.Nat.{ℕ, ◌+◌, ◌-◌, ◌≤◌}
-use native.Mathlib.Omega.{arith}
-use borrow.Author.Rules.{rules}
-use lib.ListN.{length, take, drop, length-append}
+use lib.ListN.{length, take, drop}
 use Rattle.text.specs.Digits.{decimal}
 use Rattle.base.specs.Index.{import_name, import_hash}
 use Rattle.base.specs.Literal.{quoted}
 use Rattle.base.specs.Output.{Wrote}
-use Rattle.base.specs.OutputLaws.{wrote_as, wrote-rest, next-room, front_fits}
+use Rattle.base.specs.OutputLaws.{wrote-rest, next-room, front_fits}
 use Rattle.packages.specs.RefBytes.{import_bad}
 use Rattle.packages.specs.declared.package.Parts.{Parts}
 use Rattle.packages.proofs.reference.put_bad_import.Goals as goal

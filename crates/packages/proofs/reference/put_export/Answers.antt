@@ -2,12 +2,10 @@
 use mathlib.Core.Path.{◌≡◌}
 use mathlib.Core.List.{List, [], ◌++◌}
 use Prim.Native.Nat.{ℕ, ◌≤◌}
-use borrow.Author.Rules.{rules}
 use lib.ListN.{length, get_or}
 use Rattle.base.specs.Literal.{quoted}
 use Rattle.text.specs.Utf8.{utf8}
 use Rattle.base.specs.Output.{Wrote}
-use Rattle.base.specs.OutputLaws.{wrote_as, wrote-rest, next-room, front_fits}
 use Rattle.batch.specs.Holds.{Holds, name_at, holds-own}
 use Rattle.batch.specs.declared.places.Place.{Place}
 use Rattle.zen.specs.Zen.{no_export}

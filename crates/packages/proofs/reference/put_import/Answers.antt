@@ -2,14 +2,13 @@
 use mathlib.Core.Path.{◌≡◌}
 use mathlib.Core.List.{List, [], ◌++◌}
 use Prim.Native.Nat.{ℕ, ◌+◌, ◌-◌, ◌≤◌}
-use borrow.Author.Rules.{rules}
 use lib.ListN.{length, take, drop, get_or}
 use Rattle.text.specs.Digits.{hex}
 use Rattle.base.specs.Index.{import_name, import_hash}
 use Rattle.base.specs.Literal.{quoted}
 use Rattle.text.specs.Utf8.{utf8}
 use Rattle.base.specs.Output.{Wrote}
-use Rattle.base.specs.OutputLaws.{wrote_as, wrote-rest, next-room, front_fits}
+use Rattle.base.specs.OutputLaws.{wrote-rest, next-room, front_fits}
 use Rattle.batch.specs.Holds.{Holds, name_at, holds-own}
 use Rattle.batch.specs.declared.places.Place.{Place}
 use Rattle.packages.specs.Package.{read_in}

@@ -2,7 +2,6 @@
 use mathlib.Core.List.{List, ◌++◌}
 use Prim.Native.Nat.{ℕ, ◌-◌, ◌≤◌}
 use native.Mathlib.Omega.{arith}
-use borrow.Author.Rules.{rules}
 use lib.ListN.{length, take, drop}
 use Rattle.text.specs.Digits.{hex}
 use Rattle.text.specs.DigitsLaws.{length-hex}

@@ -1,16 +1,13 @@
 -- `packages::reference::put_reference` meets its contract, kind by kind. Assumes nothing.
-use mathlib.Core.Path.{◌≡◌, sym, ◌∙◌, ap}
+use mathlib.Core.Path.{◌≡◌, sym, ◌∙◌}
 use mathlib.Core.List.{List, ◌++◌}
 use Prim.Native.Nat.{ℕ, ◌≤◌, ◌<◌}
-use native.Mathlib.Omega.{arith}
-use borrow.Author.Rules.{rules}
-use lib.ListN.{length, length-append}
+use lib.ListN.{length}
 use Rattle.text.specs.Digits.{hex}
-use Rattle.text.specs.DigitsLaws.{length-hex}
 use Rattle.base.specs.Index.{import_name, import_hash}
 use Rattle.base.specs.Literal.{quoted}
 use Rattle.base.specs.Output.{Wrote}
-use Rattle.base.specs.OutputLaws.{wrote_as, wrote-rest, next-room, front_fits}
+use Rattle.base.specs.OutputLaws.{wrote_as}
 use Rattle.packages.specs.Package.{read_in, PackageIn}
 use Rattle.packages.specs.Meaning.{kind_by}
 use Rattle.packages.specs.MeaningLaws.{kind-says}

@@ -3,7 +3,6 @@ use mathlib.Core.Path.{◌≡◌, refl, sym, ◌∙◌}
 use mathlib.Core.Bool.{Bool, true, false}
 use mathlib.Core.List.{List, []}
 use Prim.Native.Nat.{ℕ, ◌<◌}
-use borrow.Author.Rules.{rules}
 use lib.ListN.{get_or}
 use Rattle.text.specs.Affix.{starts_with, ends_with}
 use Rattle.batch.specs.Holds.{Holds, text_at, holds-own}

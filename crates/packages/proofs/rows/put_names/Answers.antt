@@ -1,16 +1,15 @@
 -- `packages::rows::put_names` meets its contract: one text behind another. Assumes nothing.
-use mathlib.Core.Path.{◌≡◌, ap}
+use mathlib.Core.Path.{◌≡◌}
 use mathlib.Core.List.{List, ◌++◌}
 use Prim.Native.Nat.{ℕ, ◌+◌, ◌-◌, ◌≤◌}
-use borrow.Author.Rules.{rules}
 use lib.ListN.{length, take, drop}
-use Rattle.text.specs.Name.{suffix, text_bytes}
+use Rattle.text.specs.Name.{text_bytes}
 use Rattle.base.specs.NumberLaws.{Bytes}
 use Rattle.base.specs.Output.{Wrote}
 use Rattle.base.specs.OutputLaws.{wrote-rest, next-room, front_fits}
-use Rattle.batch.specs.Holds.{Holds, text_at, name_at, holds-own}
+use Rattle.batch.specs.Holds.{Holds, name_at, holds-own}
 use Rattle.batch.specs.declared.places.Place.{Place}
-use Rattle.packages.specs.Row.{whole_at, instance_base, instance_at, instance_place, outer_at, names_at, RowHolds}
+use Rattle.packages.specs.Row.{whole_at, instance_base, instance_place, outer_at, names_at, RowHolds}
 use Rattle.packages.specs.RowLaws.{instance-holds, instance-room}
 use Rattle.packages.specs.declared.rows.Row.{Row}
 use Rattle.packages.proofs.rows.put_names.Goals as goal

@@ -1,5 +1,4 @@
 -- `packages::rows::row_at` meets its contract. Assumes nothing.
-use borrow.Author.Rules.{rules}
 use Rattle.packages.proofs.RowMade.{alone, nested, outer-there, named}
 use Rattle.packages.proofs.rows.row_at.Goals as goal
 

@@ -3,7 +3,6 @@ use mathlib.Core.Path.{refl, sym, ◌∙◌}
 use native.Mathlib.Omega.{arith}
 use Rattle.base.specs.NumberLaws.{length-be_bytes}
 use Rattle.pool.specs.ComposeLaws.{compose_roomy, compose_text}
-use borrow.Author.Rules.{rules}
 use Rattle.pool.proofs.compose.compose.Goals as goal
 
 pub returns-then-len-gt252 : goal.returns-then-len-gt252

@@ -10,7 +10,6 @@ use Rattle.objects.specs.PutLaws.{stands-holds, stands-linked, stands-lost, oute
 use Rattle.objects.specs.Work.{place_of}
 use Rattle.objects.specs.declared.path.Path.TheVariants.{Known}
 use Rattle.pool.specs.ComposeLaws.{told-alone, told-nowhere, told_below, below-short}
-use borrow.Author.Rules.{rules}
 use Rattle.pool.proofs.compose.measure.Goals.{After-path_len-above, After-place_len-own}
 use Rattle.pool.proofs.compose.measure.Goals as goal
 

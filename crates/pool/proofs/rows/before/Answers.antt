@@ -2,9 +2,7 @@
 use mathlib.Core.Path.{sym, ◌∙◌}
 use native.Mathlib.Omega.{arith}
 use Rattle.pool.specs.PoolLaws.{columns-same}
-use borrow.Author.Rules.{rules}
 use Rattle.pool.proofs.rows.before.Goals as goal
-
 
 pub returns-then-r-k : goal.returns-then-r-k
 returns-then-r-k c = record { small = omega arith; same = λ h. absurd (omega arith) }

@@ -1,11 +1,9 @@
 -- `rows::clear_slots` meets its contract. Assumes nothing.
 use mathlib.Core.Path.{refl}
-use Prim.Native.Nat.{◌+◌, ◌*◌, ◌≤◌}
 use native.Mathlib.Omega.{arith}
-use lib.ListN.{length, length-take, length-drop}
+use lib.ListN.{length-take, length-drop}
 use Rattle.table.specs.WordLaws.{kept-none}
 use Rattle.pool.specs.PoolLaws.{slots_cleared}
-use borrow.Author.Rules.{rules}
 use Rattle.pool.proofs.rows.clear_slots.Goals as goal
 
 pub returns-then-rows-eq0 : goal.returns-then-rows-eq0

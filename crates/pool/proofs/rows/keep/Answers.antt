@@ -1,6 +1,5 @@
 -- `rows::keep` meets its contract. Assumes nothing.
 use Rattle.pool.specs.Pool.{noted}
-use borrow.Author.Rules.{rules}
 use Rattle.pool.proofs.rows.keep.Goals as goal
 
 pub returns : goal.returns

@@ -10,7 +10,6 @@ use Rattle.resolve.specs.Rows.{row_at}
 use Rattle.resolve.specs.declared.rows.Led.{Led}
 use Rattle.pool.specs.Pool.{Stood}
 use Rattle.pool.specs.PoolLaws.{state-next, shared, slot_kept, stood_still, state-added}
-use borrow.Author.Rules.{rules}
 use Rattle.pool.proofs.rows.pool_row.Goals as goal
 
 pub returns-then-u-eq0 : goal.returns-then-u-eq0
@@ -41,11 +40,14 @@ returns-then-k-r c =
     let q = c.led_at-t.ensures in
     let k = c.before-k in
     let w = c.args.w.now in
-    let bs : Bytes w = λ j. (c.slice_known-1.given j).fits in record { within = (omega arith, g.room); is = λ v t.
+    let bs : Bytes w = λ j. (c.slice_known-1.given j).fits in record {
+      within = (omega arith, g.room);
+      is = λ v t.
           state-next t c.keep-then-k-r.ensures g.front (omega (arith, g.texts)) g.room g.inside
           (λ ne. omega (arith, ap (λ (l : Led). l.text) q, le_at-lt 4 w (row_at w k.result + 20) bs))
           (omega (arith, ap (λ (l : Led). l.size) q, le_at-lt 4 w (row_at w k.result + 24) bs))
-          (λ ne. shared t c.object_in-u.ensures q k.ensures c.if-k-r.true ne) }
+          (λ ne. shared t c.object_in-u.ensures q k.ensures c.if-k-r.true ne);
+    }
 
 pub set32-requires : goal.set32-requires
 set32-requires c =
@@ -78,6 +80,9 @@ returns c =
     let l = c.object_in-u in
     let m = mod-lt l.result.start g.some in
     let p = c.put_text-size.ensures in
-    let k = slot_kept c.args.w.now (c.args.gap + 4 * (l.result.start % c.args.slots)) c.args.r c.set32.ensures (omega (arith, m, g.texts, g.room)) in record { within = (omega arith, omega (arith, p.within, k.size, g.room)); is = λ v t.
+    let k = slot_kept c.args.w.now (c.args.gap + 4 * (l.result.start % c.args.slots)) c.args.r c.set32.ensures (omega (arith, m, g.texts, g.room)) in record {
+      within = (omega arith, omega (arith, p.within, k.size, g.room));
+      is = λ v t.
           state-added k t p c.keep-2.ensures l.ensures c.if-u-eq0.false g.front (omega arith) (omega (arith, m)) g.texts
-          g.room g.inside }
+          g.room g.inside;
+    }

@@ -1,11 +1,8 @@
 -- `rows::pool_rows` meets its contract. The loop's invariant: the first r rows keep texts, which stand between the slots and `free`; all else is as it
 -- was. Assumes nothing.
-use mathlib.Core.Path.{◌≡◌, refl, ◌∙◌}
-use Prim.Native.Nat.{◌+◌, ◌*◌, ◌-◌, ◌≤◌}
+use mathlib.Core.Path.{refl, ◌∙◌}
 use native.Mathlib.Omega.{arith}
-use lib.ListN.{length}
 use Rattle.resolve.specs.MarkLaws.{marks-same}
-use Rattle.pool.specs.Pool.{State}
 use Rattle.pool.specs.PoolLaws.{state-none, state-stood, state-all, pooled_none, left-marks}
 use Rattle.pool.proofs.rows.pool_rows.Goals as goal
 

@@ -1,12 +1,9 @@
 -- `rows::pool_rows` meets its contract. The loop's invariant: the first r rows keep texts, which stand between the slots and `free`; all else is as it
 -- was. Assumes nothing.
-use mathlib.Core.Path.{◌≡◌, refl, ◌∙◌}
+use mathlib.Core.Path.{◌≡◌}
 use Prim.Native.Nat.{◌+◌, ◌*◌, ◌-◌, ◌≤◌}
-use native.Mathlib.Omega.{arith}
 use lib.ListN.{length}
-use Rattle.resolve.specs.MarkLaws.{marks-same}
 use Rattle.pool.specs.Pool.{State}
-use Rattle.pool.specs.PoolLaws.{state-none, state-stood, state-all, pooled_none, left-marks}
 use Rattle.pool.proofs.rows.pool_rows.Given as goal
 
 abbrev pub invariant-loop-r : goal.invariant-loop-r

@@ -1,11 +1,7 @@
 -- `rows::pool_texts` meets its contract: with its slots set to 0 the buffer is resolved as before. Assumes nothing.
-use mathlib.Core.Path.{refl, ap, ◌∙◌}
-use Prim.Native.Nat.{◌+◌, ◌*◌, ◌≤◌}
 use native.Mathlib.Omega.{arith}
-use lib.ListN.{length}
 use Rattle.resolve.specs.MarkLaws.{marks_then}
 use Rattle.pool.specs.PoolLaws.{left-resolved, left-marks}
-use borrow.Author.Rules.{rules}
 use Rattle.pool.proofs.rows.pool_texts.Goals as goal
 
 pub clear_slots-requires : goal.clear_slots-requires

@@ -1,13 +1,12 @@
 -- `rows::put_text` meets its contract. Assumes nothing.
 use mathlib.Core.Path.{◌≡◌, refl, sym, ◌∙◌}
-use Prim.Native.Nat.{◌*◌, ◌-◌, ◌≤◌}
+use Prim.Native.Nat.{◌*◌, ◌≤◌}
 use native.Mathlib.Omega.{arith}
-use lib.ListN.{length, take, drop, length-take, length-drop}
+use lib.ListN.{length, take, length-take, length-drop}
 use lib.Seq.{length-take-le}
 use Rattle.base.specs.OutputLaws.{wrote_count}
 use Rattle.table.specs.WordLaws.{kept-none}
 use Rattle.pool.specs.PoolLaws.{put-kept-only, put-there}
-use borrow.Author.Rules.{rules}
 use Rattle.pool.proofs.rows.put_text.Goals as goal
 
 pub slice_bounds-compose-end-3 : goal.slice_bounds-compose-end-3

@@ -1,6 +1,5 @@
 -- `cases::answers` is safe. Assumes nothing.
 use native.Mathlib.Omega.{arith}
-use borrow.Author.Rules.{rules}
 use lib.ListN.{length-take}
 use Rattle.replay.proofs.cases.answers.Goals as goal
 

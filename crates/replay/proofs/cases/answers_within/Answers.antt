@@ -1,6 +1,5 @@
 -- `cases::answers_within` is safe. Assumes nothing.
 use native.Mathlib.Omega.{arith}
-use borrow.Author.Rules.{rules}
 use lib.ListN.{length-take}
 use Rattle.replay.proofs.cases.answers_within.Goals as goal
 

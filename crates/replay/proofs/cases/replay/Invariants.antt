@@ -1,7 +1,6 @@
 -- `cases::replay` is safe and ends. The measure is how many cases are left. Assumes nothing.
 use mathlib.Core.Path.{◌≡◌}
 use Prim.Native.Nat.{◌-◌, ◌^◌, ◌≤◌, ◌<◌}
-use borrow.Author.Rules.{rules}
 use lib.ListN.{length}
 use Rattle.replay.proofs.cases.replay.Given as goal
 

@@ -1,6 +1,5 @@
 -- `report::call::finish` meets its contract.
 use native.Mathlib.Omega.{arith}
-use borrow.Author.Rules.{rules}
 use Rattle.resolve.specs.MarkLaws.{marks_then}
 use Rattle.resolve.specs.Marks.{MarksKept}
 use Rattle.walk.specs.OpenLaws.{begun-sites, begun-few}

@@ -1,6 +1,5 @@
 -- `report::call::refuse_short` meets its contract.
 use native.Mathlib.Omega.{arith}
-use borrow.Author.Rules.{rules}
 use Rattle.walk.specs.OpenLaws.{begun-sites, begun-few}
 use Rattle.report.specs.CallLaws.{short-once, short-twice}
 use Rattle.report.proofs.call.refuse_short.Goals as goal

@@ -1,7 +1,6 @@
 -- `report::call::with_objects` meets its contract.
 use mathlib.Core.Path.{refl}
 use native.Mathlib.Omega.{arith}
-use borrow.Author.Rules.{rules}
 use Rattle.walk.specs.OpenLaws.{begun-sites, begun-few, begun-small}
 use Rattle.report.proofs.Scanned.{scanned_refused, Walked, scanned_twice, scanned_short, scanned_all}
 use Rattle.report.proofs.call.with_objects.Goals.{In-All}

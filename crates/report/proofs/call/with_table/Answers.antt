@@ -1,6 +1,5 @@
 -- `report::call::with_table` meets its contract.
 use mathlib.Core.Path.{refl}
-use borrow.Author.Rules.{rules}
 use Rattle.objects.specs.EnterLaws.{open_held}
 use Rattle.walk.specs.OpenLaws.{begun-bytes, begun-small, opened-script}
 use Rattle.report.specs.CallLaws.{refused-opened, answered-refused}

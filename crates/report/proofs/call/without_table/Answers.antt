@@ -1,7 +1,6 @@
 -- `report::call::without_table` meets its contract.
 use mathlib.Core.Path.{◌≡◌, refl, sym, ◌∙◌}
 use native.Mathlib.Omega.{arith}
-use borrow.Author.Rules.{rules}
 use Rattle.base.specs.Reading.{run}
 use Rattle.scriptblock.specs.Script.{script}
 use Rattle.scriptblock.specs.ScriptAccepted.{script-parts}

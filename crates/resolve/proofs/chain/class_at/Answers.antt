@@ -1,6 +1,5 @@
 -- `chain::class_at` meets its contract. Assumes nothing.
 use mathlib.Core.Path.{◌∙◌}
-use borrow.Author.Rules.{rules}
 use Rattle.resolve.specs.ClassesLaws.{classes-table, look-number}
 use Rattle.resolve.specs.Lent.{lent-part}
 use Rattle.resolve.proofs.chain.class_at.Goals as goal

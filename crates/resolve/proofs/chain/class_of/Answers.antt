@@ -1,7 +1,6 @@
 -- `chain::class_of` meets its contract. Assumes nothing.
 use mathlib.Core.Path.{sym, ◌∙◌}
 use native.Mathlib.Omega.{arith}
-use borrow.Author.Rules.{rules}
 use Rattle.resolve.specs.ChainLaws.{keeps-look, keeps-link, keeps-none}
 use Rattle.resolve.proofs.chain.class_of.Goals as goal
 

@@ -1,16 +1,11 @@
 -- `chain::end_of` meets its contract. The loop's invariant: what is left of the chain leads where the whole does. Assumes nothing.
-use mathlib.Core.List.{List}
-use mathlib.Core.Path.{◌≡◌, ◌∙◌}
-use Prim.Native.Nat.{ℕ, ◌-◌, ◌<◌}
+use mathlib.Core.Path.{◌∙◌}
+use Prim.Native.Nat.{◌-◌, ◌<◌}
 use native.Mathlib.Omega.{arith}
 use lib.ListN.{length}
 use lib.Seq.{length-take-le}
-use Rattle.scriptblock.specs.Script.{Objects}
-use Rattle.meaning.specs.Reference.{Ref}
-use Rattle.meaning.specs.Scan.{Class}
 use Rattle.resolve.specs.Classes.{class_no}
-use Rattle.resolve.specs.ChainLaws.{super-keeps, classes-room, Onward, onward_start, onward_stop, onward_next, onward_lost, onward_object, onward_nowhere}
-use Rattle.resolve.specs.Rows.{class_number, Keeps, Tables, SomeClasses}
+use Rattle.resolve.specs.ChainLaws.{super-keeps, classes-room, onward_start, onward_stop, onward_next, onward_lost, onward_object, onward_nowhere}
 use Rattle.resolve.specs.RowsLaws.{class-inside}
 use Rattle.resolve.proofs.chain.end_of.Goals as goal
 

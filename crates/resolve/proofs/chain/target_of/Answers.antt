@@ -1,7 +1,6 @@
 -- `chain::target_of` meets its contract. Assumes nothing.
 use mathlib.Core.Path.{sym, ◌∙◌}
 use native.Mathlib.Omega.{arith}
-use borrow.Author.Rules.{rules}
 use Rattle.meaning.specs.Key.{public}
 use Rattle.resolve.specs.ChainLaws.{means_no_key, means-class, means-keeps, seek-le}
 use Rattle.resolve.proofs.chain.target_of.Goals as goal

@@ -1,5 +1,4 @@
 -- `classes::describe` meets its contract: eight stores. Assumes nothing.
-use borrow.Author.Rules.{rules}
 use Rattle.resolve.specs.Classes.{described}
 use Rattle.resolve.proofs.classes.describe.Goals as goal
 

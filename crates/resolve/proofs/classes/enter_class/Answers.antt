@@ -2,7 +2,6 @@
 use mathlib.Core.Path.{◌≡◌, sym, ◌∙◌}
 use mathlib.Core.Bool.{false≢true}
 use native.Mathlib.Omega.{arith}
-use borrow.Author.Rules.{rules}
 use Rattle.base.specs.NumberLaws.{Bytes}
 use Rattle.packages.specs.ClassPath.{home-holds}
 use Rattle.packages.specs.RowLaws.{class-holds}
@@ -43,6 +42,10 @@ returns c =
     let a = c.args in
     let p = c.requires.package_in in
     let y : Bytes a.b.now = λ i. (c.shared_slice_known-1.given i).fits in
-    let none : c.add.result ≡ 0 = omega (arith, c.if-add-gt0.false) in record { new = λ e s xs z q t l. class-entered p.0 y a.i p.3 z q c.export_at-e.ensures p.4
+    let none : c.add.result ≡ 0 = omega (arith, c.if-add-gt0.false) in record {
+      new = λ e s xs z q t l. class-entered p.0 y a.i p.3 z q c.export_at-e.ensures p.4
           c.home_at-home.ensures c.row_at-row.ensures c.meaning-m.ensures (omega (arith, c.meaning-m.type_inv)) (omega (arith, c.meaning-m.type_inv))
-          c.class_path_len-len.ensures.0 c.class_path_len-len.ensures.1 t l (c.add.ensures.added none) c.record_at.ensures c.describe.ensures; old = λ e. absurd (false≢true (sym e)); size = c.describe.auto.w ∙ c.add.auto.w }
+          c.class_path_len-len.ensures.0 c.class_path_len-len.ensures.1 t l (c.add.ensures.added none) c.record_at.ensures c.describe.ensures;
+      old = λ e. absurd (false≢true (sym e));
+      size = c.describe.auto.w ∙ c.add.auto.w;
+    }

@@ -3,7 +3,6 @@ use mathlib.Core.List.{List}
 use mathlib.Core.Path.{◌∙◌, ap}
 use Prim.Native.Nat.{ℕ, ◌+◌, ◌*◌}
 use native.Mathlib.Omega.{arith}
-use borrow.Author.Rules.{rules}
 use Rattle.meaning.specs.Key.{public}
 use Rattle.table.specs.Words.{stored}
 use Rattle.resolve.specs.LinkLaws.{tables-kept, record_room, found-few, only_none, linked_already, linked-lost, class-linked, class_now, class-only}
@@ -55,8 +54,12 @@ returns-then-hi-eq0 c =
 -- no class has the key
 pub returns-then-k-eq0 : goal.returns-then-k-eq0
 returns-then-k-eq0 c =
-    record { kept = λ a b o xs refs t h. t; linked = λ a b o xs t h. linked-lost t h (rw c.record_at.ensures) c.get64-lo.ensures c.get64-hi.ensures (omega arith)
-            (c.class_at-k.ensures a b o xs t) c.if-k-eq0.true; only = only_none _ _ _ }
+    record {
+      kept = λ a b o xs refs t h. t;
+      linked = λ a b o xs t h. linked-lost t h (rw c.record_at.ensures) c.get64-lo.ensures c.get64-hi.ensures (omega arith)
+          (c.class_at-k.ensures a b o xs t) c.if-k-eq0.true;
+      only = only_none _ _ _;
+    }
 
 -- linked
 pub returns : goal.returns
@@ -65,8 +68,12 @@ returns c =
     let few = found-few (public c.get64-lo.result c.get64-hi.result) c.requires.some c.class_at-k.ensures in
     let lost = c.if-k-eq0.false in
     let is = c.set64-2.ensures ∙ ap (λ (v : List ℕ). stored 8 v (at + 52) 0) c.set64.ensures in
-    let own = c.requires.some in record { kept = λ a b o xs refs t h. class-linked t h (rw c.record_at.ensures) c.get64-lo.ensures c.get64-hi.ensures (omega arith)
-          (c.class_at-k.ensures a b o xs t.tables) lost (omega (arith, few)) is; linked = λ a b o xs t h. class_now (tables-kept t) h (rw c.record_at.ensures) c.get64-lo.ensures c.get64-hi.ensures (omega arith)
-            (c.class_at-k.ensures a b o xs t) lost (omega (arith, few)) is; only = class-only (tables-kept own.holds) (omega (arith, c.requires.inside)) (rw c.record_at.ensures) c.get64-lo.ensures
-            c.get64-hi.ensures (omega arith) (c.class_at-k.ensures own.corpus own.block own.objects own.classes own.holds) lost
-            (omega (arith, few)) is }
+    let own = c.requires.some in record {
+      kept = λ a b o xs refs t h. class-linked t h (rw c.record_at.ensures) c.get64-lo.ensures c.get64-hi.ensures (omega arith)
+          (c.class_at-k.ensures a b o xs t.tables) lost (omega (arith, few)) is;
+      linked = λ a b o xs t h. class_now (tables-kept t) h (rw c.record_at.ensures) c.get64-lo.ensures c.get64-hi.ensures (omega arith)
+          (c.class_at-k.ensures a b o xs t) lost (omega (arith, few)) is;
+      only = class-only (tables-kept own.holds) (omega (arith, c.requires.inside)) (rw c.record_at.ensures) c.get64-lo.ensures
+          c.get64-hi.ensures (omega arith) (c.class_at-k.ensures own.corpus own.block own.objects own.classes own.holds) lost
+          (omega (arith, few)) is;
+    }

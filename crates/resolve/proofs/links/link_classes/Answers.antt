@@ -1,14 +1,8 @@
 -- `links::link_classes` meets its contract. The loop's invariant: all is still kept as it was, and the first i classes are
 -- linked. Assumes nothing.
-use mathlib.Core.List.{List, []}
+use mathlib.Core.List.{[]}
 use mathlib.Core.Path.{◌≡◌, refl, ◌∙◌}
-use Prim.Native.Nat.{ℕ, ◌-◌, ◌≤◌}
 use native.Mathlib.Omega.{arith}
-use lib.ListN.{length}
-use Rattle.scriptblock.specs.Script.{Objects}
-use Rattle.meaning.specs.Reference.{Ref}
-use Rattle.meaning.specs.Scan.{Class}
-use Rattle.resolve.specs.Rows.{Tables, Kept, LinkedTo}
 use Rattle.resolve.specs.LinkLaws.{tables-kept, linked-none, linked-more}
 use Rattle.resolve.proofs.links.link_classes.Goals as goal
 

@@ -1,6 +1,5 @@
 -- `paths::put_class_path` meets its contract: what the record says is the package's block and where the names are. Assumes nothing.
 use native.Mathlib.Omega.{arith}
-use borrow.Author.Rules.{rules}
 use Rattle.packages.specs.ClassPath.{home-holds}
 use Rattle.packages.specs.PackageLaws.{package_in_lem}
 use Rattle.packages.specs.RowLaws.{class-holds}

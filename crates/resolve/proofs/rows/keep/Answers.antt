@@ -1,5 +1,4 @@
 -- `rows::keep` meets its contract: five stores. Assumes nothing.
-use borrow.Author.Rules.{rules}
 use Rattle.resolve.specs.Resolving.{targeted}
 use Rattle.resolve.proofs.rows.keep.Goals as goal
 

@@ -1,5 +1,4 @@
 -- `rows::object_in` meets its contract. Assumes nothing.
-use borrow.Author.Rules.{rules}
 use Rattle.resolve.proofs.rows.object_in.Goals as goal
 
 pub returns : goal.returns

@@ -2,7 +2,6 @@
 use mathlib.Core.Path.{◌≡◌, sym, ◌∙◌, ap}
 use Prim.Native.Nat.{ℕ, suc, ◌-◌}
 use native.Mathlib.Omega.{arith}
-use borrow.Author.Rules.{rules}
 use Rattle.meaning.specs.Report.{or_unknown, size}
 use Rattle.meaning.specs.Resolve.{path_text}
 use Rattle.objects.specs.Numbers.{path_no}

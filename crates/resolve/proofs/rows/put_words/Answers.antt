@@ -1,5 +1,4 @@
 -- `rows::put_words` meets its contract: three stores. Assumes nothing.
-use borrow.Author.Rules.{rules}
 use Rattle.resolve.specs.Rows.{worded}
 use Rattle.resolve.proofs.rows.put_words.Goals as goal
 

@@ -1,20 +1,16 @@
 -- `rows::resolve_all` meets its contract. The loop's invariant: the first r rows are resolved, the others are as they were kept, all marks too, and the
 -- total is that of the first r. Assumes nothing.
-use mathlib.Core.List.{List}
-use mathlib.Core.Path.{◌≡◌, refl, ◌∙◌, ap}
-use Prim.Native.Nat.{ℕ, ◌-◌, ◌*◌, ◌≤◌, ◌<◌}
+use mathlib.Core.Path.{refl, ◌∙◌, ap}
+use Prim.Native.Nat.{◌≤◌, ◌<◌}
 use native.Mathlib.Omega.{arith}
-use lib.ListN.{length, take, get_or}
+use lib.ListN.{length, get_or}
 use lib.Seq.{take_all}
 use Rattle.base.specs.Find.{sum}
 use Rattle.base.specs.LoopLaws.{sum-take}
-use Rattle.scriptblock.specs.Script.{Objects}
-use Rattle.meaning.specs.Reference.{Ref, null}
-use Rattle.meaning.specs.Scan.{Class}
-use Rattle.resolve.specs.Rows.{Kept, limits_of, target_size}
-use Rattle.resolve.specs.Marks.{MarksKept}
+use Rattle.meaning.specs.Reference.{null}
+use Rattle.resolve.specs.Rows.{limits_of, target_size}
 use Rattle.resolve.specs.MarkLaws.{marks-same, marks_then, part-marks}
-use Rattle.resolve.specs.ResolvingLaws.{Part, part_none, part-row, part-more, part-all}
+use Rattle.resolve.specs.ResolvingLaws.{part_none, part-row, part-more, part-all}
 use Rattle.resolve.proofs.rows.resolve_all.Goals as goal
 
 pub loop-r-init : goal.loop-r-init
@@ -64,11 +60,15 @@ shape_of-w c = c.loop-r.invariant.1.size
 pub returns : goal.returns
 returns c =
     let l = c.loop-r in
-    let a = c.args in record { is = λ s b o xs refs t q.
+    let a = c.args in record {
+      is = λ s b o xs refs t q.
           let i = l.invariant.3 s b o xs refs t q in
           let h : length refs ≤ l.r = omega arith in
           record {
             length-is = l.invariant.1.size;
             holds = part-all i.0 h;
             size = i.1 ∙ ap (sum (target_size (limits_of a.lookups a.objects) xs o)) (take_all l.r refs h);
-          }; few = omega arith; marks = l.invariant.1 }
+          };
+      few = omega arith;
+      marks = l.invariant.1;
+    }

@@ -1,20 +1,16 @@
 -- `rows::resolve_all` meets its contract. The loop's invariant: the first r rows are resolved, the others are as they were kept, all marks too, and the
 -- total is that of the first r. Assumes nothing.
 use mathlib.Core.List.{List}
-use mathlib.Core.Path.{◌≡◌, refl, ◌∙◌, ap}
-use Prim.Native.Nat.{ℕ, ◌-◌, ◌*◌, ◌≤◌, ◌<◌}
-use native.Mathlib.Omega.{arith}
-use lib.ListN.{length, take, get_or}
-use lib.Seq.{take_all}
+use mathlib.Core.Path.{◌≡◌}
+use Prim.Native.Nat.{ℕ, ◌-◌, ◌*◌, ◌≤◌}
+use lib.ListN.{length, take}
 use Rattle.base.specs.Find.{sum}
-use Rattle.base.specs.LoopLaws.{sum-take}
 use Rattle.scriptblock.specs.Script.{Objects}
-use Rattle.meaning.specs.Reference.{Ref, null}
+use Rattle.meaning.specs.Reference.{Ref}
 use Rattle.meaning.specs.Scan.{Class}
 use Rattle.resolve.specs.Rows.{Kept, limits_of, target_size}
 use Rattle.resolve.specs.Marks.{MarksKept}
-use Rattle.resolve.specs.MarkLaws.{marks-same, marks_then, part-marks}
-use Rattle.resolve.specs.ResolvingLaws.{Part, part_none, part-row, part-more, part-all}
+use Rattle.resolve.specs.ResolvingLaws.{Part}
 use Rattle.resolve.proofs.rows.resolve_all.Given as goal
 
 abbrev pub invariant-loop-r : goal.invariant-loop-r

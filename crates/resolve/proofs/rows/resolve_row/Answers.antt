@@ -1,7 +1,6 @@
 -- `rows::resolve_row` meets its contract. Assumes nothing.
 use mathlib.Core.Path.{refl, ◌∙◌, ap}
 use native.Mathlib.Omega.{arith}
-use borrow.Author.Rules.{rules}
 use Rattle.resolve.specs.Rows.{columns_of, limits_of}
 use Rattle.resolve.specs.RowsLaws.{object-inside}
 use Rattle.resolve.specs.ResolvingLaws.{row_room, row-means, row-resolved}

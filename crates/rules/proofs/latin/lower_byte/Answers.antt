@@ -5,7 +5,6 @@ use Prim.Native.Nat.{ℕ, ◌+◌, ◌*◌, ◌/◌, ◌≤◌, ◌<◌}
 use native.Mathlib.Omega.{arith}
 use mir.Val.{bool_byte}
 use lib.Dec.{leb}
-use borrow.Author.Rules.{rules}
 use Rattle.lower.specs.Lower.{lower}
 use Rattle.rules.specs.QuickLaws.{agree, agree_at}
 use Rattle.rules.proofs.latin.lower_byte.Goals as goal
@@ -21,7 +20,6 @@ abbrev inside : ℕ → ℕ → ℕ → ℕ
 inside a b c = bool_byte (leb a c) * bool_byte (leb c b)
 
 abbrev rule : ℕ → ℕ
-
 rule c = c + 32 * (inside 65 90 c + inside 0xC0 0xD6 c + inside 0xD8 0xDE c)
 
 one : (a b c : ℕ) → inside a b c ≤ 1

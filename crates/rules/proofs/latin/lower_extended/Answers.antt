@@ -1,9 +1,8 @@
 -- `lower_extended`: one law of `lower` for each case. Assumes nothing.
-use mathlib.Core.Path.{sym, ◌∙◌}
+use mathlib.Core.Path.{sym}
 use native.Mathlib.Omega.{arith}
 use Rattle.lower.specs.LowerLaws.{dotted_stays}
 use Rattle.rules.specs.LatinLaws.{lower-first, lower-second, lower-third, lower_last, diaeresis, long_stays}
-use borrow.Author.Rules.{rules}
 use Rattle.rules.proofs.latin.lower_extended.Goals as goal
 
 pub returns-then-c-eq304 : goal.returns-then-c-eq304

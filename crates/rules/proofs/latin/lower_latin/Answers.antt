@@ -1,8 +1,6 @@
 -- `lower_latin`: by range. Assumes nothing.
 use mathlib.Core.Path.{sym, ◌∙◌}
-use native.Mathlib.Omega.{arith}
 use Rattle.rules.specs.LatinLaws.{lower_ascii_lem}
-use borrow.Author.Rules.{rules}
 use Rattle.rules.proofs.latin.lower_latin.Goals as goal
 
 pub returns-then-c-lt192 : goal.returns-then-c-lt192

@@ -1,8 +1,7 @@
 -- `lower_letter`: one law of `lower` for each case. Assumes nothing.
-use mathlib.Core.Path.{sym, ◌∙◌}
+use mathlib.Core.Path.{sym}
 use native.Mathlib.Omega.{arith}
 use Rattle.rules.specs.LatinLaws.{lower_letter, lower-small, times_stays}
-use borrow.Author.Rules.{rules}
 use Rattle.rules.proofs.latin.lower_letter.Goals as goal
 
 pub returns-then-c-gt222 : goal.returns-then-c-gt222

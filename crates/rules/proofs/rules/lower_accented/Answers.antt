@@ -2,7 +2,6 @@
 use mathlib.Core.Path.{sym}
 use native.Mathlib.Omega.{arith}
 use Rattle.rules.specs.Runs.{at_370, at_386, at_387, at_388, at_38_b, at_38_c, at_38_d, at_38_e, at_390}
-use borrow.Author.Rules.{rules}
 use Rattle.rules.proofs.rules.lower_accented.Goals as goal
 
 pub returns-then-c-lt902 : goal.returns-then-c-lt902

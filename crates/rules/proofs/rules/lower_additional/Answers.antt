@@ -2,7 +2,6 @@
 use mathlib.Core.Path.{sym}
 use native.Mathlib.Omega.{arith}
 use Rattle.rules.specs.Runs.{at_1_e00, at_1_e96, at_1_e9_e, at_1_e9_f, at_1_ea0}
-use borrow.Author.Rules.{rules}
 use Rattle.rules.proofs.rules.lower_additional.Goals as goal
 
 pub returns-then-c-lt7830 : goal.returns-then-c-lt7830

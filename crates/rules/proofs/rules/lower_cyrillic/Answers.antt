@@ -2,7 +2,6 @@
 use mathlib.Core.Path.{sym}
 use native.Mathlib.Omega.{arith}
 use Rattle.rules.specs.Runs.{at_400, at_410, at_430, at_460, at_482, at_48_a, at_4_c0, at_4_c1, at_4_cf, at_530, at_531, at_557}
-use borrow.Author.Rules.{rules}
 use Rattle.rules.proofs.rules.lower_cyrillic.Goals as goal
 
 pub returns-then-c-lt1040 : goal.returns-then-c-lt1040

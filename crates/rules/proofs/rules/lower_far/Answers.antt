@@ -2,7 +2,6 @@
 use mathlib.Core.Path.{sym}
 use native.Mathlib.Omega.{arith}
 use Rattle.rules.specs.Runs.{at_10_c80, at_10_cb3, at_10_d50, at_10_d66, at_118_a0, at_118_c0, at_16_e40, at_16_e60, at_16_ea0, at_16_eb9, at_1_e900}
-use borrow.Author.Rules.{rules}
 use Rattle.rules.proofs.rules.lower_far.Goals as goal
 
 pub returns-then-c-lt68787 : goal.returns-then-c-lt68787

@@ -2,7 +2,6 @@
 use mathlib.Core.Path.{sym}
 use native.Mathlib.Omega.{arith}
 use Rattle.rules.specs.Runs.{at_391, at_3_a2, at_3_a3, at_3_ac, at_3_cf, at_3_d8, at_3_f0}
-use borrow.Author.Rules.{rules}
 use Rattle.rules.proofs.rules.lower_greek.Goals as goal
 
 pub returns-then-c-lt930 : goal.returns-then-c-lt930

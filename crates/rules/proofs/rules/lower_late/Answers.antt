@@ -2,7 +2,6 @@
 use mathlib.Core.Path.{sym}
 use native.Mathlib.Omega.{arith}
 use Rattle.rules.specs.Runs.{at_180, at_1_a0, at_1_a6, at_1_af, at_1_b1, at_1_cd, at_1_dd, at_1_f0, at_1_f8, at_220, at_222, at_234, at_23_a, at_246}
-use borrow.Author.Rules.{rules}
 use Rattle.rules.proofs.rules.lower_late.Goals as goal
 
 pub returns-then-c-lt416 : goal.returns-then-c-lt416

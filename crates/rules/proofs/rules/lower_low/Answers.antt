@@ -2,7 +2,6 @@
 use mathlib.Core.Path.{sym, ◌∙◌}
 use native.Mathlib.Omega.{arith}
 use Rattle.rules.specs.Runs.{latin, at_250}
-use borrow.Author.Rules.{rules}
 use Rattle.rules.proofs.rules.lower_low.Goals as goal
 
 pub returns-then-c-lt384 : goal.returns-then-c-lt384

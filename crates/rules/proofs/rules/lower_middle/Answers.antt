@@ -2,7 +2,6 @@
 use mathlib.Core.Path.{sym}
 use native.Mathlib.Omega.{arith}
 use Rattle.rules.specs.Runs.{at_590}
-use borrow.Author.Rules.{rules}
 use Rattle.rules.proofs.rules.lower_middle.Goals as goal
 
 pub returns-then-c-lt4256 : goal.returns-then-c-lt4256

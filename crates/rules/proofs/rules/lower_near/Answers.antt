@@ -2,7 +2,6 @@
 use mathlib.Core.Path.{sym}
 use native.Mathlib.Omega.{arith}
 use Rattle.rules.specs.Runs.{at_10400, at_10428, at_104_b0, at_104_d4, at_10570, at_1057_b, at_1057_c, at_1058_b, at_1058_c, at_10593, at_10594, at_10596}
-use borrow.Author.Rules.{rules}
 use Rattle.rules.proofs.rules.lower_near.Goals as goal
 
 pub returns-then-c-lt66600 : goal.returns-then-c-lt66600

@@ -2,7 +2,6 @@
 use mathlib.Core.Path.{sym}
 use native.Mathlib.Omega.{arith}
 use Rattle.rules.specs.Runs.{at_10000, at_1_e922}
-use borrow.Author.Rules.{rules}
 use Rattle.rules.proofs.rules.lower_pair.Goals as goal
 
 pub returns-then-c-gt125217 : goal.returns-then-c-gt125217

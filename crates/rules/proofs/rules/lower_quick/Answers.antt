@@ -2,7 +2,6 @@
 use mathlib.Core.Path.{sym}
 use native.Mathlib.Omega.{arith}
 use Rattle.rules.specs.Runs.{at_2_cf3, at_A640, at_A7F6, at_FF21, at_FF3B}
-use borrow.Author.Rules.{rules}
 use Rattle.rules.proofs.rules.lower_quick.Goals as goal
 
 pub returns-then-c-lt42560 : goal.returns-then-c-lt42560

@@ -1,6 +1,5 @@
 -- `greek_step`: one step for each range. Assumes nothing.
 use native.Mathlib.Omega.{arith}
-use borrow.Author.Rules.{rules}
 use Rattle.rules.specs.Scripts.{step_in, greek_steps}
 use Rattle.rules.proofs.scripts.greek_step.Goals as goal
 

@@ -1,7 +1,6 @@
 -- `latin_capital`: one test for each range. Assumes nothing.
 use mathlib.Core.Bool.{◌&&◌}
 use lib.Dec.{leb, ltb}
-use borrow.Author.Rules.{rules}
 use Rattle.rules.specs.Quick.{among}
 use Rattle.rules.specs.QuickLaws.{or_false}
 use Rattle.rules.specs.Scripts.{latin_capitals}

@@ -1,8 +1,6 @@
 -- `latin_turn`: the sum of the parities. Assumes nothing.
 use native.Mathlib.Omega.{arith}
-use Rattle.rules.specs.Quick.{among}
 use Rattle.rules.specs.Scripts.{latin_turn}
-use borrow.Author.Rules.{rules}
 use Rattle.rules.proofs.scripts.latin_turn.Goals as goal
 
 pub returns : goal.returns

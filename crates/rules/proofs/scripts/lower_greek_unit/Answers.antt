@@ -4,7 +4,6 @@ use Prim.Native.Nat.{◌+◌, ◌<◌}
 use native.Mathlib.Omega.{arith}
 use Rattle.rules.specs.Scripts.{lower_greek}
 use Rattle.rules.specs.ScriptLaws.{greek_unit}
-use borrow.Author.Rules.{rules}
 use Rattle.rules.proofs.scripts.lower_greek_unit.Goals.{After-greek_step}
 use Rattle.rules.proofs.scripts.lower_greek_unit.Goals as goal
 

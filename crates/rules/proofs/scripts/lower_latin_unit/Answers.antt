@@ -6,7 +6,6 @@ use native.Mathlib.Omega.{arith}
 use Rattle.rules.specs.Quick.{among}
 use Rattle.rules.specs.Scripts.{latin_capitals, latin_pairs, latin_turn, lower_latin}
 use Rattle.rules.specs.ScriptLaws.{latin-unit}
-use borrow.Author.Rules.{rules}
 use Rattle.rules.proofs.scripts.lower_latin_unit.Goals.{After-pick-2}
 use Rattle.rules.proofs.scripts.lower_latin_unit.Goals as goal
 

@@ -1,7 +1,7 @@
 -- `scan::check::check_packages` meets its contract. The loop's invariant: those passed are accepted. Assumes nothing.
 use mathlib.Core.Path.{◌≡◌, sym, ◌∙◌, ap}
 use mathlib.Core.List.{List}
-use Prim.Native.Nat.{ℕ, ◌+◌, ◌-◌, ◌≤◌, ◌<◌}
+use Prim.Native.Nat.{ℕ, ◌+◌, ◌<◌}
 use borrow.Author.Rules.{rules}
 use Rattle.base.specs.Never.{never}
 use Rattle.base.specs.Reading.{run_block}

@@ -3,7 +3,6 @@ use mathlib.Core.Path.{◌≡◌, refl, sym, ◌∙◌, ap}
 use mathlib.Core.Bool.{Bool, false}
 use mathlib.Core.List.{List}
 use Prim.Native.Nat.{ℕ, ◌<◌}
-use borrow.Author.Rules.{rules}
 use lib.ListN.{length, get_or}
 use Rattle.text.specs.Affix.{ends_with}
 use Rattle.base.specs.NumberLaws.{Bytes}

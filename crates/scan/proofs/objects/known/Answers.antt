@@ -1,13 +1,8 @@
 -- `scan::objects::known` meets its contract. The loop's invariant: the path is known where that of the object at hand, of at most as many
 -- objects as are left, is. Assumes nothing.
-use mathlib.Core.Path.{◌≡◌, refl, sym, ◌∙◌}
-use Prim.Native.Nat.{◌≤◌}
+use mathlib.Core.Path.{refl, sym, ◌∙◌}
 use native.Mathlib.Omega.{arith}
 use borrow.Author.Rules.{rules}
-use Rattle.base.specs.Reading.{gives, run}
-use Rattle.scriptblock.specs.Script.{Objects, script}
-use Rattle.meaning.specs.ClassTest.{is_known}
-use Rattle.meaning.specs.Path.{path_of}
 use Rattle.scan.specs.ObjectLaws.{known_end, known-none, known-top, known_up}
 use Rattle.scan.proofs.Found.{found_inside, found_none, found_some}
 use Rattle.scan.proofs.objects.known.Goals as goal

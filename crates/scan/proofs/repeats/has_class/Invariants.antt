@@ -1,13 +1,11 @@
 -- `scan::repeats::has_class` meets its contract. The loop's invariant: none of those passed is. Assumes nothing.
-use mathlib.Core.Path.{◌≡◌, sym, ◌∙◌, ap}
+use mathlib.Core.Path.{◌≡◌}
 use mathlib.Core.Bool.{false}
 use Prim.Native.Nat.{◌-◌, ◌≤◌}
-use borrow.Author.Rules.{rules}
 use Rattle.base.specs.Reading.{gives, run}
 use Rattle.scriptblock.specs.Script.{Objects, script}
 use Rattle.packages.specs.Package.{read_in}
-use Rattle.scan.specs.Repeats.{is_class_of, has_class}
-use Rattle.scan.specs.RepeatLaws.{below_none, below_more, below-yes, below_end}
+use Rattle.scan.specs.Repeats.{has_class}
 use Rattle.scan.proofs.repeats.has_class.Given as goal
 
 abbrev pub invariant-loop-j : goal.invariant-loop-j

@@ -1,15 +1,11 @@
 -- `scan::repeats::is_before` meets its contract. The loop's invariant: none of the packages passed has one. Assumes nothing.
-use mathlib.Core.Path.{◌≡◌, sym, ◌∙◌, ap}
+use mathlib.Core.Path.{◌≡◌}
 use mathlib.Core.Bool.{false}
 use Prim.Native.Nat.{◌-◌, ◌≤◌}
-use borrow.Author.Rules.{rules}
 use Rattle.base.specs.Reading.{gives, run}
 use Rattle.scriptblock.specs.Script.{Objects, script}
-use Rattle.packages.specs.Walk.{package_at, place_of}
-use Rattle.packages.specs.WalkLaws.{place_none}
-use Rattle.scan.specs.Repeats.{has_public, is_before}
-use Rattle.scan.specs.PlaceLaws.{next_here, site-here, read_here}
-use Rattle.scan.specs.RepeatLaws.{below_none, below_more, below-yes, below_end}
+use Rattle.packages.specs.Walk.{place_of}
+use Rattle.scan.specs.Repeats.{is_before}
 use Rattle.scan.proofs.repeats.is_before.Given as goal
 
 abbrev pub invariant-loop-i : goal.invariant-loop-i

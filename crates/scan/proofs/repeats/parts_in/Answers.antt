@@ -1,5 +1,4 @@
 -- `scan::repeats::parts_in` meets its contract. Assumes nothing.
-use borrow.Author.Rules.{rules}
 use Rattle.packages.specs.Package.{read_in}
 use Rattle.packages.specs.PackageLaws.{accepted-by, package_in_lem}
 use Rattle.scan.proofs.repeats.parts_in.Goals as goal

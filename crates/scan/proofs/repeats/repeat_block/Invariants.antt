@@ -1,16 +1,11 @@
 -- `scan::repeats::repeat_block` meets its contract. The loop's invariant: none of the packages passed has one. Assumes nothing.
-use mathlib.Core.Path.{◌≡◌, sym, ◌∙◌}
+use mathlib.Core.Path.{◌≡◌}
 use mathlib.Core.Bool.{false}
 use Prim.Native.Nat.{◌-◌, ◌≤◌}
-use native.Mathlib.Omega.{arith}
-use borrow.Author.Rules.{rules}
 use Rattle.base.specs.Reading.{gives, run}
 use Rattle.scriptblock.specs.Script.{Objects, script}
 use Rattle.packages.specs.Walk.{place_of}
-use Rattle.packages.specs.WalkLaws.{place_none, all-less}
 use Rattle.scan.specs.Repeats.{below, repeats_in}
-use Rattle.scan.specs.PlaceLaws.{next_here, sites-less, site-here}
-use Rattle.scan.specs.RepeatLaws.{below_none, below_more, below_end, repeat_none, repeat_first}
 use Rattle.scan.proofs.repeats.repeat_block.Given as goal
 
 abbrev pub invariant-loop-i : goal.invariant-loop-i

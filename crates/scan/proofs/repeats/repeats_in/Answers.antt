@@ -1,13 +1,11 @@
 -- `scan::repeats::repeats_in` meets its contract. The loop's invariant: none of the exports passed is one. Assumes nothing.
 use mathlib.Core.Path.{◌≡◌, sym, ◌∙◌}
-use mathlib.Core.Bool.{false}
 use mathlib.Core.List.{List}
-use Prim.Native.Nat.{ℕ, ◌-◌, ◌≤◌}
+use Prim.Native.Nat.{ℕ}
 use native.Mathlib.Omega.{arith}
 use borrow.Author.Rules.{rules}
 use Rattle.base.specs.Number.{be_at}
-use Rattle.base.specs.Reading.{gives, run}
-use Rattle.scriptblock.specs.Script.{Objects, script}
+use Rattle.scriptblock.specs.Script.{Objects}
 use Rattle.packages.specs.Package.{read_in, PackageIn}
 use Rattle.packages.specs.PackageLaws.{export_count_lem}
 use Rattle.packages.specs.Walk.{block_at, place_of}

@@ -1,8 +1,6 @@
 -- `find_entry` meets its contract: each turn looks at one entry.
 use Prim.Native.Nat.{◌-◌}
-use mathlib.Core.Path.{sym, ◌∙◌}
-use native.Mathlib.Omega.{arith}
-use Rattle.scriptblock.proofs.Seeking.{Seeking, seeking_first, seeking_end, seeking_here, seeking_next}
+use Rattle.scriptblock.proofs.Seeking.{Seeking}
 use Rattle.scriptblock.proofs.objects.find_entry.Given as goal
 
 abbrev pub invariant-loop-i : goal.invariant-loop-i

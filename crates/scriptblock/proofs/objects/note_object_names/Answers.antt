@@ -1,5 +1,4 @@
 -- The names of an accepted block are held.
-use borrow.Author.Rules.{rules}
 use Rattle.scriptblock.specs.ScriptAccepted.{script-parts}
 use Rattle.scriptblock.proofs.objects.note_object_names.Goals as goal
 

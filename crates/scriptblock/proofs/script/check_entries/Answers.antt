@@ -1,11 +1,7 @@
 -- The loop's invariant: the first fault from entry i on is the first fault of all.
-use Prim.Native.Nat.{◌-◌, ◌≤◌}
-use mathlib.Core.Path.{◌≡◌, sym, ◌∙◌}
+use mathlib.Core.Path.{sym, ◌∙◌}
 use native.Mathlib.Omega.{arith}
-use borrow.Author.Rules.{rules}
-use borrow.Author.Tests.{not-true, not-false}
-use Rattle.scriptblock.specs.ScriptAnswers.{fault_at}
-use Rattle.scriptblock.specs.ScriptFaults.{fault_from, fault-first, fault-none, fault-own, fault-seen, fault-next}
+use Rattle.scriptblock.specs.ScriptFaults.{fault-first, fault-none, fault-own, fault-seen, fault-next}
 use Rattle.scriptblock.proofs.script.check_entries.Goals as goal
 
 pub loop-i-init : goal.loop-i-init

@@ -1,7 +1,6 @@
 -- The block's answer in two steps.
 use mathlib.Core.Path.{sym, ap, ◌∙◌}
 use native.Mathlib.Omega.{arith}
-use borrow.Author.Rules.{rules}
 use Rattle.scriptblock.specs.ScriptLaws.{open_fits, script-shut, script-fault, script-left, script-accepted}
 use Rattle.scriptblock.specs.declared.script.Script.TheVariants.{Rejected}
 use Rattle.scriptblock.proofs.script.check_script.Goals as goal

@@ -1,7 +1,6 @@
 -- The first question that an entry fails by itself.
 use mathlib.Core.Path.{sym, ◌∙◌}
 use native.Mathlib.Omega.{arith}
-use borrow.Author.Rules.{rules}
 use Rattle.scriptblock.specs.ScriptFaults.{fault-index, fault-kind, fault_no}
 use Rattle.scriptblock.proofs.script.entry_fault.Goals as goal
 

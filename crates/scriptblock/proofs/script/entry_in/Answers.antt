@@ -1,5 +1,4 @@
 -- Each field is read at its place.
-use borrow.Author.Rules.{rules}
 use Rattle.scriptblock.specs.ScriptAnswers.{entry_at}
 use Rattle.scriptblock.proofs.script.entry_in.Goals as goal
 

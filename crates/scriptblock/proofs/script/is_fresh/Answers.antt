@@ -1,9 +1,7 @@
 -- The loop's invariant: what is to be found of the entries that are left is what is to be found of all.
-use Prim.Native.Nat.{◌+◌, ◌*◌, ◌≤◌}
-use mathlib.Core.Path.{◌≡◌, refl, sym, ◌∙◌}
+use mathlib.Core.Path.{refl, sym, ◌∙◌}
 use native.Mathlib.Omega.{arith}
-use lib.ListN.{length}
-use Rattle.scriptblock.specs.ScriptAnswers.{entry_at, fresh_at}
+use Rattle.scriptblock.specs.ScriptAnswers.{entry_at}
 use Rattle.scriptblock.specs.ScriptFaults.{fresh_end, fresh_fail, fresh-pass}
 use Rattle.scriptblock.proofs.script.is_fresh.Goals as goal
 

@@ -3,7 +3,6 @@ use mathlib.Core.List.{List}
 use mathlib.Core.Path.{◌≡◌, sym, ◌∙◌}
 use Prim.Native.Nat.{ℕ}
 use native.Mathlib.Omega.{arith}
-use borrow.Author.Rules.{rules}
 use Rattle.base.specs.Reading.{walk}
 use Rattle.base.specs.SignedLaws.{size_is, size_none}
 use Rattle.batch.specs.Batch.{batch}

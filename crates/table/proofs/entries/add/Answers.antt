@@ -1,7 +1,6 @@
 -- `entries::add` meets its contract. Assumes nothing.
 use mathlib.Core.Path.{refl}
 use native.Mathlib.Omega.{arith}
-use borrow.Author.Rules.{rules}
 use Rattle.table.specs.TableLaws.{ended-find}
 use Rattle.table.proofs.Attached.{ended-room, added}
 use Rattle.table.proofs.entries.add.Goals as goal
@@ -16,8 +15,12 @@ attach-requires c =
 pub returns-then-link-eq0 : goal.returns-then-link-eq0
 returns-then-link-eq0 c =
     let a = c.args in
-    let e = c.search-s.ensures in record { found = λ los his t. ended-find t a.lo a.hi c.ranges.lo.fits c.ranges.hi.fits c.requires.n_nonzero.0 (e a.k los his t); added = λ z. added a.n a.stride a.k a.lo a.hi a.w.now c.requires.n_nonzero.0 c.requires.n_nonzero.1 c.requires.n_nonzero.2
-            c.ranges.lo.fits c.ranges.hi.fits _ _ z c.requires.linked e _ _ c.record_at-at.ensures c.attach.ensures; kept = λ p. absurd (omega arith) }
+    let e = c.search-s.ensures in record {
+      found = λ los his t. ended-find t a.lo a.hi c.ranges.lo.fits c.ranges.hi.fits c.requires.n_nonzero.0 (e a.k los his t);
+      added = λ z. added a.n a.stride a.k a.lo a.hi a.w.now c.requires.n_nonzero.0 c.requires.n_nonzero.1 c.requires.n_nonzero.2
+          c.ranges.lo.fits c.ranges.hi.fits _ _ z c.requires.linked e _ _ c.record_at-at.ensures c.attach.ensures;
+      kept = λ p. absurd (omega arith);
+    }
 
 pub returns-else-link-eq0 : goal.returns-else-link-eq0
 returns-else-link-eq0 c =

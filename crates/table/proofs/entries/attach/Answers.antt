@@ -1,5 +1,4 @@
 -- `entries::attach` meets its contract: five stores. Assumes nothing.
-use borrow.Author.Rules.{rules}
 use Rattle.table.specs.Table.{filled, attached}
 use Rattle.table.proofs.entries.attach.Goals as goal
 

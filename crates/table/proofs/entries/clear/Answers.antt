@@ -1,11 +1,9 @@
 -- `entries::clear` meets its contract: bytes are cleared from the front. Assumes nothing.
 use mathlib.Core.Path.{◌≡◌}
-use mathlib.Core.List.{◌++◌}
-use Prim.Native.Nat.{◌-◌, ◌≤◌, ◌*◌}
+use Prim.Native.Nat.{◌*◌}
 use native.Mathlib.Omega.{arith}
 use borrow.Author.Fill.{fill_more}
 use borrow.Author.Rules.{rules}
-use lib.ListN.{length, drop, replicate}
 use Rattle.table.specs.Table.{cleared}
 use Rattle.table.proofs.entries.clear.Goals as goal
 

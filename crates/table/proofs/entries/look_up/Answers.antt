@@ -1,6 +1,5 @@
 -- `entries::look_up` meets its contract. Assumes nothing.
 use native.Mathlib.Omega.{arith}
-use borrow.Author.Rules.{rules}
 use Rattle.table.specs.EntryLaws.{find-zero}
 use Rattle.table.specs.TableLaws.{holds-none, ended-find}
 use Rattle.table.proofs.entries.look_up.Goals as goal

@@ -1,5 +1,4 @@
 -- `search::has_key` meets its contract: one half and then the other. Assumes nothing.
-use borrow.Author.Rules.{rules}
 use borrow.Author.Tests.{eq-eqb, ne_eqb}
 use Rattle.table.proofs.search.has_key.Goals as goal
 

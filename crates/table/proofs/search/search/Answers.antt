@@ -1,11 +1,11 @@
 -- `search::search` meets its contract, for all entries that the table holds. Assumes nothing.
 use mathlib.Core.Path.{refl}
-use Prim.Native.Nat.{ℕ, ◌+◌, ◌-◌, ◌≤◌, ◌<◌}
+use Prim.Native.Nat.{◌+◌, ◌-◌, ◌≤◌, ◌<◌}
 use native.Mathlib.Omega.{arith}
 use borrow.Author.Rules.{rules}
 use lib.ListN.{length}
-use Rattle.table.specs.Table.{record_at, Holds}
-use Rattle.table.proofs.Searching.{Search, head-room, search_start, search_record, search_hit, search_none, turn-left, search_turn}
+use Rattle.table.specs.Table.{record_at}
+use Rattle.table.proofs.Searching.{head-room, search_start, search_record, search_hit, search_none, turn-left, search_turn}
 use Rattle.table.proofs.search.search.Goals.{After-get32-link-in-loop-link, In-loop-link}
 use Rattle.table.proofs.search.search.Goals as goal
 

@@ -1,11 +1,7 @@
 -- `search::search` meets its contract, for all entries that the table holds. Assumes nothing.
-use mathlib.Core.Path.{refl}
-use Prim.Native.Nat.{ℕ, ◌+◌, ◌-◌, ◌≤◌, ◌<◌}
-use native.Mathlib.Omega.{arith}
-use borrow.Author.Rules.{rules}
-use lib.ListN.{length}
-use Rattle.table.specs.Table.{record_at, Holds}
-use Rattle.table.proofs.Searching.{Search, head-room, search_start, search_record, search_hit, search_none, turn-left, search_turn}
+use Prim.Native.Nat.{ℕ, ◌-◌}
+use Rattle.table.specs.Table.{Holds}
+use Rattle.table.proofs.Searching.{Search}
 use Rattle.table.proofs.search.search.Given as goal
 
 abbrev pub invariant-loop-link : goal.invariant-loop-link

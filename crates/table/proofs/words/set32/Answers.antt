@@ -1,5 +1,4 @@
 -- `words::set32` meets its contract: four stores, one after the other. Assumes nothing.
-use borrow.Author.Rules.{rules}
 use native.Mathlib.Numerals.{add-one, add-two, add-three}
 use native.Mathlib.Omega.{arith}
 use lib.ListN.{length-set}

@@ -1,5 +1,4 @@
 -- `words::set64` meets its contract: the low half and then the high half. Assumes nothing.
-use borrow.Author.Rules.{rules}
 use Rattle.table.proofs.Stores.{stored-parts}
 use Rattle.table.proofs.words.set64.Goals as goal
 

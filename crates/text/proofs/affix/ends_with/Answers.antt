@@ -1,7 +1,6 @@
 -- `ends_with` meets its contract: the base ends in what its units end in.
 use mathlib.Core.Path.{sym, ◌∙◌, ap}
 use Prim.Native.Nat.{ℕ, ◌-◌, ◌<◌}
-use borrow.Author.Rules.{rules}
 use native.Mathlib.Omega.{arith}
 use lib.ListN.{length, drop}
 use Rattle.text.specs.Affix.{starts_with, ends_with}

@@ -1,7 +1,6 @@
 -- `starts_with` meets its contract: the base starts with what its units start with.
 use mathlib.Core.Path.{sym, ◌∙◌}
 use Prim.Native.Nat.{◌<◌}
-use borrow.Author.Rules.{rules}
 use native.Mathlib.Omega.{arith}
 use lib.ListN.{length}
 use Rattle.text.specs.AffixLaws.{starts-short, base-starts}

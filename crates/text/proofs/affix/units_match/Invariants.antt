@@ -1,18 +1,9 @@
 -- `units_match` meets its contract: what the units from `from` on start with is what those behind the units read start with.
-use mathlib.Core.Path.{◌≡◌, sym, ◌∙◌, ap}
-use mathlib.Core.Bool.{Bool, true, false, ◌&&◌}
-use mathlib.Core.List.{List, []}
-use Prim.Native.Nat.{ℕ, suc, ◌+◌, ◌-◌, ◌≤◌, ◌<◌}
-use native.Mathlib.Nat.{add-zero}
-use native.Mathlib.Numerals.{add-one}
-use native.Mathlib.Omega.{arith}
-use borrow.Author.Tests.{eq-eqb, ne_eqb}
-use lib.Dec.{eqb}
-use lib.ListN.{length, drop, get_or, drop_of_length-le}
-use lib.Seq.{drop-cons}
+use mathlib.Core.Path.{◌≡◌}
+use Prim.Native.Nat.{◌+◌, ◌-◌, ◌≤◌}
+use lib.ListN.{length, drop}
 use Rattle.text.specs.Affix.{starts_with}
 use Rattle.text.specs.Units.{units_of}
-use Rattle.text.specs.UnitsLaws.{units_of-narrow, units_of-length}
 use Rattle.text.proofs.affix.units_match.Given as goal
 
 abbrev pub invariant-loop-i : goal.invariant-loop-i

@@ -1,5 +1,5 @@
 -- `text::digits::put_decimal` meets its contract: the last two digits are stored behind those of the hundredth. The measure is n. Assumes nothing.
-use Rattle.std.proofs.Common.{◌≡◌, ℕ, ◌+◌, ◌/◌, ◌%◌, ap, arith, length, rules}
+use Rattle.std.proofs.Common.{ap, arith, length, rules}
 use Rattle.std.proofs.Math.ListN.{length-set}
 use Rattle.base.specs.OutputLaws.{wrote_stores, wrote_as, wrote-byte, wrote_count}
 use Rattle.text.specs.DigitsLaws.{decimal-last, decimal-two, decimal-pair, decimal-length-pair}

@@ -1,6 +1,3 @@
-use Rattle.std.proofs.Common.{◌≡◌, ◌≤◌, ◌<◌, length, ℕ, ◌+◌, ◌-◌, ◌*◌}
-use Rattle.base.specs.Output.{Wrote}
-use Rattle.text.specs.Digits.{decimal, hex_digit, hex}
 use Rattle.text.proofs.digits.+put_decimal.Given as goal
 
 -- proposed from what the function passes where it calls itself

@@ -1,10 +1,8 @@
 -- `text::digits::decimal_len` meets its contract. The loop's invariant: the digits counted and those of what is left, but its last
 -- one, are the number's. The measure is what is left. Assumes nothing.
-use mathlib.Core.Path.{◌≡◌, ap}
-use Prim.Native.Nat.{◌+◌, ◌^◌, ◌<◌}
+use mathlib.Core.Path.{ap}
 use native.Mathlib.Omega.{arith}
 use lib.ListN.{length}
-use Rattle.text.specs.Digits.{decimal}
 use Rattle.text.specs.DigitsLaws.{decimal-last, decimal-length, decimal-short}
 use Rattle.text.proofs.digits.decimal_len.Goals as goal
 

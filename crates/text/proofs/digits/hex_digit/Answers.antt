@@ -1,6 +1,5 @@
 -- `text::digits::hex_digit` meets its contract, by the test of `hex_digit`. Assumes nothing.
 use borrow.Author.Tests.{lt-ltb, le-ltb}
-use borrow.Author.Rules.{rules}
 use Rattle.text.proofs.digits.hex_digit.Goals as goal
 
 pub returns-then-d-lt10 : goal.returns-then-d-lt10

@@ -1,15 +1,9 @@
 -- `digits::put_hex` meets its contract. The invariant: behind the first `left` bytes stand the digits that those of `rest` lack. Assumes nothing.
-use mathlib.Core.Path.{◌≡◌, refl, sym, ◌∙◌}
-use mathlib.Core.List.{List, [], ◌∷◌, ◌++◌, append_assoc, append-nil}
-use Prim.Native.Nat.{ℕ, zero, suc, ◌-◌, ◌/◌, ◌%◌, ◌≤◌, ◌<◌}
-use native.Mathlib.Numerals.{sub-one}
-use native.Mathlib.Omega.{arith}
-use borrow.Author.Rules.{rules}
-use lib.ListN.{length, set, get_or, take, drop, length-set, take-append-drop}
-use lib.Seq.{take-suc, set_at, length-take-le}
-use Rattle.base.specs.Output.{over, Wrote}
-use Rattle.text.specs.Digits.{hex_digit, hex}
-use Rattle.text.specs.DigitsLaws.{length-hex, hex-none, hex-more}
+use mathlib.Core.Path.{◌≡◌}
+use mathlib.Core.List.{List, ◌++◌}
+use Prim.Native.Nat.{ℕ, ◌≤◌}
+use lib.ListN.{length, take, drop}
+use Rattle.text.specs.Digits.{hex}
 use Rattle.text.proofs.digits.put_hex.Given as goal
 
 abbrev pub invariant-loop-left : goal.invariant-loop-left

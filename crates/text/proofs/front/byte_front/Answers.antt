@@ -1,6 +1,5 @@
 -- `front::byte_front` meets its contract: the lowest bit that is set is the highest of the first byte that is not ASCII. Assumes nothing.
 use native.Mathlib.Omega.{arith}
-use borrow.Author.Rules.{rules}
 use lib.Bits.{bit_and}
 use lib.Count.{trailing_le}
 use Rattle.text.specs.FrontLaws.{front_bytes_lem}

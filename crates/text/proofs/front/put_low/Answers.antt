@@ -1,6 +1,5 @@
 -- `front::put_low` meets its contract: eight stores. Assumes nothing.
 use native.Mathlib.Omega.{arith}
-use borrow.Author.Rules.{rules}
 use lib.ListN.{length-set}
 use Rattle.base.specs.OutputLaws.{wrote_stores}
 use Rattle.text.specs.Units.{units_of}

@@ -1,6 +1,5 @@
 -- `measure::surrogate` meets its contract, by the test. Assumes nothing.
 use native.Mathlib.Omega.{arith}
-use borrow.Author.Rules.{rules}
 use Rattle.text.proofs.measure.surrogate.Goals as goal
 
 pub returns-then-is_single : goal.returns-then-is_single

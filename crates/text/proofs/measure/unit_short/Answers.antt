@@ -1,6 +1,5 @@
 -- `measure::unit_short` meets its contract, by the three tests. Assumes nothing.
 use native.Mathlib.Omega.{arith}
-use borrow.Author.Rules.{rules}
 use Rattle.text.specs.UnitLengthLaws.{unit-short}
 use Rattle.text.proofs.measure.unit_short.Goals as goal
 

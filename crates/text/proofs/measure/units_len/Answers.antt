@@ -1,10 +1,9 @@
 -- `measure::units_len` meets its contract. The loop's invariant: what the units passed take, and what those from i on take. Assumes nothing.
-use mathlib.Core.Path.{◌≡◌, ap}
+use mathlib.Core.Path.{ap}
 use mathlib.Core.List.{List}
-use Prim.Native.Nat.{ℕ, ◌+◌, ◌*◌, ◌-◌, ◌≤◌}
+use Prim.Native.Nat.{ℕ}
 use native.Mathlib.Omega.{arith}
-use borrow.Author.Rules.{rules}
-use lib.ListN.{drop, drop_of_length-le}
+use lib.ListN.{drop_of_length-le}
 use Rattle.text.specs.Units.{units_of}
 use Rattle.text.specs.UnitsLaws.{units_of_bound}
 use Rattle.text.specs.UnitLength.{units_length}

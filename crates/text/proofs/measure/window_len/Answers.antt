@@ -2,13 +2,11 @@
 -- Assumes nothing.
 use mathlib.Core.Path.{◌≡◌, ap}
 use mathlib.Core.List.{List}
-use Prim.Native.Nat.{ℕ, ◌+◌, ◌*◌, ◌-◌, ◌≤◌}
+use Prim.Native.Nat.{ℕ, ◌+◌}
 use native.Mathlib.Omega.{arith}
-use borrow.Author.Rules.{rules}
-use lib.ListN.{drop}
 use Rattle.text.specs.Units.{units_of}
 use Rattle.text.specs.UnitsLaws.{units_of_bound}
-use Rattle.text.specs.UnitLength.{unit_length, units_length}
+use Rattle.text.specs.UnitLength.{unit_length}
 use Rattle.text.specs.UnitLengthLaws.{length_from}
 use Rattle.text.proofs.measure.window_len.Goals as goal
 

@@ -1,15 +1,10 @@
 -- `measure::window_len` meets its contract. The loop's invariant: what the first i units fall short of, and what the units take from there on.
 -- Assumes nothing.
-use mathlib.Core.Path.{◌≡◌, ap}
-use mathlib.Core.List.{List}
-use Prim.Native.Nat.{ℕ, ◌+◌, ◌*◌, ◌-◌, ◌≤◌}
-use native.Mathlib.Omega.{arith}
-use borrow.Author.Rules.{rules}
+use mathlib.Core.Path.{◌≡◌}
+use Prim.Native.Nat.{◌+◌, ◌*◌, ◌-◌, ◌≤◌}
 use lib.ListN.{drop}
 use Rattle.text.specs.Units.{units_of}
-use Rattle.text.specs.UnitsLaws.{units_of_bound}
-use Rattle.text.specs.UnitLength.{unit_length, units_length}
-use Rattle.text.specs.UnitLengthLaws.{length_from}
+use Rattle.text.specs.UnitLength.{units_length}
 use Rattle.text.proofs.measure.window_len.Given as goal
 
 abbrev pub invariant-loop-i : goal.invariant-loop-i

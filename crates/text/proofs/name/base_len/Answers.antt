@@ -1,7 +1,6 @@
 -- `name::base_len` meets its contract: the base takes the bytes that its units take. Assumes nothing.
 use mathlib.Core.Path.{sym, ◌∙◌}
 use native.Mathlib.Omega.{arith}
-use borrow.Author.Rules.{rules}
 use Rattle.text.specs.UnitLengthLaws.{base-bytes}
 use Rattle.text.proofs.name.base_len.Goals as goal
 

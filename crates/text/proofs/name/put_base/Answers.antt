@@ -1,16 +1,8 @@
 -- `text::name::put_base` meets its contract. The loop's invariant: what of the base is not written yet are the bytes of the units
 -- from i on, which are well-formed. The measure is the units left. Assumes nothing.
-use mathlib.Core.Path.{◌≡◌, sym}
-use mathlib.Core.Bool.{true}
-use Prim.Native.Nat.{◌-◌, ◌≤◌}
+use mathlib.Core.Path.{sym}
 use native.Mathlib.Omega.{arith}
-use lib.ListN.{length}
-use borrow.Author.Rules.{rules}
 use Rattle.base.specs.NumberLaws.{Bytes}
-use Rattle.text.specs.Utf8.{utf8}
-use Rattle.text.specs.Name.{base}
-use Rattle.text.specs.Units.{units_of}
-use Rattle.text.specs.Front.{bytes_from, well_from, Held}
 use Rattle.text.proofs.NameLoop.{first-well, first-bytes, held_none, held-room, held-rest, held-wrote, held_all}
 use Rattle.text.proofs.name.put_base.Goals as goal
 

@@ -3,7 +3,6 @@ use mathlib.Core.Path.{sym}
 use native.Mathlib.Omega.{arith}
 use Rattle.base.specs.OutputLaws.{wrote_as, wrote-rest, wrote-room}
 use Rattle.text.specs.NameLaws.{rendered-bytes, rendered-length}
-use borrow.Author.Rules.{rules}
 use Rattle.text.proofs.name.put_name.Goals as goal
 
 pub put_base-at-requires : goal.put_base-at-requires

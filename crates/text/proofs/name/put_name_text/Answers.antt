@@ -8,7 +8,6 @@ use Rattle.base.specs.OutputLaws.{wrote_as, wrote_count, wrote-front}
 use Rattle.text.specs.Utf8.{utf8}
 use Rattle.text.specs.Name.{rendered, text_bytes}
 use Rattle.text.specs.NameLaws.{text_bytes-length}
-use borrow.Author.Rules.{rules}
 use Rattle.text.proofs.name.put_name_text.Goals.{Start}
 use Rattle.text.proofs.name.put_name_text.Goals as goal
 

@@ -1,17 +1,11 @@
 -- `text::name::put_rest` meets its contract. The loop's invariant: what is not written yet are the bytes of the units from i on, which are
 -- well-formed. The measure is the units left. Assumes nothing.
-use mathlib.Core.Path.{◌≡◌, refl, sym, ◌∙◌}
+use mathlib.Core.Path.{◌≡◌}
 use mathlib.Core.Bool.{true}
-use mathlib.Core.List.{List}
-use Prim.Native.Nat.{ℕ, ◌-◌, ◌≤◌}
-use native.Mathlib.Omega.{arith}
+use Prim.Native.Nat.{◌-◌, ◌≤◌}
 use lib.ListN.{length}
-use borrow.Author.Rules.{rules}
-use Rattle.base.specs.OutputLaws.{wrote-length}
 use Rattle.text.specs.Units.{units_of}
-use Rattle.text.specs.UnitsLaws.{Words, units_of-words, units_of_bound}
 use Rattle.text.specs.Front.{bytes_from, well_from, Written}
-use Rattle.text.proofs.NameLoop.{Turn, turn_one, turn_two, turn-ill, last-bytes, written_none, written_all, turn-fits, written-turn}
 use Rattle.text.proofs.name.put_rest.Given as goal
 
 abbrev pub invariant-loop-i : goal.invariant-loop-i

@@ -6,7 +6,6 @@ use lib.ListN.{length, set, length-set}
 use Rattle.base.specs.Output.{Wrote}
 use Rattle.base.specs.OutputLaws.{wrote_none, wrote_as, wrote-sets, wrote-rest, wrote-room, wrote-length}
 use Rattle.text.specs.NameLaws.{suffix-none, suffix-more}
-use borrow.Author.Rules.{rules}
 use Rattle.text.proofs.name.put_suffix.Goals.{Else-number-eq0}
 use Rattle.text.proofs.name.put_suffix.Goals as goal
 

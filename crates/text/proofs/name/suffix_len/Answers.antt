@@ -3,7 +3,6 @@ use mathlib.Core.Path.{ap}
 use native.Mathlib.Omega.{arith}
 use lib.ListN.{length}
 use Rattle.text.specs.NameLaws.{suffix-none, suffix-more}
-use borrow.Author.Rules.{rules}
 use Rattle.text.proofs.name.suffix_len.Goals as goal
 
 pub returns-then-number-eq0 : goal.returns-then-number-eq0

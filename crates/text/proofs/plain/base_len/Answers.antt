@@ -1,6 +1,5 @@
 -- `plain::base_len` meets its contract: what is ASCII takes as many bytes as it has. Assumes nothing.
 use native.Mathlib.Omega.{arith}
-use borrow.Author.Rules.{rules}
 use Rattle.text.specs.PlainLaws.{plain-length}
 use Rattle.text.proofs.plain.base_len.Goals as goal
 

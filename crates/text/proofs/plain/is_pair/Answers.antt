@@ -1,5 +1,4 @@
 -- `plain::is_pair` meets its contract: twice eight bytes. Assumes nothing.
-use borrow.Author.Rules.{rules}
 use Rattle.text.specs.PlainLaws.{ascii-pair}
 use Rattle.text.proofs.plain.is_pair.Goals as goal
 

@@ -1,13 +1,9 @@
 -- `plain::is_plain` meets its contract. The invariant: the first i bytes are ASCII. Assumes nothing.
-use mathlib.Core.Path.{◌≡◌, refl, sym, ◌∙◌}
+use mathlib.Core.Path.{◌≡◌}
 use mathlib.Core.Bool.{true}
-use mathlib.Core.List.{List}
-use Prim.Native.Nat.{ℕ, ◌+◌, ◌-◌, ◌≤◌}
-use native.Mathlib.Omega.{arith}
-use borrow.Author.Tests.{not-true, not-false}
-use lib.ListN.{length, take, drop}
+use Prim.Native.Nat.{◌+◌, ◌-◌, ◌≤◌}
+use lib.ListN.{take}
 use Rattle.text.specs.Affix.{all_ascii}
-use Rattle.text.specs.PlainLaws.{ascii_more, ascii-not, ascii_end}
 use Rattle.text.proofs.plain.is_plain.Given as goal
 
 abbrev pub invariant-loop-i : goal.invariant-loop-i

@@ -1,12 +1,9 @@
 -- `plain::is_short` meets its contract. The invariant: the bits so far are below 128 where the first i bytes are ASCII. Assumes nothing.
-use mathlib.Core.Path.{◌≡◌, refl, ◌∙◌}
+use mathlib.Core.Path.{◌≡◌}
 use Prim.Native.Nat.{◌≤◌, ◌-◌}
-use native.Mathlib.Omega.{arith}
 use lib.Dec.{ltb}
 use lib.ListN.{length, take}
-use lib.Seq.{take-length}
 use Rattle.text.specs.Affix.{all_ascii}
-use Rattle.text.specs.PlainLaws.{ascii-next}
 use Rattle.text.proofs.plain.is_short.Given as goal
 
 abbrev pub invariant-loop-i : goal.invariant-loop-i

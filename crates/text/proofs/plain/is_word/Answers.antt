@@ -1,5 +1,4 @@
 -- `plain::is_word` meets its contract. Assumes nothing.
-use borrow.Author.Rules.{rules}
 use Rattle.text.specs.PlainLaws.{word-ascii}
 use Rattle.text.proofs.plain.is_word.Goals as goal
 

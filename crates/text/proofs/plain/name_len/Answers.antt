@@ -1,7 +1,6 @@
 -- `text::plain::name_len` meets its contract. Assumes nothing.
 use native.Mathlib.Omega.{arith}
 use Rattle.text.specs.NameLaws.{rendered-length}
-use borrow.Author.Rules.{rules}
 use Rattle.text.proofs.plain.name_len.Goals as goal
 
 pub returns : goal.returns

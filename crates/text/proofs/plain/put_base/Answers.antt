@@ -1,6 +1,5 @@
 -- `plain::put_base` meets its contract: what is ASCII is copied, and over what is not the base is written. Assumes nothing.
 use native.Mathlib.Omega.{arith}
-use borrow.Author.Rules.{rules}
 use Rattle.text.specs.PlainLaws.{copied_base, copied_then}
 use Rattle.text.proofs.plain.put_base.Goals as goal
 

@@ -1,5 +1,4 @@
 -- `plain::put_copy` meets its contract. Assumes nothing.
-use borrow.Author.Rules.{rules}
 use Rattle.text.specs.PlainLaws.{plain_fits, copied_none, copied_some}
 use Rattle.text.proofs.plain.put_copy.Goals as goal
 

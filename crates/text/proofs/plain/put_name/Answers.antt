@@ -4,7 +4,6 @@ use native.Mathlib.Omega.{arith}
 use Rattle.base.specs.OutputLaws.{wrote_as, wrote-rest, wrote-room}
 use Rattle.text.specs.NameLaws.{rendered-bytes, rendered-length}
 use Rattle.text.specs.PlainLaws.{copied_base, copied_then}
-use borrow.Author.Rules.{rules}
 use Rattle.text.proofs.plain.put_name.Goals as goal
 
 pub put_copy-requires : goal.put_copy-requires

@@ -1,12 +1,9 @@
 -- `plain::put_plain` meets its contract. The invariant: the first i bytes were written, and `plain` is whether they are ASCII. Assumes nothing.
 use mathlib.Core.Path.{◌≡◌, refl, sym}
 use Prim.Native.Nat.{◌+◌, ◌-◌, ◌≤◌}
-use borrow.Author.Rules.{rules}
 use native.Mathlib.Omega.{arith}
-use lib.ListN.{length, take}
+use lib.ListN.{length}
 use lib.Seq.{take-length}
-use Rattle.text.specs.Affix.{all_ascii}
-use Rattle.base.specs.Output.{Wrote}
 use Rattle.base.specs.OutputLaws.{wrote_none, wrote-length, wrote-paste, wrote_as, wrote_count}
 use Rattle.text.specs.PlainLaws.{ascii_more, ascii_cover}
 use Rattle.text.proofs.plain.put_plain.Goals as goal

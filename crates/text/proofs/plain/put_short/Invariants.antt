@@ -1,15 +1,11 @@
 -- `plain::put_short` meets its contract. The invariant: the first i bytes were written, and the bits so far are below 128 where they are
 -- ASCII. Assumes nothing.
-use mathlib.Core.Path.{◌≡◌, refl, ◌∙◌}
+use mathlib.Core.Path.{◌≡◌}
 use Prim.Native.Nat.{◌≤◌, ◌-◌}
-use native.Mathlib.Omega.{arith}
 use lib.Dec.{ltb}
 use lib.ListN.{length, take}
-use lib.Seq.{take-length}
 use Rattle.text.specs.Affix.{all_ascii}
 use Rattle.base.specs.Output.{Wrote}
-use Rattle.base.specs.OutputLaws.{wrote_none, wrote-length, wrote-copy, wrote_as, wrote_count}
-use Rattle.text.specs.PlainLaws.{ascii-next}
 use Rattle.text.proofs.plain.put_short.Given as goal
 
 abbrev pub invariant-loop-i : goal.invariant-loop-i

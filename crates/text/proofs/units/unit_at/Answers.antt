@@ -2,7 +2,6 @@
 use Prim.Native.Nat.{◌*◌, ◌+◌, ◌≤◌}
 use mathlib.Core.Path.{sym, ◌∙◌}
 use native.Mathlib.Omega.{arith}
-use borrow.Author.Rules.{rules}
 use lib.ListN.{length}
 use Rattle.text.specs.UnitsLaws.{units_of-narrow, units_of-length, units_of-at}
 use Rattle.text.proofs.units.unit_at.Goals.{Then-wide}

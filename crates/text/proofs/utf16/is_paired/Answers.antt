@@ -1,10 +1,9 @@
 -- `utf16::is_paired` meets its contract. The loop's invariant: the part is a text exactly where its units from i on are one.
-use Prim.Native.Nat.{ℕ, ◌+◌, ◌-◌, ◌≤◌, ◌<◌}
+use Prim.Native.Nat.{ℕ, ◌+◌, ◌≤◌, ◌<◌}
 use mathlib.Core.Path.{◌≡◌, sym, ap, ◌∙◌}
 use mathlib.Core.Bool.{true, false}
 use mathlib.Core.List.{List}
 use native.Mathlib.Omega.{arith}
-use borrow.Author.Rules.{rules}
 use mir.Val.{Fits}
 use mir.Syntax.{w8}
 use lib.ListN.{length, drop, get_or, length-drop, drop_of_length-le}

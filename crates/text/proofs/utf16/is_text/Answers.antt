@@ -1,6 +1,5 @@
 -- `utf16::is_text` meets its contract: a text with no surrogate is one. Assumes nothing.
 use mathlib.Core.Path.{sym, ◌∙◌}
-use borrow.Author.Rules.{rules}
 use Rattle.text.specs.UnitsLaws.{latin1-well}
 use Rattle.text.specs.UnitLengthLaws.{single-text}
 use Rattle.text.proofs.utf16.is_text.Goals as goal

@@ -4,7 +4,6 @@ use native.Mathlib.Omega.{arith}
 use lib.ListN.{length, length-set}
 use Rattle.base.specs.OutputLaws.{wrote_stores}
 use Rattle.text.specs.Utf8Laws.{utf8_1, utf8_2, utf8_3, utf8_4}
-use borrow.Author.Rules.{rules}
 use Rattle.text.proofs.utf8.put_utf8.Goals as goal
 
 pub bounds-out-0 : goal.bounds-out-0

@@ -1,7 +1,6 @@
 -- `zen::access::imported_id` meets its contract.
 use mathlib.Core.List.{[]}
 use mathlib.Core.Path.{ap, ◌∙◌}
-use borrow.Author.Rules.{rules}
 use lib.ListN.{get_or}
 use Rattle.ids.specs.Id.{id_of}
 use Rattle.base.specs.Reading.{run_block}

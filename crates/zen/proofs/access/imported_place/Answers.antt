@@ -1,6 +1,5 @@
 -- `zen::access::imported_place` meets its contract.
 use native.Mathlib.Nat.{sub-zero}
-use borrow.Author.Rules.{rules}
 use Rattle.zen.specs.Accepted.{Parts, parts}
 use Rattle.zen.proofs.access.imported_place.Goals.{Start}
 use Rattle.zen.proofs.access.imported_place.Goals as goal

@@ -1,6 +1,5 @@
 -- `zen::access::note_package_names` meets its contract.
 use native.Mathlib.Nat.{sub-zero}
-use borrow.Author.Rules.{rules}
 use Rattle.zen.specs.Accepted.{Parts, parts}
 use Rattle.zen.proofs.access.note_package_names.Goals.{Start}
 use Rattle.zen.proofs.access.note_package_names.Goals as goal

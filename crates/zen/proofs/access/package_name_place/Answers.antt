@@ -1,5 +1,4 @@
 -- `zen::access::package_name_place` meets its contract.
-use borrow.Author.Rules.{rules}
 use Rattle.zen.specs.Accepted.{parts}
 use Rattle.zen.proofs.access.package_name_place.Goals as goal
 

@@ -1,7 +1,6 @@
 -- `place_id` meets its contract: the part is the one at the place.
 use native.Mathlib.Omega.{arith}
 use lib.ListN.{length-take}
-use borrow.Author.Rules.{rules}
 use Rattle.zen.proofs.id.place_id.Goals as goal
 
 pub name_id-requires : goal.name_id-requires

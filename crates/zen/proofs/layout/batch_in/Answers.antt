@@ -2,7 +2,6 @@
 use mathlib.Core.Path.{◌∙◌}
 use native.Mathlib.Omega.{arith}
 use borrow.Author.Tests.{eq-eqb, ne_eqb}
-use borrow.Author.Rules.{rules}
 use Rattle.zen.specs.Layouts.{names_at}
 use Rattle.zen.proofs.layout.batch_in.Goals as goal
 

@@ -1,5 +1,4 @@
 -- `layout_in` meets its contract.
-use borrow.Author.Rules.{rules}
 use Rattle.zen.specs.Layouts.{layout_at}
 use Rattle.zen.proofs.layout.layout_in.Goals as goal
 

@@ -1,5 +1,4 @@
 -- `zen::layout::summary_of` meets its contract.
-use borrow.Author.Rules.{rules}
 use Rattle.zen.specs.Zen.{summary_at}
 use Rattle.zen.proofs.layout.summary_of.Goals as goal
 

@@ -3,7 +3,6 @@ use Prim.Native.Nat.{ℕ, ◌≤◌, ◌<◌}
 use mathlib.Core.Path.{◌≡◌, sym, ◌∙◌}
 use mathlib.Core.List.{List}
 use lib.ListN.{length}
-use borrow.Author.Rules.{rules}
 use Rattle.base.specs.Reading.{walk, rows}
 use Rattle.batch.specs.BatchAnswers.{checked}
 use Rattle.batch.specs.BatchAnswersLaws.{checked-passed, checked-failed}

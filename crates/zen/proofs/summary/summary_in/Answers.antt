@@ -1,5 +1,4 @@
 -- `zen::summary::summary_in` meets its contract.
-use borrow.Author.Rules.{rules}
 use Rattle.zen.specs.Zen.{summary_at}
 use Rattle.zen.proofs.summary.summary_in.Goals as goal
 

@@ -1,10 +1,7 @@
 -- `zen::tables::check_exports` meets its contract. The loop's invariant: the names are there exactly if those of the exports from here on are.
-use Prim.Native.Nat.{◌+◌, ◌*◌, ◌≤◌}
-use mathlib.Core.Path.{◌≡◌, refl, sym, ◌∙◌}
+use mathlib.Core.Path.{refl, sym, ◌∙◌}
 use native.Mathlib.Omega.{arith}
-use lib.ListN.{length}
-use Rattle.base.specs.ReadingRows.{cells}
-use Rattle.zen.specs.Zen.{export_at, named}
+use Rattle.zen.specs.Zen.{export_at}
 use Rattle.zen.specs.TableLaws.{named_none, named-pass, named_fail}
 use Rattle.zen.proofs.tables.check_exports.Goals as goal
 

@@ -1,11 +1,9 @@
 -- `zen::tables::check_exports` meets its contract. The loop's invariant: the names are there exactly if those of the exports from here on are.
 use Prim.Native.Nat.{◌+◌, ◌*◌, ◌≤◌}
-use mathlib.Core.Path.{◌≡◌, refl, sym, ◌∙◌}
-use native.Mathlib.Omega.{arith}
+use mathlib.Core.Path.{◌≡◌}
 use lib.ListN.{length}
 use Rattle.base.specs.ReadingRows.{cells}
 use Rattle.zen.specs.Zen.{export_at, named}
-use Rattle.zen.specs.TableLaws.{named_none, named-pass, named_fail}
 use Rattle.zen.proofs.tables.check_exports.Given as goal
 
 abbrev pub invariant-loop-left : goal.invariant-loop-left

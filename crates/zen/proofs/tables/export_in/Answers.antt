@@ -1,5 +1,4 @@
 -- `zen::tables::export_in` meets its contract.
-use borrow.Author.Rules.{rules}
 use Rattle.zen.specs.Zen.{export_at}
 use Rattle.zen.proofs.tables.export_in.Goals as goal
 

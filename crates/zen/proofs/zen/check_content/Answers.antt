@@ -4,7 +4,6 @@ use mathlib.Core.Path.{◌≡◌, sym, ap, ◌∙◌}
 use mathlib.Core.List.{List}
 use native.Mathlib.Omega.{arith}
 use lib.ListN.{length}
-use borrow.Author.Rules.{rules}
 use Rattle.base.specs.Reading.{walk, got}
 use Rattle.base.specs.ReadingLaws.{out, then-walk, then-bad}
 use Rattle.batch.specs.Batch.{batch}

@@ -4,7 +4,6 @@ use mathlib.Core.Path.{◌≡◌, sym, ap, ◌∙◌}
 use mathlib.Core.List.{List}
 use mathlib.Core.Bool.{Bool, true, false}
 use lib.ListN.{length}
-use borrow.Author.Rules.{rules}
 use Rattle.base.specs.Reading.{walk, got}
 use Rattle.base.specs.ReadingLaws.{out, ask-yes, ask_no, then-walk, then-bad}
 use Rattle.zen.specs.Zen.{summary, ordered, header, content}

@@ -5,7 +5,6 @@ use mathlib.Core.List.{List}
 use native.Mathlib.Nat.{sub-zero}
 use lib.ListN.{length, take}
 use lib.Seq.{length-take-le}
-use borrow.Author.Rules.{rules}
 use Rattle.base.specs.Reading.{walk, got, run_block}
 use Rattle.base.specs.ReadingLaws.{out}
 use Rattle.zen.specs.Zen.{header, lead, package_block}

@@ -1,9 +1,6 @@
 -- `zenapi::names::names_ends` meets its contract: what was added and what is left are the sum.
-use Prim.Native.Nat.{◌+◌, ◌-◌, ◌^◌, ◌<◌}
-use mathlib.Core.Path.{refl}
-use native.Mathlib.Omega.{arith}
-use borrow.Author.Rules.{rules}
-use Rattle.zenapi.proofs.Ends.{Adding, adding_first, adding_end, adding_in, adding_named, adding_more}
+use Prim.Native.Nat.{◌-◌}
+use Rattle.zenapi.proofs.Ends.{Adding}
 use Rattle.zenapi.proofs.names.names_ends.Given as goal
 
 abbrev pub invariant-loop-i : goal.invariant-loop-i

@@ -1,6 +1,5 @@
 -- `zenapi::names::zen_names_ends` meets its contract.
 use Rattle.zenapi.proofs.PackageFound.{no_ends, accepted, ends_there}
-use borrow.Author.Rules.{rules}
 use Rattle.zenapi.proofs.names.zen_names_ends.Goals as goal
 
 pub names_ends-requires : goal.names_ends-requires

@@ -1,6 +1,5 @@
 -- `zenapi::package::zen_check_package` meets its contract.
 use Rattle.zenapi.proofs.PackageFound.{told, passed}
-use borrow.Author.Rules.{rules}
 use Rattle.zenapi.proofs.package.zen_check_package.Goals as goal
 
 pub returns-in-Accepted : goal.returns-in-Accepted

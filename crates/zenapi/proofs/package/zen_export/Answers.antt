@@ -1,6 +1,5 @@
 -- `zenapi::package::zen_export` meets its contract.
 use Rattle.zenapi.proofs.PackageFound.{no_export_lem, accepted, export-here, export-past, export-there}
-use borrow.Author.Rules.{rules}
 use Rattle.zenapi.proofs.package.zen_export.Goals as goal
 
 pub returns-then-export_count-i : goal.returns-then-export_count-i

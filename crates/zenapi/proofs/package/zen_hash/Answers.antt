@@ -1,6 +1,5 @@
 -- `zenapi::package::zen_hash` meets its contract.
 use Rattle.zenapi.proofs.PackageFound.{no_hash, accepted, hash-here, hash-past, hash-there}
-use borrow.Author.Rules.{rules}
 use Rattle.zenapi.proofs.package.zen_hash.Goals as goal
 
 pub returns-then-hash_count-i : goal.returns-then-hash_count-i

@@ -1,6 +1,5 @@
 -- `zenapi::package::zen_package_count` meets its contract.
 use native.Mathlib.Omega.{arith}
-use borrow.Author.Rules.{rules}
 use Rattle.zenapi.specs.Answers.{package_in, counts}
 use Rattle.zenapi.proofs.Cells.{past}
 use Rattle.zenapi.proofs.PackageFound.{no_count, counts-are}

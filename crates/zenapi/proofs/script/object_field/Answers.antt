@@ -2,7 +2,6 @@
 use native.Mathlib.Omega.{arith}
 use Rattle.zenapi.specs.Answers.{object_fields}
 use Rattle.zenapi.proofs.Cells.{past}
-use borrow.Author.Rules.{rules}
 use Rattle.zenapi.proofs.script.object_field.Goals as goal
 
 pub returns-in-0 : goal.returns-in-0

@@ -1,6 +1,5 @@
 -- `zenapi::script::zen_check_script` meets its contract.
 use Rattle.zenapi.proofs.ScriptFound.{told, passed}
-use borrow.Author.Rules.{rules}
 use Rattle.zenapi.proofs.script.zen_check_script.Goals as goal
 
 pub returns-in-Accepted : goal.returns-in-Accepted

@@ -1,6 +1,5 @@
 -- `zenapi::script::zen_object` meets its contract.
 use Rattle.zenapi.proofs.ScriptFound.{no_object_lem, accepted, object-here, object-past, object-there}
-use borrow.Author.Rules.{rules}
 use Rattle.zenapi.proofs.script.zen_object.Goals as goal
 
 pub returns-then-l-i : goal.returns-then-l-i

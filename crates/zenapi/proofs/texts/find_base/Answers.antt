@@ -1,6 +1,5 @@
 -- `zenapi::texts::find_base` meets its contract.
 use Rattle.zenapi.proofs.TextsFound.{no_base, base_there}
-use borrow.Author.Rules.{rules}
 use Rattle.zenapi.proofs.texts.find_base.Goals as goal
 
 pub returns-then-l-i : goal.returns-then-l-i

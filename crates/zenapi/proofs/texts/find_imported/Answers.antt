@@ -1,6 +1,5 @@
 -- `zenapi::texts::find_imported` meets its contract.
 use Rattle.zenapi.proofs.TextsFound.{no_imported, imported-there}
-use borrow.Author.Rules.{rules}
 use Rattle.zenapi.proofs.texts.find_imported.Goals as goal
 
 pub returns-then-l-i : goal.returns-then-l-i

@@ -2,7 +2,6 @@
 use native.Mathlib.Omega.{arith}
 use Rattle.zenapi.proofs.PackageFound.{accepted}
 use Rattle.zenapi.proofs.TextsFound.{no_text, no_kind}
-use borrow.Author.Rules.{rules}
 use Rattle.zenapi.proofs.texts.find_text.Goals as goal
 
 pub find_base-requires : goal.find_base-requires

@@ -1,6 +1,5 @@
 -- `zenapi::texts::zen_put_name` meets its contract.
 use Rattle.zenapi.proofs.TextsFound.{there, put-missing, put-short, put-there}
-use borrow.Author.Rules.{rules}
 use Rattle.zenapi.specs.Texts.{Found}
 use Rattle.zenapi.proofs.texts.zen_put_name.Goals.{In-At}
 use Rattle.zenapi.proofs.texts.zen_put_name.Goals as goal
