@@ -12,7 +12,7 @@ use Rattle.base.specs.Never.{never}
 use Rattle.meaning.specs.Resolve.{limits_of}
 use Rattle.meaning.specs.Call.{outcome, number_of, buffer_after}
 use Rattle.meaning.specs.Limited.{in_range, answer_within}
-use Rattle.meaning.specs.LimitedLaws.{Tested, ranged, out_of_range}
+use Rattle.meaning.proofs.LimitedLaws.{Tested, ranged, out_of_range}
 use Rattle.claims.specs.Claims.{Called}
 
 module _ (lookups objects : ℕ) where

@@ -30,7 +30,7 @@ use Rattle.text.specs.Utf16Laws.{decode_encode, encode_decode, ill_formed, no_en
 use Rattle.text.specs.Utf8.{utf8, from_utf8}
 use Rattle.text.specs.Utf8Laws.{utf8_decode}
 use Rattle.scriptblock.specs.Script.{Objects, script, object_name}
-use Rattle.scriptblock.specs.ScriptGood.{script-good}
+use Rattle.scriptblock.proofs.ScriptGood.{script-good}
 use Rattle.zen.specs.Zen.{package_block, package_name, imported_name}
 use Rattle.zen.specs.declared.tables.Export.{Export}
 use Rattle.meaning.specs.Frame.{Part, Corpus}
@@ -42,25 +42,32 @@ use Rattle.meaning.specs.Report.{Row, flag, or_unknown, row_bytes, row_of, secti
 use Rattle.meaning.specs.Call.{Answer, refused_in, accepted, Opened, opened, number_of, buffer_after, Outcome}
 use Rattle.meaning.specs.Call as Call
 use Rattle.meaning.specs.Limited.{answer_within, outcome_within, InRange, OutOfRange}
-use Rattle.meaning.specs.LimitedLaws.{answer_in, answer-out, outcome_in, accepted_in, FirstOf, first_of}
+use Rattle.meaning.proofs.LimitedLaws.{answer_in, answer-out, outcome_in, accepted_in, FirstOf, first_of}
 use Rattle.meaning.specs.Bytes.{corpus_bytes}
 use Rattle.meaning.specs.BytesLaws.{bytes-frame}
 use Rattle.meaning.specs.Rearranged.{Rearranged}
 use Rattle.meaning.specs.Chain.{NativeKnown, joined, chain_path}
-use Rattle.meaning.specs.OwnChain.{OneEach, once-each}
-use Rattle.meaning.specs.Rows.{Inside, native_as}
+use Rattle.meaning.specs.OwnChain.{OneEach}
+use Rattle.meaning.proofs.OwnChain.{once-each}
+use Rattle.meaning.specs.Rows.{Inside}
+use Rattle.meaning.proofs.Rows.{native_as}
 use Rattle.meaning.specs.Whole as Whole
-use Rattle.meaning.specs.Order.{FirstFailed, first-failed}
-use Rattle.meaning.specs.Decoded.{decoded, in_short, refusals, refusals-within, number_decodes, number_determines}
-use Rattle.meaning.specs.Outcome as After
-use Rattle.meaning.specs.Fields.{ReportSized, fields-right}
-use Rattle.meaning.specs.Texts.{TextsScalar, texts-scalar}
-use Rattle.meaning.specs.Demand as Demand
-use Rattle.meaning.specs.Rearrange.{corpus_with, any_corpus}
+use Rattle.meaning.proofs.Order.{FirstFailed, first-failed}
+use Rattle.meaning.specs.Decoded.{decoded, in_short}
+use Rattle.meaning.proofs.Decoded.{refusals, refusals-within, number_decodes, number_determines}
+use Rattle.meaning.proofs.Outcome as After
+use Rattle.meaning.specs.Fields.{ReportSized}
+use Rattle.meaning.proofs.Fields.{fields-right}
+use Rattle.meaning.specs.Texts.{TextsScalar}
+use Rattle.meaning.proofs.Texts.{texts-scalar}
+use Rattle.meaning.proofs.Demand as Demand
+use Rattle.meaning.specs.Rearrange.{corpus_with}
+use Rattle.meaning.proofs.Rearrange.{any_corpus}
 use Rattle.meaning.specs.Sections.{section_in}
 use Rattle.meaning.specs.Shut.{Program, Meets}
-use Rattle.meaning.specs.Shut as Shut
-use Rattle.meaning.specs.Accepted.{packages_in, from-answer}
+use Rattle.meaning.proofs.Shut as Shut
+use Rattle.meaning.specs.Accepted.{packages_in}
+use Rattle.meaning.proofs.Accepted.{from-answer}
 
 -- ==== THE CALL
 -- THE CONTRACT of the exported call, `class_report` (crates/capi), which ensures just this of what it was lent: corpus, lookup limit, object limit,

@@ -15,7 +15,8 @@ use Rattle.meaning.specs.Call.{refused_in, accepted, number_of, limits}
 use Rattle.meaning.specs.Limited.{answer_within}
 use Rattle.meaning.specs.Computed.{asked}
 use Rattle.meaning.specs.Written.{corpus_from, corpus_of, reported, texts}
-use Rattle.meaning.specs.Examples.{Examples, examples, no_objects, two_objects, plain, with_tone, tone_row, class_with}
+use Rattle.meaning.specs.Examples.{Examples, no_objects, two_objects, plain, with_tone, tone_row, class_with}
+use Rattle.meaning.proofs.Examples.{examples}
 
 -- THE THEOREM; below, example by example
 pub clause_d : Examples

@@ -19,10 +19,12 @@ use Rattle.description.specs.Call.{as_described, header_answer, made}
 use Rattle.description.specs.Zeroed.{Zeroed}
 use Rattle.description.specs.BatchFront.{batch_size}
 use Rattle.description.specs.HeaderBack.{starts, read_for, length-header}
-use Rattle.description.specs.FormLaws.{Housed, form_front, form_took}
+use Rattle.description.specs.FormLaws.{Housed}
+use Rattle.description.proofs.FormLaws.{form_front, form_took}
 use Rattle.description.specs.ZeroLaws.{header_zeroed}
-use Rattle.description.specs.CallLaws.{Writable, writable-is, writable_as, good, Described, described-by, described_as, malformed, Short}
-use Rattle.description.specs.CallLaws as Laws
+use Rattle.description.specs.CallLaws.{Writable, Described, Short}
+use Rattle.description.proofs.CallLaws.{writable-is, writable_as, good, described-by, described_as, malformed}
+use Rattle.description.proofs.CallLaws as Laws
 use Rattle.description.specs.Examples.{named_a, examples}
 
 -- ==== THE CALL

@@ -18,19 +18,21 @@ use Rattle.meaning.specs.Resolve.{Limits, limits_of, path_text}
 use Rattle.meaning.specs.Report.{Row, flag, or_unknown, row_of, section, report_of}
 use Rattle.meaning.specs.Call.{refused_in, accepted, Outcome}
 use Rattle.meaning.specs.Limited.{outcome_within}
-use Rattle.meaning.specs.LimitedLaws.{accepted_in}
+use Rattle.meaning.proofs.LimitedLaws.{accepted_in}
 use Rattle.meaning.specs.Bytes.{corpus_bytes}
 use Rattle.meaning.specs.BytesLaws.{bytes-frame}
-use Rattle.meaning.specs.Outcome as After
+use Rattle.meaning.proofs.Outcome as After
 use Rattle.meaning.specs.Whole as Whole
 use Rattle.meaning.specs.Accepted.{packages_in}
 use Rattle.meaning.specs.LimitsChain.{NoSmaller}
-use Rattle.meaning.specs.Monotone.{monotone}
-use Rattle.meaning.specs.Monotone as Monotone
+use Rattle.meaning.proofs.Monotone.{monotone}
+use Rattle.meaning.proofs.Monotone as Monotone
 use Rattle.meaning.specs.Written.{reported}
 use Rattle.meaning.specs.Examples.{least, tone_row}
-use Rattle.meaning.specs.RoomExamples.{room-examples, within, nine_classes, five_objects, deep, two_of_one_hash}
-use Rattle.meaning.specs.RangeExamples.{least_report, two_classes, range-examples}
+use Rattle.meaning.specs.RoomExamples.{within, nine_classes, five_objects, deep, two_of_one_hash}
+use Rattle.meaning.proofs.RoomExamples.{room-examples}
+use Rattle.meaning.specs.RangeExamples.{least_report, two_classes}
+use Rattle.meaning.proofs.RangeExamples.{range-examples}
 use Rattle.claims.specs.Claims.{Called, clause_a-call, row_in, report_with}
 
 -- what stands in the two rows of an export

@@ -16,7 +16,7 @@ use Rattle.base.specs.Reading.{gives, run, run_block}
 use Rattle.text.specs.Utf16.{utf16le}
 use Rattle.lower.specs.Lower.{lowered}
 use Rattle.scriptblock.specs.Script.{Objects, script}
-use Rattle.scriptblock.specs.ScriptGood.{script-good}
+use Rattle.scriptblock.proofs.ScriptGood.{script-good}
 use Rattle.scriptblock.specs.declared.script.Entry.{Entry}
 use Rattle.zen.specs.Zen.{Read, package_block, package_name}
 use Rattle.meaning.specs.Frame.{Part, Corpus, framed}
@@ -25,17 +25,21 @@ use Rattle.meaning.specs.Call.{Answer, refused_in, accepted, Opened, holding, op
 use Rattle.meaning.specs.Bytes.{corpus_bytes}
 use Rattle.meaning.specs.BytesLaws.{bytes-frame}
 use Rattle.meaning.specs.Rearranged.{Rearranged}
-use Rattle.meaning.specs.Accepted.{packages_in, Opens, from-corpus}
+use Rattle.meaning.specs.Accepted.{packages_in, Opens}
+use Rattle.meaning.proofs.Accepted.{from-corpus}
 use Rattle.meaning.specs.Whole as Whole
 use Rattle.meaning.specs.Answered as After
 use Rattle.meaning.specs.Verify.{slash, slashed, path_hash, is_resolved, is_match, is_mismatch, scored, counts_of, package_flag, verify_answer, Verified, verified}
 use Rattle.meaning.specs.Written.{corpus_from}
-use Rattle.meaning.specs.VerifyExamples.{engine, six, verify_examples}
-use Rattle.meaning.specs.VerifyLaws as Laws
-use Rattle.meaning.specs.VerifyObjects.{HasPath, resolved_where, match_where, mismatch_where}
-use Rattle.meaning.specs.VerifyFits as Fits
-use Rattle.meaning.specs.VerifyRefusals as Refusals
-use Rattle.meaning.specs.VerifyRearranged.{flag_in, flag_is, from_verify, verify_same, verify_turned}
+use Rattle.meaning.specs.VerifyExamples.{engine, six}
+use Rattle.meaning.proofs.VerifyExamples.{verify_examples}
+use Rattle.meaning.proofs.VerifyLaws as Laws
+use Rattle.meaning.specs.VerifyObjects.{HasPath}
+use Rattle.meaning.proofs.VerifyObjects.{resolved_where, match_where, mismatch_where}
+use Rattle.meaning.proofs.VerifyFits as Fits
+use Rattle.meaning.proofs.VerifyRefusals as Refusals
+use Rattle.meaning.specs.VerifyRearranged.{flag_in}
+use Rattle.meaning.proofs.VerifyRearranged.{flag_is, from_verify, verify_same, verify_turned}
 
 -- ==== THE CALL
 -- THE CONTRACT of the exported call, `class_verify`: the lists that it was lent at entry, corpus and output buffer, the number that it returned, and

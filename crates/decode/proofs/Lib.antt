@@ -1,0 +1,15 @@
+pub mod TableLaws
+pub mod CharLaws
+pub mod KnownLaws
+pub mod GrammarLaws
+pub mod TurnLaws
+pub mod MeasureLaws
+pub mod LatinLaws
+pub mod StepLaws
+pub mod NarrowLaws
+pub mod PlainLaws
+pub mod TailsLaws
+pub mod WriteLaws
+pub mod RunLaws
+pub mod TwosLaws
+pub mod EightLaws

@@ -6,29 +6,22 @@ pub mod ReadLaws
 pub mod Chars
 pub mod TableLaws
 pub mod CharLaws
-pub mod KnownLaws
 pub mod Grammar
-pub mod GrammarLaws
 -- ---- A text measured, written, read back
 pub mod Measure
 pub mod TurnLaws
 pub mod MeasureLaws
 pub mod Latin
-pub mod LatinLaws
 pub mod Step
-pub mod StepLaws
 pub mod Narrow
 pub mod NarrowLaws
-pub mod PlainLaws
 pub mod Tails
-pub mod TailsLaws
 pub mod WriteLaws
 pub mod Run
 pub mod Twos
 pub mod RunLaws
 pub mod TwosLaws
 pub mod Eight
-pub mod EightLaws
 pub mod BackLaws
 -- ---- All of it computed at its edges
 pub mod Examples

@@ -25,7 +25,7 @@ use Rattle.text.specs.Utf8.{utf8, from_utf8}
 use Rattle.text.specs.Utf8Laws.{utf8_decode}
 use Rattle.decode.specs.BackLaws.{wide_back}
 use Rattle.decode.specs.Measure.{fits_latin1}
-use Rattle.decode.specs.MeasureLaws.{latin-units}
+use Rattle.decode.proofs.MeasureLaws.{latin-units}
 use Rattle.batch.specs.Batch.{u64, Batch, head_of, head, strings_on, strings, no_names, some_names, body, batch}
 use Rattle.written.specs.BatchBytes.{le4, le8, string_bytes, head_bytes, some_bytes, batch_bytes}
 use Rattle.written.specs.HeaderBytes.{longest_name}

@@ -16,7 +16,7 @@ use Rattle.base.specs.ReadingLaws.{bind_assoc, block_read}
 use Rattle.base.specs.ReadingFrontRows.{ask-yes, rows-front}
 use Rattle.batch.specs.Batch.{u32, Batch, batch}
 use Rattle.written.specs.BatchBytes.{le4, le8, string_bytes, batch_bytes}
-use Rattle.zen.specs.BlockLaws.{lead_is}
+use Rattle.zen.proofs.BlockLaws.{lead_is}
 use Rattle.written.specs.HeaderBytes.{ImportedName, Description, imported_texts, export_bytes, imported_bytes, hashes_start, exports_start, imported_start, header_size}
 use Rattle.written.specs.HeaderBytes.{offsets_of, summary_bytes, content_bytes, header_with, header_of, longest_header, paired, described}
 use Rattle.zen.specs.Zen.{ordered, bulk, named, Tables, tables, Imports, imports, Read, content, header, lead, package_block}

@@ -21,7 +21,8 @@ use Rattle.batch.specs.declared.places.Place.{Place}
 use Rattle.scriptblock.specs.Script.{Objects, object_name}
 use Rattle.table.specs.Table.{record_at}
 use Rattle.meaning.specs.Path.{Path, added, start}
-use Rattle.meaning.specs.PathUnits.{path_units, hash-units, slash_after, units-more}
+use Rattle.meaning.specs.PathUnits.{path_units, slash_after}
+use Rattle.meaning.proofs.PathUnits.{hash-units, units-more}
 use Rattle.meaning.specs.Verify.{slash}
 use Rattle.objects.specs.Numbers.{entry_no, link_of, path_no}
 use Rattle.objects.specs.PathLaws.{path_end, path-lost, path-top, path-up, inside-count, columns-at, place-holds, unpacked}

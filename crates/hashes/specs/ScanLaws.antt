@@ -12,9 +12,9 @@ use Rattle.batch.specs.PlacesLaws.{place_inside, start_mono}
 use Rattle.batch.specs.declared.places.Place.{Place}
 use Rattle.scriptblock.specs.Objects.{entry_number}
 use Rattle.scriptblock.specs.Script.{Objects, script}
-use Rattle.scriptblock.specs.ScriptAccepted.{script-parts}
+use Rattle.scriptblock.proofs.ScriptAccepted.{script-parts}
 use Rattle.scriptblock.specs.ScriptAnswers.{script_answer, entries_of, no_entry}
-use Rattle.scriptblock.specs.ScriptFacts.{objects-facts, script-facts, number_is}
+use Rattle.scriptblock.proofs.ScriptFacts.{objects-facts, script-facts, number_is}
 use Rattle.scriptblock.specs.declared.script.Entry.{Entry}
 use Rattle.scriptblock.specs.declared.script.Layout.{Layout}
 use Rattle.scriptblock.specs.declared.script.Script.TheVariants.{Accepted}

@@ -7,8 +7,8 @@ use Rattle.std.proofs.Math.Decide.{ℕ_discrete}
 use Rattle.std.proofs.lemmas.List.Edits.{sets-eq}
 use Rattle.lower.specs.Table.{pairs}
 use Rattle.lower.specs.Lower.{second_of, lower, lowered}
-use Rattle.lower.specs.LowerLaws.{lower-is}
-use Rattle.lower.specs.AsciiLaws.{ascii-below}
+use Rattle.lower.proofs.LowerLaws.{lower-is}
+use Rattle.lower.proofs.AsciiLaws.{ascii-below}
 use Rattle.rules.specs.LatinLaws.{lower_ascii_lem}
 use Rattle.lower.specs.SearchLaws.{every, second-every}
 use Rattle.text.specs.UnitBytesLaws.{unit_bytes-length}
@@ -16,7 +16,8 @@ use Rattle.text.specs.Name.{suffix}
 use Rattle.base.specs.Output.{over, Wrote}
 use Rattle.ids.specs.LoweredUnits.{name_units}
 use Rattle.text.specs.Utf16.{encode16, unit_bytes}
-use Rattle.meaning.specs.PathUnits.{path_units, units-name, slashed-units, suffix-slashed}
+use Rattle.meaning.specs.PathUnits.{path_units}
+use Rattle.meaning.proofs.PathUnits.{units-name, slashed-units, suffix-slashed}
 use Rattle.meaning.specs.Verify.{slash, slashed}
 use Rattle.hashes.specs.Slash.{slash_low, slash_bytes}
 

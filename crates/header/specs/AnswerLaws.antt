@@ -14,7 +14,8 @@ use Rattle.text.specs.Utf16.{encode16}
 use Rattle.written.specs.HeaderBytes.{header_of, header_size, longest_name, longest_header, short, writable}
 use Rattle.meaning.specs.Call.{refused_in, accepted, number_of, buffer_after}
 use Rattle.description.specs.Call.{as_described, header_answer}
-use Rattle.description.specs.CallLaws.{Writable, writable-is}
+use Rattle.description.specs.CallLaws.{Writable}
+use Rattle.description.proofs.CallLaws.{writable-is}
 use Rattle.description.specs.HeaderBack.{length-header}
 use Rattle.header.specs.Places.{text_at, next_text, text_well, texts_from, texts_well, text_count, imported_place, imported_count, description_at, in_form}
 use Rattle.header.specs.FormPlaces.{in_form_lem, form_in, described-at}

@@ -19,7 +19,8 @@ use Rattle.text.specs.UnitBytesLaws.{unit_bytes-length}
 use Rattle.decode.specs.declared.measure.Measured.{Measured}
 use Rattle.decode.specs.declared.measure.Measured.TheVariants.{Text, NoText}
 use Rattle.decode.specs.Measure.{text_of, fits_latin1, measured}
-use Rattle.decode.specs.MeasureLaws.{Said, measured-text, measured-none, latin-units, latin-length, wide-length}
+use Rattle.decode.specs.MeasureLaws.{Said}
+use Rattle.decode.proofs.MeasureLaws.{measured-text, measured-none, latin-units, latin-length, wide-length}
 use Rattle.written.specs.BatchBytes.{string_bytes}
 use Rattle.written.specs.HeaderBytes.{longest_name}
 use Rattle.zen.specs.Zen.{named}

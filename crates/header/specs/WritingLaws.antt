@@ -13,8 +13,9 @@ use Rattle.text.specs.Affix.{all_ascii}
 use Rattle.text.specs.Utf16.{is_well, scalars, encode16, utf16le}
 use Rattle.text.specs.Utf8.{from_utf8}
 use Rattle.decode.specs.Measure.{text_of, fits_latin1}
-use Rattle.decode.specs.MeasureLaws.{Said, measured-text}
-use Rattle.decode.specs.PlainLaws.{plain-text, plain-measured}
+use Rattle.decode.specs.MeasureLaws.{Said}
+use Rattle.decode.proofs.MeasureLaws.{measured-text}
+use Rattle.decode.proofs.PlainLaws.{plain-text, plain-measured}
 use Rattle.written.specs.BatchBytes.{le4, le8, head_bytes, string_bytes, some_bytes, batch_bytes}
 use Rattle.written.specs.HeaderBytes.{Description, export_bytes, imported_bytes, header_size, offsets_of, summary_bytes, content_bytes}
 use Rattle.header.specs.Places.{text_end, next_text, texts_from, export_in, imported_at, imported_from, imported_place, imported_count, description_at}

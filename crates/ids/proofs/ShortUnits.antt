@@ -14,7 +14,7 @@ use Rattle.base.specs.OutputLaws.{wrote_count}
 use Rattle.text.specs.Utf16.{unit_bytes}
 use Rattle.text.specs.Utf16Cases.{Words}
 use Rattle.lower.specs.Lower.{lower, lowered}
-use Rattle.lower.specs.LowerLaws.{lower-single}
+use Rattle.lower.proofs.LowerLaws.{lower-single}
 use Rattle.city.specs.City.{k2, hash_bytes, hash_halves, hash_two, hash_four, city_hash64}
 use Rattle.city.specs.CityLaws.{none_is, bytes-is, halves-is, two_is, four_is}
 use Rattle.ids.specs.LowerLaws.{lowered-at, lowered-length}

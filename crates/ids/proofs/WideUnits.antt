@@ -12,7 +12,7 @@ use lib.ListN.{length, set, get_or, take, drop, length-map, length-take, length-
 use lib.Seq.{take-suc, get_or-take, get_or-drop, ext_get_or}
 use Rattle.lower.specs.Ascii.{lower_ascii}
 use Rattle.lower.specs.Lower.{lowered}
-use Rattle.lower.specs.LowerLaws.{lower-single}
+use Rattle.lower.proofs.LowerLaws.{lower-single}
 use Rattle.rules.specs.Caseless.{caseless}
 use Rattle.rules.specs.CaselessLaws.{ascii-caseless}
 use Rattle.rules.specs.Scripts.{LowersBy}

@@ -9,7 +9,7 @@ use Rattle.text.specs.Digits.{digits, decimal}
 use Rattle.text.specs.Name.{suffix}
 use Rattle.text.specs.NameLaws.{suffix-ascii}
 use Rattle.lower.specs.Lower.{lower, lowered}
-use Rattle.lower.specs.AsciiLaws.{ascii-below, ascii-above}
+use Rattle.lower.proofs.AsciiLaws.{ascii-below, ascii-above}
 use Rattle.rules.specs.LatinLaws.{lower_ascii_lem}
 use Rattle.ids.specs.LowerLaws.{lowered_append}
 use Rattle.ids.specs.LoweredUnits.{name_units}

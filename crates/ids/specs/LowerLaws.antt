@@ -4,7 +4,8 @@ use Rattle.std.proofs.Common.{sym, ◌∙◌, ap, inl, inr, arith, lt-ltb, le-lt
 use Rattle.std.proofs.Math.Logic.{by_cases}
 use Rattle.std.proofs.Math.Decide.{dec_lt}
 use Rattle.lower.specs.Lower.{lower, lowered}
-use Rattle.lower.specs.LowerLaws.{Alike, lower-alike, lower-single, lower_double}
+use Rattle.lower.specs.LowerLaws.{Alike}
+use Rattle.lower.proofs.LowerLaws.{lower-alike, lower-single, lower_double}
 use Rattle.base.specs.NumberLaws.{Bytes}
 use Rattle.text.specs.Utf16.{Scalar, Scalars, of_pair, encode_one, encode16}
 use Rattle.text.specs.Utf16Cases.{High, Low, Single, high, low, low-high, single-high, single-low}

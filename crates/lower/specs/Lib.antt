@@ -2,7 +2,6 @@
 
 -- ---- A to Z alone
 pub mod Ascii
-pub mod AsciiLaws
 -- ---- Unicode's mappings: the table, the definition, what is shown over the whole table
 pub mod Table
 pub mod Lower

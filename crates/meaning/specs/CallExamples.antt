@@ -1,56 +1,54 @@
 -- The call computed: the framing's questions, the order of blocks and questions, 24's block, 25's sum, the returned number and the report
 -- buffer. Each field quotes the sentence of document 01 that it shows. Assumes nothing.
-use Rattle.std.specs.Prelude.{◌≡◌, refl, List, [], ◌∷◌, ◌++◌, map, ℕ, replicate}
-use Rattle.base.specs.Output.{over}
+use Rattle.std.specs.Prelude.{◌≡◌, List, [], ◌∷◌, ◌++◌, map, ℕ, replicate}
 use Rattle.written.specs.Written.{script_index, null_index, object, script_bytes, package_bytes}
 use Rattle.zen.specs.declared.tables.Export.{Export}
 use Rattle.meaning.specs.Frame.{Part}
-use Rattle.meaning.specs.Call.{refused_in, accepted, buffer_after, limits}
+use Rattle.meaning.specs.Call.{refused_in, accepted, limits}
 use Rattle.meaning.specs.Limited.{answer_within, outcome_within}
-use Rattle.meaning.specs.Bytes.{part_bytes, packages_bytes, corpus_rest, corpus_bytes}
 use Rattle.meaning.specs.Computed.{asked}
 use Rattle.meaning.specs.Written.{corpus_from, reported}
 use Rattle.meaning.specs.Examples.{least, no_objects, two_objects, plain, class_with, with_tone}
 
 -- a corpus, byte by byte: a first length, `rest` behind the version byte
-abbrev bytes : ℕ → ℕ → List ℕ → List ℕ
+abbrev pub bytes : ℕ → ℕ → List ℕ → List ℕ
 bytes n version rest = 0 ∷ 0 ∷ 0 ∷ n ∷ version ∷ rest
 
 -- the script block of document 01's example, and no package, or one of 0 bytes with id 9
-abbrev script_part : List ℕ
+abbrev pub script_part : List ℕ
 script_part = 0 ∷ 0 ∷ 0 ∷ 8 ∷ replicate 8 0
 
-abbrev one_package : List ℕ
+abbrev pub one_package : List ℕ
 one_package = 0 ∷ 0 ∷ 0 ∷ 1 ∷ 0 ∷ 0 ∷ 0 ∷ 0 ∷ 0 ∷ 0 ∷ 0 ∷ 9 ∷ 0 ∷ 0 ∷ 0 ∷ 0 ∷ []
 
 -- a package with this id and these exports, whose first names are `P`, `Tone_GEN_VARIABLE` and `C`; and a block that ends before its flag
-abbrev holds : ℕ → List Export → Part
+abbrev pub holds : ℕ → List Export → Part
 holds id exports = record {
   id = id;
   block = package_bytes (record { names = "P" ∷ "Tone_GEN_VARIABLE" ∷ "C" ∷ []; hashes = []; exports = exports; imported = [] });
 }
 
-abbrev short : Part
+abbrev pub short : Part
 short = record { id = 9; block = [] }
 
 -- a class of this hash
-abbrev class : ℕ → Export
+abbrev pub class : ℕ → Export
 class hash = class_with (script_index 1) hash
 
 -- a class that is a candidate too: its base ends in `_GEN_VARIABLE`
-abbrev both : Export
+abbrev pub both : Export
 both = record { index = 1; number = 0; outer = null_index; class = script_index 0; parent = script_index 1; hash = 3 }
 
 -- an export of hash 1 that is no class
-abbrev no_class : Export
+abbrev pub no_class : Export
 no_class = record { index = 2; number = 0; outer = null_index; class = null_index; parent = null_index; hash = 1 }
 
 -- four script objects, of which the first is the class of classes
-abbrev four_objects : List ℕ
+abbrev pub four_objects : List ℕ
 four_objects = script_bytes ("Class" ∷ []) (map (λ i. object 0 (script_index i) null_index) (0 ∷ 1 ∷ 2 ∷ 3 ∷ []))
 
 -- four script objects, three classes, two candidates
-abbrev weighty : List ℕ
+abbrev pub weighty : List ℕ
 weighty = corpus_from four_objects (holds 8 (class 1 ∷ class 2 ∷ plain 1 null_index null_index ∷ []) ∷ holds 9 (both ∷ []) ∷ [])
 
 pub record CallExamples : Type 0 where
@@ -97,36 +95,3 @@ pub record CallExamples : Type 0 where
   pub work-counts :
       outcome_within limits (corpus_from no_objects (record { id = 9; block = with_tone [] null_index } ∷ [])) (replicate 63 7) (replicate 200 7)
       ≡ record { number = 0x8000_0019_0000_0000; report = replicate 200 7 }
-
-pub call-examples : CallExamples
-unfolding asked corpus_bytes corpus_rest packages_bytes part_bytes outcome_within buffer_after over
-call-examples = record {
-  no_bytes = refl;
-  three-bytes = refl;
-  no_version = refl;
-  first-length-less = refl;
-  first-length-more = refl;
-  version-later = refl;
-  version_0 = refl;
-  no_script = refl;
-  script-outside = refl;
-  no_count = refl;
-  no_package = refl;
-  package_outside = refl;
-  byte-over = refl;
-  one_package_lem = refl;
-  corpus-first = refl;
-  script-block = refl;
-  first_of-two = refl;
-  third_package = refl;
-  blocks-before_24 = refl;
-  key_twice-within = refl;
-  key_twice-first = refl;
-  key_of-no_class = refl;
-  work_575 = refl;
-  work_576 = refl;
-  accepted-outcome = refl;
-  refused-outcome = refl;
-  refused-block = refl;
-  work-counts = refl;
-}

@@ -1,5 +1,5 @@
 -- What document 01 says and its table doesn't show, computed: a package import's halves, 24's block, 25 before 26. Assumes nothing.
-use Rattle.std.specs.Prelude.{◌≡◌, refl, List, [], ◌∷◌, map, ℕ}
+use Rattle.std.specs.Prelude.{◌≡◌, List, [], ◌∷◌, map, ℕ}
 use Rattle.base.specs.House.{length_first}
 use Rattle.base.specs.Literal.{quoted as text}
 use Rattle.ids.specs.Id.{id_of}
@@ -7,19 +7,18 @@ use Rattle.written.specs.Written.{script_index, import_index, null_index, packag
 use Rattle.meaning.specs.Frame.{Part}
 use Rattle.meaning.specs.Call.{refused_in, accepted, number_of, limits}
 use Rattle.meaning.specs.Limited.{answer_within}
-use Rattle.meaning.specs.Bytes.{part_bytes, packages_bytes, corpus_rest, corpus_bytes}
 use Rattle.meaning.specs.Computed.{asked}
 use Rattle.meaning.specs.Written.{corpus_from, corpus_of, section_bytes, report_bytes, texts}
 use Rattle.meaning.specs.Examples.{no_objects, two_objects, plain, class_with, booth}
 
 -- a package `/Q` with a class `C` of hash 7, and one that imports it: imported name 1, hash 0
-abbrev home : Part
+abbrev pub home : Part
 home = record {
   id = id_of (text "/Q");
   block = package_bytes (record { names = "/Q" ∷ "" ∷ "C" ∷ []; hashes = []; exports = class_with (script_index 1) 7 ∷ []; imported = [] });
 }
 
-abbrev importer : Part
+abbrev pub importer : Part
 importer = record {
   id = 9;
   block =
@@ -28,13 +27,13 @@ importer = record {
 }
 
 -- its section, wherever it stands
-abbrev importer-section : List ℕ
+abbrev pub importer-section : List ℕ
 importer-section =
     section_bytes 9 "P" 1
     (length_first (1 ∷ 1 ∷ 0 ∷ 2 ∷ 1 ∷ 1 ∷ texts ("Tone" ∷ "Tone_GEN_VARIABLE" ∷ "" ∷ "/Q.C" ∷ "Speaker" ∷ "package:/Q#0x0000000000000007" ∷ [])) ∷ [])
 
 -- a package with a class of hash 1, under this id
-abbrev with_id : ℕ → Part
+abbrev pub with_id : ℕ → Part
 with_id i = record {
   id = i;
   block = package_bytes (record { names = "P" ∷ "" ∷ "C" ∷ []; hashes = []; exports = class_with (script_index 1) 1 ∷ []; imported = [] });
@@ -52,14 +51,3 @@ pub record Edges : Type 0 where
   pub work-short : answer_within limits (corpus_of no_objects booth) 63 97 ≡ refused_in 25 0
   pub report-short : answer_within limits (corpus_of no_objects booth) 64 97 ≡ refused_in 26 0
   pub just_enough : number_of (answer_within limits (corpus_of no_objects booth) 64 98) ≡ 98
-
-pub edges : Edges
-unfolding asked corpus_bytes corpus_rest packages_bytes part_bytes
-edges = record {
-  import-found = refl;
-  import-found-backwards = refl;
-  key_twice = refl;
-  work-short = refl;
-  report-short = refl;
-  just_enough = refl;
-}

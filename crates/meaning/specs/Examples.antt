@@ -1,5 +1,5 @@
 -- Document 01's "Table of proved examples" and "Mistaken readings": one theorem about the definitions, by computation. Assumes nothing.
-use Rattle.std.specs.Prelude.{◌≡◌, refl, List, [], ◌∷◌, ◌++◌, ℕ, zero, suc, ◌+◌, length, replicate}
+use Rattle.std.specs.Prelude.{◌≡◌, List, [], ◌∷◌, ◌++◌, ℕ, zero, suc, ◌+◌, length, replicate}
 use Prim.Native.String.{String, ◌++◌ as ◌then◌}
 use Rattle.base.specs.House.{length_first}
 use Rattle.base.specs.Literal.{quoted as text}
@@ -11,7 +11,6 @@ use Rattle.written.specs.Written.{script_index, null_index, object, script_bytes
 use Rattle.zen.specs.declared.tables.Export.{Export}
 use Rattle.meaning.specs.Call.{refused_in, accepted, number_of, limits}
 use Rattle.meaning.specs.Limited.{answer_within}
-use Rattle.meaning.specs.Bytes.{part_bytes, packages_bytes, corpus_rest, corpus_bytes}
 use Rattle.meaning.specs.Computed.{asked}
 use Rattle.meaning.specs.Written.{corpus_from, corpus_of, reported, texts}
 
@@ -47,15 +46,15 @@ abbrev pub tone_row : ℕ → ℕ → ℕ → String → String → String → L
 tone_row kind class native class_text native_text reference =
     length_first (1 ∷ 1 ∷ 0 ∷ kind ∷ class ∷ native ∷ texts ("Tone" ∷ "Tone_GEN_VARIABLE" ∷ "" ∷ class_text ∷ native_text ∷ reference ∷ []))
 
-abbrev tone_report : ℕ → ℕ → ℕ → ℕ → String → String → String → List ℕ
+abbrev pub tone_report : ℕ → ℕ → ℕ → ℕ → String → String → String → List ℕ
 tone_report exports kind class native class_text native_text reference = reported "P" exports (tone_row kind class native class_text native_text reference ∷ [])
 
 -- n script objects named by the batch's first name, the outer of each being the next, and the index of the innermost (null where n is 0)
-abbrev innermost : ℕ → ℕ
+abbrev pub innermost : ℕ → ℕ
 innermost zero = null_index
 innermost (suc n) = script_index n
 
-abbrev nested : ℕ → List (List ℕ)
+abbrev pub nested : ℕ → List (List ℕ)
 nested zero = []
 nested (suc n) = object 0 (script_index n) (innermost n) ∷ nested n
 
@@ -72,18 +71,18 @@ derived zero = []
 derived (suc n) = derived n ++ class_with (last_of n) (n + 1) ∷ []
 
 -- a text n times
-abbrev times : ℕ → String → String
+abbrev pub times : ℕ → String → String
 times zero s = ""
 times (suc n) s = s then times n s
 
 -- four script objects, the outer of each being the one before it, and one whose path is `?`
-abbrev four_objects : List ℕ
+abbrev pub four_objects : List ℕ
 four_objects =
     script_bytes ("a" ∷ "b" ∷ "c" ∷ "d" ∷ [])
     (object 0 (script_index 0) null_index ∷ object 1 (script_index 1) (script_index 0)
     ∷ object 2 (script_index 2) (script_index 1) ∷ object 3 (script_index 3) (script_index 2) ∷ [])
 
-abbrev question_mark : List ℕ
+abbrev pub question_mark : List ℕ
 question_mark = script_bytes ("?" ∷ []) (object 0 (script_index 0) null_index ∷ [])
 
 -- an export `Booth_C`, and in it `Tone`, of no class
@@ -98,7 +97,7 @@ booth =
     })
 
 -- two exports that are rendered alike, by their base and by their number
-abbrev rendered-alike : List ℕ
+abbrev pub rendered-alike : List ℕ
 rendered-alike =
     package_bytes
     (record {
@@ -154,31 +153,3 @@ pub record Examples : Type 0 where
   pub suffix-on-base :
       asked (corpus_of no_objects rendered-alike)
       ≡ accepted (reported "P" 2 (length_first (1 ∷ 1 ∷ 1 ∷ 6 ∷ 0 ∷ 0 ∷ texts ("Tone_0" ∷ "Tone_GEN_VARIABLE_0" ∷ "" ∷ "?" ∷ "?" ∷ "null" ∷ [])) ∷ []))
-
-pub examples : Examples
-unfolding asked corpus_bytes corpus_rest packages_bytes part_bytes
-examples = record {
-  least_report_lem = refl;
-  least-number = refl;
-  version_2 = refl;
-  version_2_number = refl;
-  header_91 = refl;
-  section-length = refl;
-  header_92 = refl;
-  header-length = refl;
-  path = refl;
-  objects-65 = refl;
-  objects_66 = refl;
-  lookups_64 = refl;
-  lookups_65 = refl;
-  number_1 = refl;
-  empty_name = refl;
-  row-tone = refl;
-  batch_of_0 = refl;
-  batch_of_0_with_version = refl;
-  path-question-mark = refl;
-  path-unknown = refl;
-  hash_0 = refl;
-  hash_1 = refl;
-  suffix-on-base = refl;
-}

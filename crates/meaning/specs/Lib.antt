@@ -33,7 +33,6 @@ pub mod RangeExamples
 pub mod VerifyExamples
 -- the own chain, the native class, rows in the report's bytes
 pub mod OwnChain
-pub mod Native
 pub mod Rows
 pub mod Whole
 pub mod Fields
@@ -41,14 +40,11 @@ pub mod Texts
 -- demand 1: the first question that fails
 pub mod Order
 pub mod Decoded
-pub mod Outcome
 -- demand 3
-pub mod Demand
 pub mod Rearrange
 -- two limits on one corpus: what is known stays known
 pub mod Monotone
 -- the build's own hashes: counts and output
-pub mod VerifyLaws
 pub mod PathUnits
 pub mod VerifyObjects
 pub mod VerifyFits
@@ -58,21 +54,16 @@ pub mod VerifyRearranged
 pub mod ClassTest
 pub mod Lengths
 pub mod Bounds
-pub mod Sanity
 pub mod Shut
 -- ==== Laws and lemmas
 pub mod Answered
-pub mod LimitedLaws
 pub mod KeyLaws
 pub mod Table
 pub mod Repeats
 pub mod BytesLaws
 pub mod Accepted
-pub mod Fits
 pub mod Sections
 pub mod Rewriting
 pub mod Reordering
 pub mod RearrangedLaws
-pub mod RearrangedOpens
-pub mod LimitsTable
 pub mod LimitsChain

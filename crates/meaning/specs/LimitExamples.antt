@@ -1,26 +1,24 @@
 -- The two limits computed where they are small and differ: 1 lookup and 2 objects. Each field quotes the sentence of document 01 that it
 -- shows. Assumes nothing.
-use Rattle.std.specs.Prelude.{◌≡◌, refl, List, [], ◌∷◌, ℕ}
+use Rattle.std.specs.Prelude.{◌≡◌, List, [], ◌∷◌, ℕ}
 use Rattle.written.specs.Written.{script_index, package_bytes}
 use Rattle.zen.specs.declared.tables.Export.{Export}
 use Rattle.meaning.specs.Resolve.{Limits, limits_of}
 use Rattle.meaning.specs.Call.{refused_in, accepted}
 use Rattle.meaning.specs.Limited.{answer_within}
-use Rattle.meaning.specs.Bytes.{part_bytes, packages_bytes, corpus_rest, corpus_bytes}
-use Rattle.meaning.specs.Computed.{asked}
 use Rattle.meaning.specs.Written.{corpus_of, reported}
 use Rattle.meaning.specs.Examples.{tone_row}
 use Rattle.meaning.specs.RowExamples.{engine, class, tone}
 
-abbrev small : Limits
+abbrev pub small : Limits
 small = limits_of 1 2
 
 -- a package with these exports
-abbrev holding : List Export → List ℕ
+abbrev pub holding : List Export → List ℕ
 holding exports = package_bytes (record { names = "P" ∷ "Tone_GEN_VARIABLE" ∷ "C" ∷ "D" ∷ []; hashes = []; exports = exports; imported = [] })
 
 -- a class `C` of `Speaker`, a class `D` of `C`, and what has each of them, `Speaker` and its `Part` for its class
-abbrev derived : List ℕ
+abbrev pub derived : List ℕ
 derived = corpus_of engine (holding (class 2 (script_index 2) 1 ∷ class 3 0 2 ∷ tone 0 ∷ tone 1 ∷ tone (script_index 2) ∷ tone (script_index 3) ∷ []))
 
 pub record LimitExamples : Type 0 where
@@ -38,7 +36,3 @@ pub record LimitExamples : Type 0 where
   -- with 1 object it is unknown, and there is no class
   pub no_class_lem : answer_within (limits_of 2 1) derived 512 0 ≡ refused_in 26 0
   pub no_class-short : answer_within (limits_of 2 1) derived 511 0 ≡ refused_in 25 0
-
-pub limit_examples : LimitExamples
-unfolding asked corpus_bytes corpus_rest packages_bytes part_bytes
-limit_examples = record { lookups-and-objects = refl; key_twice = refl; work-short = refl; no_class_lem = refl; no_class-short = refl }

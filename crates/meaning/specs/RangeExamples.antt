@@ -1,12 +1,9 @@
 -- Question 29 at its edges, computed (document 02, Q-5: "It refuses with 29, before the corpus is looked at, a lookup limit of 0 or above 64 or an
 -- object limit of 0 or above 65"). Assumes nothing.
-use Rattle.std.specs.Prelude.{◌≡◌, refl, List, [], ◌∷◌, ◌++◌, ℕ, replicate}
-use Rattle.base.specs.Output.{over}
+use Rattle.std.specs.Prelude.{◌≡◌, List, [], ◌∷◌, ◌++◌, ℕ, replicate}
 use Rattle.meaning.specs.Resolve.{limits_of}
-use Rattle.meaning.specs.Call.{refused_in, accepted, buffer_after}
+use Rattle.meaning.specs.Call.{refused_in, accepted}
 use Rattle.meaning.specs.Limited.{outcome_within}
-use Rattle.meaning.specs.Bytes.{part_bytes, packages_bytes, corpus_rest, corpus_bytes}
-use Rattle.meaning.specs.Computed.{asked}
 use Rattle.meaning.specs.Written.{corpus_of, reported}
 use Rattle.meaning.specs.Examples.{least, two_objects, with_tone, tone_row, last_of, derived}
 use Rattle.meaning.specs.RowExamples.{tone}
@@ -43,23 +40,3 @@ pub record RangeExamples : Type 0 where
   -- the number, and the buffer as it was
   pub refused-outcome :
       outcome_within (limits_of 0 65) (least 1) [] (replicate 9 7) ≡ record { number = 0x8000_001D_0000_0000; report = replicate 9 7 }
-
-pub range-examples : RangeExamples
-unfolding asked corpus_bytes corpus_rest packages_bytes part_bytes outcome_within buffer_after over
-range-examples = record {
-  lookups_0 = refl;
-  lookups_1 = refl;
-  lookups_64 = refl;
-  lookups_65 = refl;
-  lookups-most = refl;
-  objects_0 = refl;
-  objects_1 = refl;
-  objects_66 = refl;
-  objects-most = refl;
-  one-one = refl;
-  no_corpus = refl;
-  no_corpus_1 = refl;
-  version_29 = refl;
-  version_2 = refl;
-  refused-outcome = refl;
-}

@@ -7,7 +7,7 @@ use Rattle.base.specs.Reading.{run, run_block}
 use Rattle.base.specs.ReadingMarks.{Agree, marks, marks_block, agree-length}
 use Rattle.scriptblock.specs.Script.{script}
 use Rattle.zen.specs.Zen.{package_block}
-use Rattle.zen.specs.PassedOver as Passed
+use Rattle.zen.proofs.PassedOver as Passed
 use Rattle.meaning.specs.Frame.{Part, Corpus}
 use Rattle.meaning.specs.Resolve.{Limits}
 use Rattle.meaning.specs.Call.{read_from, opened_in}

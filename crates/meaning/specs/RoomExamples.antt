@@ -1,13 +1,11 @@
 -- One corpus within two limits, computed (document 02, Q-5: "The teaching rooms show short chains only and want 8 lookups and 4 outer objects").
 -- Assumes nothing.
-use Rattle.std.specs.Prelude.{◌≡◌, refl, List, [], ◌∷◌, ◌++◌, ℕ}
+use Rattle.std.specs.Prelude.{◌≡◌, List, [], ◌∷◌, ◌++◌, ℕ}
 use Rattle.written.specs.Written.{script_index, null_index, object, script_bytes, package_bytes}
 use Rattle.zen.specs.declared.tables.Export.{Export}
 use Rattle.meaning.specs.Resolve.{limits_of}
 use Rattle.meaning.specs.Call.{Answer, refused_in, accepted}
 use Rattle.meaning.specs.Limited.{answer_within}
-use Rattle.meaning.specs.Bytes.{part_bytes, packages_bytes, corpus_rest, corpus_bytes}
-use Rattle.meaning.specs.Computed.{asked}
 use Rattle.meaning.specs.Written.{corpus_of, reported}
 use Rattle.meaning.specs.Examples.{two_objects, with_tone, tone_row, last_of, derived}
 use Rattle.meaning.specs.RowExamples.{tone}
@@ -30,18 +28,18 @@ five_objects =
     (with_tone (tone (script_index 3) ∷ []) (script_index 4))
 
 -- the script objects `Class`, `a`, `a.a`, `a.a:a`, `a.a:a.a` and, 5 deep, `a.a:a.a.Class`
-abbrev two_class : List ℕ
+abbrev pub two_class : List ℕ
 two_class =
     script_bytes ("Class" ∷ "a" ∷ [])
     (object 0 (script_index 0) null_index ∷ object 1 (script_index 1) null_index ∷ object 1 (script_index 2) (script_index 1)
     ∷ object 1 (script_index 3) (script_index 2) ∷ object 1 (script_index 4) (script_index 3) ∷ object 0 (script_index 5) (script_index 4) ∷ [])
 
 -- an export of hash 1 with this name, class and super
-abbrev hash_one : ℕ → ℕ → ℕ → Export
+abbrev pub hash_one : ℕ → ℕ → ℕ → Export
 hash_one name class parent = record { index = name; number = 0; outer = null_index; class = class; parent = parent; hash = 1 }
 
 -- these exports, and what has the last of them for its class
-abbrev holding : List Export → ℕ → List ℕ
+abbrev pub holding : List Export → ℕ → List ℕ
 holding exports last =
     corpus_of two_class
     (package_bytes (record { names = "P" ∷ "Tone_GEN_VARIABLE" ∷ "C" ∷ "D" ∷ []; hashes = []; exports = exports ++ tone last ∷ []; imported = [] }))
@@ -77,16 +75,3 @@ pub record RoomExamples : Type 0 where
   -- "and both accept": with 4 objects `C` alone is a class, with 5 `D` before it has its key
   pub one-class_4 : within 8 4 two_of_one_hash ≡ accepted (reported "P" 3 (tone_row 4 1 1 "P.C" "a.a" "export:C" ∷ []))
   pub key_twice_5 : within 8 5 two_of_one_hash ≡ refused_in 24 2
-
-pub room-examples : RoomExamples
-unfolding asked corpus_bytes corpus_rest packages_bytes part_bytes
-room-examples = record {
-  lookups-8 = refl;
-  lookups-9 = refl;
-  objects-4 = refl;
-  objects-5 = refl;
-  no_class_4 = refl;
-  class_5 = refl;
-  one-class_4 = refl;
-  key_twice_5 = refl;
-}

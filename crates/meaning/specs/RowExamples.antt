@@ -1,6 +1,6 @@
 -- Rows computed: which exports are candidates and classes, what each kind of reference means, what a chain leads to. Each field quotes
 -- the sentence of document 01 that it shows. Assumes nothing.
-use Rattle.std.specs.Prelude.{◌≡◌, refl, List, [], ◌∷◌, ℕ}
+use Rattle.std.specs.Prelude.{◌≡◌, List, [], ◌∷◌, ℕ}
 use Prim.Native.String.{String}
 use Rattle.base.specs.House.{length_first}
 use Rattle.ids.specs.Id.{id_of}
@@ -10,7 +10,6 @@ use Rattle.zen.specs.declared.tables.Export.{Export}
 use Rattle.meaning.specs.Frame.{Part}
 use Rattle.meaning.specs.Scan.{last_part}
 use Rattle.meaning.specs.Call.{accepted}
-use Rattle.meaning.specs.Bytes.{part_bytes, packages_bytes, corpus_rest, corpus_bytes}
 use Rattle.meaning.specs.Computed.{asked}
 use Rattle.meaning.specs.Written.{corpus_from, corpus_of, name_numbered, imports_numbered, section_bytes, report_bytes, reported, texts}
 use Rattle.meaning.specs.Examples.{no_objects, plain, tone_row}
@@ -23,7 +22,7 @@ engine =
     ∷ object 2 (script_index 2) (script_index 0) ∷ object 3 (script_index 3) (script_index 2) ∷ [])
 
 -- an export with this name and instance number, outer and class, and no more
-abbrev numbered : ℕ → ℕ → ℕ → ℕ → Export
+abbrev pub numbered : ℕ → ℕ → ℕ → ℕ → Export
 numbered name number outer class = record { index = name; number = number; outer = outer; class = class; parent = null_index; hash = 0 }
 
 -- an export whose class is the class of classes, with this name, super and hash
@@ -36,7 +35,7 @@ tone class = plain 1 null_index class
 
 -- ---- candidates
 
-abbrev candidates : List ℕ
+abbrev pub candidates : List ℕ
 candidates =
     package_bytes
     (record {
@@ -49,7 +48,7 @@ candidates =
     })
 
 -- a row whose class is null: kind, numbered, and the texts of instance, export and outer
-abbrev null_row : ℕ → ℕ → String → String → String → List ℕ
+abbrev pub null_row : ℕ → ℕ → String → String → String → List ℕ
 null_row kind number instance export outer =
     length_first (1 ∷ kind ∷ number ∷ 6 ∷ 0 ∷ 0 ∷ texts (instance ∷ export ∷ outer ∷ "?" ∷ "?" ∷ "null" ∷ []))
 
@@ -57,7 +56,7 @@ null_row kind number instance export outer =
 
 -- the package `/Q` number 5, and in it, in `Booth` number 2, the class `C` number 1, whose super is export 2, the class `Base`; `Booth` has
 -- an outer of its own
-abbrev home : Part
+abbrev pub home : Part
 home = record {
   id = id_of (text "/Q_4");
   block =
@@ -73,11 +72,11 @@ home = record {
       }));
 }
 
-abbrev home-section : List ℕ
+abbrev pub home-section : List ℕ
 home-section = section_bytes (id_of (text "/Q_4")) "/Q_4" 3 []
 
 -- a package `P` that imports `/Q` number 5, `/Q` and `/R`, with these exports
-abbrev importing : List String → List Export → Part
+abbrev pub importing : List String → List Export → Part
 importing names exports = record {
   id = 9;
   block =
@@ -85,7 +84,7 @@ importing names exports = record {
       (package_bytes (record { names = names; hashes = 0xAB ∷ 0xCD ∷ []; exports = exports; imported = "/Q" ∷ "/Q" ∷ "/R" ∷ [] }));
 }
 
-abbrev references : Part
+abbrev pub references : Part
 references =
     importing ("P" ∷ "Tone_GEN_VARIABLE" ∷ "C" ∷ "Booth" ∷ [])
     (class 2 (script_index 2) 1 ∷ plain 3 null_index null_index ∷ tone (script_index 2) ∷ tone (script_index 9) ∷ tone (import_index 0 0)
@@ -93,7 +92,7 @@ references =
 
 -- ---- classes and chains
 
-abbrev supers : Part
+abbrev pub supers : Part
 supers =
     importing ("P" ∷ "Tone_GEN_VARIABLE" ∷ "Imports" ∷ "Lost" ∷ "Ring" ∷ "Bad" ∷ "Root" ∷ "Other" ∷ [])
     (class 2 (import_index 0 0) 1 ∷ class 3 (import_index 1 0) 2 ∷ class 4 2 3 ∷ class 5 20 4 ∷ class 6 null_index 5
@@ -101,7 +100,7 @@ supers =
     ∷ tone 0 ∷ tone 1 ∷ tone 2 ∷ tone 3 ∷ tone 4 ∷ tone 5 ∷ [])
 
 -- two packages of one id: a row whose class is an export of hash 7 that is no class, and a class of hash 7
-abbrev asks : Part
+abbrev pub asks : Part
 asks = record {
   id = 9;
   block =
@@ -114,13 +113,13 @@ asks = record {
       });
 }
 
-abbrev has : Part
+abbrev pub has : Part
 has = record { id = 9; block = package_bytes (record { names = "Q" ∷ "" ∷ "C" ∷ []; hashes = []; exports = class 2 (script_index 2) 7 ∷ []; imported = [] }) }
 
 -- ---- text
 
 -- a package, a script object, an export, a class and a candidate in it, each named with an `é`, which is one byte there
-abbrev accented : List ℕ
+abbrev pub accented : List ℕ
 accented =
     package_bytes
     (record {
@@ -130,7 +129,7 @@ accented =
       imported = [];
     })
 
-abbrev accented_objects : List ℕ
+abbrev pub accented_objects : List ℕ
 accented_objects = script_bytes ("é" ∷ "Class" ∷ []) (object 0 (script_index 0) null_index ∷ object 1 (script_index 1) null_index ∷ [])
 
 pub record RowExamples : Type 0 where
@@ -188,17 +187,3 @@ pub record RowExamples : Type 0 where
   pub after_colon : last_part (text "a.b:c") ≡ text "c"
   pub after_dot : last_part (text "a:b.") ≡ []
   pub no_separator : last_part (text "ab") ≡ text "ab"
-
-pub row-examples : RowExamples
-unfolding asked corpus_bytes corpus_rest packages_bytes part_bytes
-row-examples = record {
-  kinds = refl;
-  class-kinds = refl;
-  chains = refl;
-  key-not-export = refl;
-  two_bytes = refl;
-  utf_8 = refl;
-  after_colon = refl;
-  after_dot = refl;
-  no_separator = refl;
-}

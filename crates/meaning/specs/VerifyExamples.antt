@@ -1,37 +1,34 @@
 -- `verify` computed (document 02, Q-2): paths whose hash is their object's index, one whose isn't, and one that is unknown; packages whose id is
 -- that of their name, and others. The hashes were computed by a program apart from these definitions. Assumes nothing.
-use Rattle.std.specs.Prelude.{◌≡◌, refl, List, [], ◌∷◌, ◌++◌, ℕ, replicate}
+use Rattle.std.specs.Prelude.{◌≡◌, List, [], ◌∷◌, ◌++◌, ℕ, replicate}
 use Rattle.ids.specs.Id.{id_of}
 use Rattle.base.specs.Literal.{quoted as text}
-use Rattle.base.specs.Output.{over}
 use Rattle.written.specs.Written.{script_index, null_index, object, script_bytes, package_bytes}
 use Rattle.meaning.specs.Frame.{Part}
-use Rattle.meaning.specs.Call.{refused_in, accepted, buffer_after}
-use Rattle.meaning.specs.Bytes.{part_bytes, packages_bytes, corpus_rest, corpus_bytes}
-use Rattle.meaning.specs.Computed.{asked}
+use Rattle.meaning.specs.Call.{refused_in, accepted}
 use Rattle.meaning.specs.Written.{corpus_from, name_numbered}
 use Rattle.meaning.specs.Examples.{least, no_objects, two_objects, class_with}
-use Rattle.meaning.specs.Verify.{path_hash, counts_of, package_flag, output_with, output_of, output_fits, verify_answer, verified}
+use Rattle.meaning.specs.Verify.{path_hash, verify_answer, verified}
 
 -- global indices: 2 ^ 62 and the low 62 bits of the hashes of `/Script/Engine`, `/Script/Engine.Actor`, `/Script/Engine.Actor:a.b:c`, `É` and
 -- the empty path
-abbrev engine_index : ℕ
+abbrev pub engine_index : ℕ
 engine_index = 0x51ac_ced3_dc7c_0922
 
-abbrev actor_index : ℕ
+abbrev pub actor_index : ℕ
 actor_index = 0x6459_26f2_83dc_695c
 
-abbrev part_index : ℕ
+abbrev pub part_index : ℕ
 part_index = 0x7afc_00e3_f889_644a
 
-abbrev accent_index : ℕ
+abbrev pub accent_index : ℕ
 accent_index = 0x4ec9_7d40_8090_eca3
 
-abbrev empty_index : ℕ
+abbrev pub empty_index : ℕ
 empty_index = 0x5ae1_6a3b_2f90_404f
 
 -- of `Gone`, in an outer that no object is
-abbrev gone_index : ℕ
+abbrev pub gone_index : ℕ
 gone_index = 0x4eb4_5cbf_361a_c209
 
 -- eight objects: five paths match, one doesn't, and two are unknown, the last because its outer is itself
@@ -43,10 +40,10 @@ engine =
     ∷ object 7 (script_index 7) (script_index 7) ∷ [])
 
 -- a package block named `P`
-abbrev named : List ℕ
+abbrev pub named : List ℕ
 named = package_bytes (record { names = "P" ∷ []; hashes = []; exports = []; imported = [] })
 
-abbrev packed : ℕ → List ℕ → Part
+abbrev pub packed : ℕ → List ℕ → Part
 packed id block = record { id = id; block = block }
 
 -- under the id of `P`, under that without its top two bits, under that of `P_1`; and `P_1` under each
@@ -57,7 +54,7 @@ six =
     ∷ packed 0x3f17_5dcc_68e6_41e6 (name_numbered 2 named) ∷ []
 
 -- two classes with one key
-abbrev twice : List ℕ
+abbrev pub twice : List ℕ
 twice =
     package_bytes
     (record { names = "P" ∷ "" ∷ "C" ∷ []; hashes = []; exports = class_with (script_index 1) 1 ∷ class_with (script_index 1) 1 ∷ []; imported = [] })
@@ -80,17 +77,3 @@ pub record VerifyExamples : Type 0 where
   pub version_2 : verify_answer (least 2) 0 ≡ refused_in 2 0
   pub no_block : verify_answer (corpus_from no_objects (packed 9 [] ∷ [])) 0 ≡ refused_in 3 2
   pub key_twice : verify_answer (corpus_from two_objects (packed 9 twice ∷ [])) 0 ≡ refused_in 24 2
-
-pub verify_examples : VerifyExamples
-unfolding asked corpus_bytes corpus_rest packages_bytes part_bytes buffer_after over path_hash counts_of package_flag output_with output_of output_fits verify_answer verified
-verify_examples = record {
-  separators = refl;
-  as_slashes = refl;
-  counts-and-flags = refl;
-  buffer-short = refl;
-  least-output = refl;
-  least-refused = refl;
-  version_2 = refl;
-  no_block = refl;
-  key_twice = refl;
-}

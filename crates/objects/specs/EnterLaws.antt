@@ -11,7 +11,7 @@ use Rattle.batch.specs.Holds.{name_at, holds-name, holds-own, holds-short}
 use Rattle.scriptblock.specs.Script.{Start, opening}
 use Rattle.scriptblock.specs.ScriptAnswers.{opened_by, opened, entry_at, fresh_at}
 use Rattle.scriptblock.specs.ScriptFaults.{entry_of, fresh-seen, all-fresh}
-use Rattle.scriptblock.specs.ScriptLaws.{opening-got}
+use Rattle.scriptblock.proofs.ScriptLaws.{opening-got}
 use Rattle.scriptblock.specs.declared.script.Entry.{Entry}
 use Rattle.scriptblock.specs.declared.script.Layout.{Layout}
 use Rattle.scriptblock.specs.declared.script.Opened.TheVariants.{Open}

@@ -8,7 +8,7 @@ use Rattle.base.specs.Number.{le_at}
 use Rattle.base.specs.Reading.{gives, run}
 use Rattle.scriptblock.specs.Script.{Objects, script}
 use Rattle.scriptblock.specs.ScriptAnswers.{entry_at, script_answer}
-use Rattle.scriptblock.specs.ScriptAccepted.{script-parts, accepted-objects, answer_of}
+use Rattle.scriptblock.proofs.ScriptAccepted.{script-parts, accepted-objects, answer_of}
 use Rattle.scriptblock.specs.declared.script.Layout.{Layout}
 use Rattle.scriptblock.specs.declared.script.Script.TheVariants.{Accepted}
 use Rattle.table.specs.Words.{stored}

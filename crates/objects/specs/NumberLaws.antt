@@ -11,7 +11,7 @@ use Rattle.scriptblock.specs.ScriptAnswers.{no_entry}
 use Rattle.scriptblock.specs.ScriptGood.{Good}
 use Rattle.scriptblock.specs.declared.script.Entry.{Entry}
 use Rattle.meaning.specs.Path.{added, beyond, path_of}
-use Rattle.meaning.specs.Native.{object-member}
+use Rattle.meaning.proofs.Native.{object-member}
 use Rattle.objects.specs.Numbers.{entry_no, raised, number_of, link_of, path_by, path_no}
 
 -- ---- the number of a global index

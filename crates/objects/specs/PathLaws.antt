@@ -12,12 +12,14 @@ use Rattle.batch.specs.Places.{place_at}
 use Rattle.batch.specs.Holds.{text_at, Holds, holds-name, holds-own}
 use Rattle.batch.specs.declared.places.Place.{Place}
 use Rattle.scriptblock.specs.Script.{Objects, object_name}
-use Rattle.scriptblock.specs.ScriptGood.{Good, script-good}
-use Rattle.scriptblock.specs.ScriptAccepted.{names_of_lem, name-text}
+use Rattle.scriptblock.specs.ScriptGood.{Good}
+use Rattle.scriptblock.proofs.ScriptGood.{script-good}
+use Rattle.scriptblock.proofs.ScriptAccepted.{names_of_lem, name-text}
 use Rattle.meaning.specs.Path.{Path, added, start, path_of}
-use Rattle.meaning.specs.Native.{object-member}
+use Rattle.meaning.proofs.Native.{object-member}
 use Rattle.meaning.specs.Scan.{class_end}
-use Rattle.meaning.specs.ClassTest.{is_known, names_class, class-test}
+use Rattle.meaning.specs.ClassTest.{is_known, names_class}
+use Rattle.meaning.proofs.ClassTest.{class-test}
 use Rattle.table.specs.Table.{record_at}
 use Rattle.objects.specs.Numbers.{entry_no, number_of, link_of, path_by, path_no}
 use Rattle.objects.specs.NumberLaws.{number_at, number-le, link-le, path-missing, path-found, member}

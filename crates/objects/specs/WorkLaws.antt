@@ -11,7 +11,8 @@ use Rattle.batch.specs.declared.names.Names.{Names}
 use Rattle.batch.specs.declared.places.Place.{Place}
 use Rattle.scriptblock.specs.Script.{Objects, object_name}
 use Rattle.scriptblock.specs.ScriptFaults.{entry_of}
-use Rattle.scriptblock.specs.ScriptAccepted.{ScriptParts, script-parts, answer_of, entries_of_lem, entry-count, entry-is, object_name_lem}
+use Rattle.scriptblock.specs.ScriptAccepted.{ScriptParts}
+use Rattle.scriptblock.proofs.ScriptAccepted.{script-parts, answer_of, entries_of_lem, entry-count, entry-is, object_name_lem}
 use Rattle.scriptblock.specs.declared.script.Entry.{Entry}
 use Rattle.scriptblock.specs.declared.script.Layout.{Layout}
 use Rattle.table.specs.Words.{stored, Kept}

@@ -9,11 +9,14 @@ use Rattle.batch.specs.Field.{low30}
 use Rattle.batch.specs.Holds.{Holds}
 use Rattle.batch.specs.Places.{place_at, Held}
 use Rattle.batch.specs.declared.names.Names.{Names}
-use Rattle.zen.specs.Accepted.{Parts as Zen, read-parts, hash-there, hash-is, export-there, export_is, number-there, number_is}
+use Rattle.zen.specs.Accepted.{Parts as Zen}
+use Rattle.zen.proofs.Accepted.{read-parts, hash-there, hash-is, export-there, export_is, number-there, number_is}
 use Rattle.zen.specs.Answers.{answer, exports_of, hashes_of}
 use Rattle.zen.specs.AnswersLaws.{accepted-got}
-use Rattle.zen.specs.Layouts.{Laid, layout_at, accepted-laid}
-use Rattle.zen.specs.PackageFacts.{PackageFacts, read-facts}
+use Rattle.zen.specs.Layouts.{Laid, layout_at}
+use Rattle.zen.proofs.Layouts.{accepted-laid}
+use Rattle.zen.specs.PackageFacts.{PackageFacts}
+use Rattle.zen.proofs.PackageFacts.{read-facts}
 use Rattle.zen.specs.Zen.{Read, package_block, no_export, export_at, summary_at}
 use Rattle.zen.specs.declared.zen.Layout.{Layout}
 use Rattle.zen.specs.declared.zen.Package.TheVariants.{Accepted}

@@ -8,9 +8,10 @@ use Rattle.base.specs.Answer.{refusal}
 use Rattle.base.specs.Output.{Wrote}
 use Rattle.base.specs.Reading.{gives, run}
 use Rattle.scriptblock.specs.Script.{Objects, script}
-use Rattle.scriptblock.specs.ScriptAccepted.{answer_of}
+use Rattle.scriptblock.proofs.ScriptAccepted.{answer_of}
 use Rattle.scriptblock.specs.ScriptAnswers.{opened as openedScript}
-use Rattle.scriptblock.specs.ScriptFacts.{ScriptFacts, objects-facts}
+use Rattle.scriptblock.specs.ScriptFacts.{ScriptFacts}
+use Rattle.scriptblock.proofs.ScriptFacts.{objects-facts}
 use Rattle.scriptblock.specs.declared.script.Layout.{Layout}
 use Rattle.scriptblock.specs.declared.script.Opened.TheVariants.{Open}
 use Rattle.meaning.specs.Bounds.{work-short, report-beyond, report-outside, report-fits}
@@ -18,7 +19,7 @@ use Rattle.meaning.specs.Call.{refused_in, accepted, Placed, Opened, holding, op
 use Rattle.meaning.specs.Reference.{Package}
 use Rattle.meaning.specs.Report.{report_of}
 use Rattle.meaning.specs.Resolve.{Limits}
-use Rattle.meaning.specs.VerifyRefusals.{report-refuses}
+use Rattle.meaning.proofs.VerifyRefusals.{report-refuses}
 use Rattle.packages.specs.Walk.{packages_at}
 use Rattle.packages.specs.declared.frame.Frame.{Frame}
 use Rattle.scan.specs.Repeats.{repeat_block}

@@ -27,7 +27,7 @@ use Rattle.packages.specs.PackageLaws.{export-room}
 use Rattle.packages.specs.declared.package.Parts.{Parts}
 use Rattle.packages.specs.Walk.{block_at, place_of, Site, Sites, AllRead}
 use Rattle.packages.specs.WalkLaws.{site-length}
-use Rattle.zen.specs.Accepted.{read-parts}
+use Rattle.zen.proofs.Accepted.{read-parts}
 use Rattle.table.specs.Words.{Kept}
 use Rattle.table.specs.WordLaws.{kept_read}
 use Rattle.resolve.specs.Marks.{mark_of, export_marks, marks_from, step_at, step_in, first_step, marks_at, marks_in, MarksIn, MarksKept}

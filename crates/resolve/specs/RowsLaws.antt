@@ -6,7 +6,8 @@ use Rattle.std.proofs.Math.Option.{Option, none, some}
 use Rattle.base.specs.Find.{option}
 use Rattle.base.specs.FindLaws.{none-some}
 use Rattle.scriptblock.specs.Script.{Objects}
-use Rattle.scriptblock.specs.ScriptGood.{Good, script-good}
+use Rattle.scriptblock.specs.ScriptGood.{Good}
+use Rattle.scriptblock.proofs.ScriptGood.{script-good}
 use Rattle.meaning.specs.Key.{Key}
 use Rattle.meaning.specs.Path.{path_of}
 use Rattle.meaning.specs.Reference.{Ref, script, import, export, null, bad, meant}

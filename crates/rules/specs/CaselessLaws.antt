@@ -3,7 +3,7 @@ use Rattle.std.specs.Prelude.{◌≡◌, refl, true, ◌&&◌, ◌||◌, ◌⊎�
 use Rattle.std.proofs.Common.{sym, ◌∙◌, inl, inr, arith, lt-ltb, leb-true, ltb-true}
 use Rattle.std.proofs.Math.Bool.{and-eq-true_iff}
 use Rattle.lower.specs.Ascii.{lower_ascii}
-use Rattle.lower.specs.AsciiLaws.{ascii-above}
+use Rattle.lower.proofs.AsciiLaws.{ascii-above}
 use Rattle.lower.specs.Table.{pairs}
 use Rattle.lower.specs.Lower.{lower}
 use Rattle.lower.specs.SearchLaws.{every}

@@ -10,7 +10,7 @@ use Rattle.lower.specs.Table.{pairs}
 use Rattle.lower.specs.Lower.{lower, second_of}
 use Rattle.rules.specs.Quick.{among, askers, asks, quick}
 use Rattle.lower.specs.SearchLaws.{every, second-every}
-use Rattle.lower.specs.LowerLaws.{lower-is}
+use Rattle.lower.proofs.LowerLaws.{lower-is}
 
 -- ---- rules
 

@@ -8,9 +8,9 @@ use lib.ListN.{length, get_or}
 use Rattle.base.specs.Reading.{gives, run}
 use Rattle.scriptblock.specs.Objects.{entry_number}
 use Rattle.scriptblock.specs.Script.{Objects, script}
-use Rattle.scriptblock.specs.ScriptAccepted.{entries_of_lem}
+use Rattle.scriptblock.proofs.ScriptAccepted.{entries_of_lem}
 use Rattle.scriptblock.specs.ScriptAnswers.{entries_of, no_entry}
-use Rattle.scriptblock.specs.ScriptFacts.{number_is}
+use Rattle.scriptblock.proofs.ScriptFacts.{number_is}
 use Rattle.scriptblock.specs.declared.script.Entry.{Entry}
 use Rattle.meaning.specs.Path.{object_at}
 use Rattle.scan.specs.ObjectLaws.{object-none, object-some}

@@ -18,7 +18,8 @@ use Rattle.scriptblock.specs.declared.script.Entry.{Entry}
 use Rattle.zen.specs.declared.tables.Export.{Export}
 use Rattle.meaning.specs.Path.{Path, object_at, added, beyond, path_of}
 use Rattle.meaning.specs.Scan.{class_end, is_class}
-use Rattle.meaning.specs.ClassTest.{is_known, names_class, class-test, class-test-none}
+use Rattle.meaning.specs.ClassTest.{is_known, names_class}
+use Rattle.meaning.proofs.ClassTest.{class-test, class-test-none}
 
 -- ---- the first that passes a test, and its number
 

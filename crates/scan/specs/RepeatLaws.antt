@@ -19,8 +19,9 @@ use Rattle.zen.specs.declared.tables.Export.{Export}
 use Rattle.meaning.specs.Key.{Key, public}
 use Rattle.meaning.specs.KeyLaws.{same_key-public}
 use Rattle.meaning.specs.Reference.{Package}
-use Rattle.meaning.specs.Repeats.{keys_of, has_append, has_both, repeat_more, repeat_next, placed_append}
-use Rattle.meaning.specs.Table.{or_first, or_second}
+use Rattle.meaning.specs.Repeats.{keys_of}
+use Rattle.meaning.proofs.Repeats.{has_append, has_both, repeat_more, repeat_next, placed_append}
+use Rattle.meaning.proofs.Table.{or_first, or_second}
 use Rattle.meaning.specs.Scan.{Class, is_class, class_at, classes_from, classes_of}
 use Rattle.meaning.specs.Call.{refused_in, accepted, Placed, placed_from, has_key, first_repeat, none_twice}
 use Rattle.packages.specs.Walk.{packages_at}

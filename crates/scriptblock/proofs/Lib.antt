@@ -1,1 +1,5 @@
 pub mod Seeking
+pub mod ScriptAccepted
+pub mod ScriptGood
+pub mod ScriptFacts
+pub mod ScriptLaws

@@ -14,7 +14,7 @@ use Rattle.base.specs.Seek.{seek_from}
 use Rattle.base.specs.SeekLaws.{cells-none, cells-here, cells-next}
 use Rattle.scriptblock.specs.Script.{script}
 use Rattle.scriptblock.specs.ScriptAnswers.{entry_at, script_answer, entries_of}
-use Rattle.scriptblock.specs.ScriptAccepted.{script-parts}
+use Rattle.scriptblock.proofs.ScriptAccepted.{script-parts}
 use Rattle.scriptblock.specs.Objects.{entry_number}
 use Rattle.scriptblock.specs.declared.script.Entry.{Entry}
 use Rattle.scriptblock.specs.declared.script.Layout.{Layout}

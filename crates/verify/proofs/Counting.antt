@@ -7,7 +7,7 @@ use lib.ListN.{length, get_or}
 use Rattle.base.specs.Reading.{gives, run}
 use Rattle.scriptblock.specs.Script.{Objects, script}
 use Rattle.scriptblock.specs.ScriptAnswers.{no_entry, script_answer, entries_of}
-use Rattle.scriptblock.specs.ScriptFacts.{script-facts, objects-facts}
+use Rattle.scriptblock.proofs.ScriptFacts.{script-facts, objects-facts}
 use Rattle.scriptblock.specs.declared.script.Entry.{Entry}
 use Rattle.scriptblock.specs.declared.script.Layout.{Layout}
 use Rattle.scriptblock.specs.declared.script.Script.TheVariants.{Accepted}

@@ -10,7 +10,7 @@ use Rattle.base.specs.Answer.{refusal}
 use Rattle.base.specs.Reading.{gives, run}
 use Rattle.scriptblock.specs.Script.{Objects, script}
 use Rattle.scriptblock.specs.ScriptAnswers.{script_answer}
-use Rattle.scriptblock.specs.ScriptFacts.{script-facts}
+use Rattle.scriptblock.proofs.ScriptFacts.{script-facts}
 use Rattle.scriptblock.specs.declared.script.Layout.{Layout}
 use Rattle.scriptblock.specs.declared.script.Script.TheVariants.{Accepted}
 use Rattle.meaning.specs.Call.{none_twice, limits}

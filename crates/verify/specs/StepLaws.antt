@@ -4,11 +4,12 @@ use Rattle.std.proofs.Common.{◌∙◌, ap, inr, arith}
 use Rattle.base.specs.Answer.{refusal}
 use Rattle.base.specs.NumberLaws.{Bytes}
 use Rattle.base.specs.Output.{Wrote}
-use Rattle.scriptblock.specs.ScriptAccepted.{answer_of}
-use Rattle.scriptblock.specs.ScriptFacts.{ScriptFacts, objects-facts}
+use Rattle.scriptblock.proofs.ScriptAccepted.{answer_of}
+use Rattle.scriptblock.specs.ScriptFacts.{ScriptFacts}
+use Rattle.scriptblock.proofs.ScriptFacts.{objects-facts}
 use Rattle.meaning.specs.Call.{refused_in, accepted, Opened, holding, opened, number_of, buffer_after, limits}
 use Rattle.meaning.specs.Verify.{package_flag, output_with, output_of, verify_answer, verified}
-use Rattle.meaning.specs.VerifyRefusals.{verify_opened, verify_refused, verify_accepted}
+use Rattle.meaning.proofs.VerifyRefusals.{verify_opened, verify_refused, verify_accepted}
 use Rattle.meaning.specs.Reference.{Package}
 use Rattle.packages.specs.Walk.{packages_at}
 use Rattle.packages.specs.WalkLaws.{packages-length, script-site, framed-small}

@@ -4,7 +4,7 @@ use Rattle.base.specs.Index.{value}
 use Rattle.base.specs.Number.{be_bytes}
 use Rattle.scriptblock.specs.Script.{Objects}
 use Rattle.meaning.specs.Verify.{Counts, is_resolved, is_match, counts_of, verify_version}
-use Rattle.meaning.specs.VerifyLaws.{scored_to}
+use Rattle.meaning.proofs.VerifyLaws.{scored_to}
 use Rattle.hashes.specs.declared.path.Hashed.{Hashed}
 use Rattle.hashes.specs.declared.path.Hashed.TheVariants.{Known, Unknown}
 use Rattle.verify.specs.declared.counts.Tally.{Tally}

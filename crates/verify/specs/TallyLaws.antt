@@ -10,11 +10,11 @@ use Rattle.base.specs.Number.{be_bytes}
 use Rattle.base.specs.NumberLaws.{length-be_bytes}
 use Rattle.scriptblock.specs.Script.{Objects}
 use Rattle.scriptblock.specs.ScriptFacts.{ScriptFacts}
-use Rattle.scriptblock.specs.ScriptGood.{script-good}
+use Rattle.scriptblock.proofs.ScriptGood.{script-good}
 use Rattle.scriptblock.specs.declared.script.Layout.{Layout}
 use Rattle.meaning.specs.Path.{Path, path_of}
 use Rattle.meaning.specs.Verify.{is_resolved, is_match, Counts, counts_of, verify_version, output_with}
-use Rattle.meaning.specs.VerifyLaws.{scored_to, scored-more, counts_all, resolved-are, sums-few}
+use Rattle.meaning.proofs.VerifyLaws.{scored_to, scored-more, counts_all, resolved-are, sums-few}
 use Rattle.objects.specs.Numbers.{entry_no, path_no}
 use Rattle.objects.specs.NumberLaws.{path_no_lem}
 use Rattle.hashes.specs.Hashed.{hashed_as}

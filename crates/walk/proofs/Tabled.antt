@@ -8,7 +8,7 @@ use lib.Seq.{take_at, length-take-le}
 use Rattle.base.specs.Reading.{gives, run}
 use Rattle.scriptblock.specs.Script.{Objects, script}
 use Rattle.scriptblock.specs.ScriptAnswers.{script_answer}
-use Rattle.scriptblock.specs.ScriptFacts.{script-facts}
+use Rattle.scriptblock.proofs.ScriptFacts.{script-facts}
 use Rattle.scriptblock.specs.declared.script.Layout.{Layout}
 use Rattle.scriptblock.specs.declared.script.Script.TheVariants.{Accepted}
 use Rattle.objects.specs.Work.{Entered, ObjectsIn}

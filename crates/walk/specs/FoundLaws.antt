@@ -23,8 +23,8 @@ use Rattle.meaning.specs.Resolve.{Limits, look}
 use Rattle.meaning.specs.Report.{row_size, row_of, class_ref, report_of}
 use Rattle.meaning.specs.Call.{Placed, placed_from, has_key, first_repeat}
 use Rattle.meaning.specs.Lengths.{section_size, report-length}
-use Rattle.meaning.specs.Repeats.{placed_append}
-use Rattle.meaning.specs.Table.{placed-table}
+use Rattle.meaning.proofs.Repeats.{placed_append}
+use Rattle.meaning.proofs.Table.{placed-table}
 use Rattle.packages.specs.Walk.{place_of, package_at, packages_at}
 use Rattle.packages.specs.WalkLaws.{packages-length}
 use Rattle.resolve.specs.Classes.{class_no, ClassesIn}

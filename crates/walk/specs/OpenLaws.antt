@@ -7,9 +7,9 @@ use Rattle.base.specs.Never.{never}
 use Rattle.base.specs.NumberLaws.{Bytes}
 use Rattle.base.specs.Reading.{Out, refused, gives, run}
 use Rattle.scriptblock.specs.Script.{Objects, script}
-use Rattle.scriptblock.specs.ScriptAccepted.{rejected-objects}
+use Rattle.scriptblock.proofs.ScriptAccepted.{rejected-objects}
 use Rattle.scriptblock.specs.ScriptAnswers.{opened as openedScript, fault_at, answer_by, script_answer}
-use Rattle.scriptblock.specs.ScriptLaws.{script-is}
+use Rattle.scriptblock.proofs.ScriptLaws.{script-is}
 use Rattle.scriptblock.specs.declared.script.Layout.{Layout}
 use Rattle.scriptblock.specs.declared.script.Opened.TheVariants.{Open}
 use Rattle.scriptblock.specs.declared.script.Script.TheVariants.{Accepted, Rejected}

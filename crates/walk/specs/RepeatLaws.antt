@@ -9,7 +9,7 @@ use Rattle.meaning.specs.Key.{Key, same_key}
 use Rattle.meaning.specs.KeyLaws.{same_key-true}
 use Rattle.meaning.specs.Scan.{Class}
 use Rattle.meaning.specs.Call.{refused_in, Placed, has_key, first_repeat, none_twice}
-use Rattle.meaning.specs.Repeats.{repeat_more}
+use Rattle.meaning.proofs.Repeats.{repeat_more}
 use Rattle.resolve.specs.Classes.{class_no, Stands}
 
 -- the classes of some that have their blocks

@@ -19,7 +19,8 @@ use Rattle.scriptblock.specs.declared.script.Entry.{Entry}
 use Rattle.zen.specs.Zen.{Read, no_export}
 use Rattle.zen.specs.declared.tables.Export.{Export}
 use Rattle.meaning.specs.Call.{Placed}
-use Rattle.meaning.specs.ClassTest.{names_class, class-test-none}
+use Rattle.meaning.specs.ClassTest.{names_class}
+use Rattle.meaning.proofs.ClassTest.{class-test-none}
 use Rattle.meaning.specs.Path.{object_at, path_of}
 use Rattle.meaning.specs.Reference.{Package}
 use Rattle.meaning.specs.Report.{class_ref}

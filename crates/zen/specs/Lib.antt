@@ -7,17 +7,11 @@ pub mod Examples
 pub mod PlaceExamples
 -- What counts of a block's bytes, of either kind, and that the rest is passed over.
 pub mod Listed
-pub mod PassedOver
 -- Which questions a block of either kind can fail.
-pub mod Refusals
 -- For whoever uses a package: what an accepted one holds and where, what a rejected one says.
 pub mod Accepted
-pub mod PackageLaws
 pub mod PackageFacts
 -- Lemmas, part by part: each reading by position, which the code is proved against.
 pub mod AnswersLaws
-pub mod SummaryLaws
 pub mod TableLaws
 pub mod ImportLaws
-pub mod BlockLaws
-pub mod ListedLaws

@@ -12,9 +12,9 @@ use Rattle.batch.specs.Places.{place_at}
 use Rattle.batch.specs.PlacesLaws.{place_inside}
 use Rattle.batch.specs.declared.names.Names.{Names}
 use Rattle.batch.specs.declared.places.Place.{Place}
-use Rattle.zen.specs.Accepted.{parts}
+use Rattle.zen.proofs.Accepted.{parts}
 use Rattle.zen.specs.Answers.{answer, exports_of, export_count}
-use Rattle.zen.specs.PackageLaws.{export-index}
+use Rattle.zen.proofs.PackageLaws.{export-index}
 use Rattle.zen.specs.Zen.{no_export}
 use Rattle.zen.specs.declared.tables.Export.{Export}
 use Rattle.zen.specs.declared.zen.Layout.{Layout}

@@ -7,9 +7,9 @@ use borrow.Author.Tests.{lt-ltb, le-ltb}
 use lib.ListN.{length, take, get_or}
 use Rattle.ids.specs.Id.{id_of}
 use Rattle.base.specs.Reading.{Out, refused, gives}
-use Rattle.zen.specs.Accepted.{parts}
+use Rattle.zen.proofs.Accepted.{parts}
 use Rattle.zen.specs.Answers.{answer, names_of, exports_of, hashes_of, imported_of, imported_name_of, export_count, hash_count}
-use Rattle.zen.specs.PackageLaws.{rejected-read, accepted-read, name-count, imported_count_lem}
+use Rattle.zen.proofs.PackageLaws.{rejected-read, accepted-read, name-count, imported_count_lem}
 use Rattle.zen.specs.Zen.{Read, no_export}
 use Rattle.zen.specs.declared.tables.Export.{Export}
 use Rattle.zen.specs.declared.zen.Layout.{Layout}

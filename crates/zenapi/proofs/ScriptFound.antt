@@ -5,7 +5,7 @@ use Prim.Native.Nat.{ℕ, ◌≤◌, ◌<◌}
 use native.Mathlib.Omega.{arith}
 use lib.ListN.{length, get_or}
 use Rattle.base.specs.Reading.{refused}
-use Rattle.scriptblock.specs.ScriptAccepted.{accepted-objects, rejected-objects, script-parts, entry-count}
+use Rattle.scriptblock.proofs.ScriptAccepted.{accepted-objects, rejected-objects, script-parts, entry-count}
 use Rattle.scriptblock.specs.ScriptAnswers.{script_answer, entries_of, no_entry}
 use Rattle.scriptblock.specs.declared.script.Entry.{Entry}
 use Rattle.scriptblock.specs.declared.script.Layout.{Layout}

@@ -15,7 +15,7 @@ use Rattle.batch.specs.Holds.{Holds}
 use Rattle.batch.specs.Places.{place_at, part_at}
 use Rattle.batch.specs.declared.places.Place.{Place}
 use Rattle.zen.specs.Answers.{answer, names_of, imported_of, numbers_of}
-use Rattle.zen.specs.PackageLaws.{rejected-read, name-count, imported_count_lem, name-text, imported-text, imported-rendered}
+use Rattle.zen.proofs.PackageLaws.{rejected-read, name-count, imported_count_lem, name-text, imported-text, imported-rendered}
 use Rattle.zen.specs.declared.zen.Layout.{Layout}
 use Rattle.zen.specs.declared.zen.Package.{Package}
 use Rattle.zen.specs.declared.zen.Package.TheVariants.{Accepted, Rejected}

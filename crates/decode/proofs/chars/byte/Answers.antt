@@ -1,6 +1,6 @@
 -- `decode::chars::byte` meets its contract. Assumes nothing.
 use mathlib.Core.Path.{sym}
-use Rattle.decode.specs.TableLaws.{get_d_out}
+use Rattle.decode.proofs.TableLaws.{get_d_out}
 use Rattle.decode.proofs.chars.byte.Goals as goal
 
 pub returns-then-s-i : goal.returns-then-s-i

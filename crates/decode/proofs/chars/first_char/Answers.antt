@@ -5,7 +5,7 @@ use mathlib.Core.List.{List}
 use Prim.Native.Nat.{ℕ, ◌-◌, ◌≤◌, ◌<◌}
 use lib.ListN.{length, get_or}
 use Rattle.decode.specs.Chars.{is_two, is_three, is_four, joined, char_of}
-use Rattle.decode.specs.TableLaws.{two_is, three-range, four-range, by_one, by_two, by_three, by-four, ill-two, ill-three, ill-four, char_of-none, char_of-bytes}
+use Rattle.decode.proofs.TableLaws.{two_is, three-range, four-range, by_one, by_two, by_three, by-four, ill-two, ill-three, ill-four, char_of-none, char_of-bytes}
 use Rattle.decode.specs.declared.chars.Char.TheVariants.{Of, Ill}
 use Rattle.decode.proofs.chars.first_char.Goals as goal
 

@@ -1,7 +1,7 @@
 -- `decode::chars::is_common` meets its contract. Assumes nothing.
 use mathlib.Core.Path.{sym}
 use Rattle.decode.specs.Chars.{is_common}
-use Rattle.decode.specs.TableLaws.{common_short}
+use Rattle.decode.proofs.TableLaws.{common_short}
 use Rattle.decode.proofs.chars.is_common.Goals as goal
 
 pub returns-then-s-at-lt3 : goal.returns-then-s-at-lt3

@@ -3,7 +3,7 @@ use mathlib.Core.Path.{ap, ◌∙◌}
 use native.Mathlib.Omega.{arith}
 use lib.ListN.{length-drop}
 use Rattle.decode.specs.Chars.{char_of}
-use Rattle.decode.specs.TableLaws.{part-is}
+use Rattle.decode.proofs.TableLaws.{part-is}
 use Rattle.decode.proofs.chars.known_char.Goals as goal
 
 pub known_first-requires : goal.known_first-requires

@@ -1,5 +1,5 @@
 -- `decode::chars::known_first` meets its contract: the first byte decides. Assumes nothing.
-use Rattle.decode.specs.KnownLaws.{first_1, first_2, first_3, first_4, there_1, there_2, there_3, range_2, range_3, range_4}
+use Rattle.decode.proofs.KnownLaws.{first_1, first_2, first_3, first_4, there_1, there_2, there_3, range_2, range_3, range_4}
 use Rattle.decode.proofs.chars.known_first.Goals as goal
 
 pub returns-then-a-le127 : goal.returns-then-a-le127

@@ -1,6 +1,6 @@
 -- `decode::chars::quick_char` meets its contract. Assumes nothing.
 use native.Mathlib.Omega.{arith}
-use Rattle.decode.specs.TableLaws.{quick-one, quick-there, quick-range, quick-three}
+use Rattle.decode.proofs.TableLaws.{quick-one, quick-there, quick-range, quick-three}
 use Rattle.decode.proofs.chars.quick_char.Goals as goal
 
 pub returns-then-a-le127 : goal.returns-then-a-le127

@@ -5,7 +5,7 @@ use native.Mathlib.Omega.{arith}
 use lib.ListN.{length, drop, get_or, length-set, length-drop}
 use lib.Seq.{get_or-drop}
 use Rattle.base.specs.OutputLaws.{wrote_none, wrote-length}
-use Rattle.decode.specs.EightLaws.{units-wrote}
+use Rattle.decode.proofs.EightLaws.{units-wrote}
 use Rattle.decode.proofs.eight.put_eight.Goals as goal
 
 pub loop-i-init : goal.loop-i-init

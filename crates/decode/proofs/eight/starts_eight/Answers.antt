@@ -1,6 +1,6 @@
 -- `eight::starts_eight` meets its contract. Assumes nothing.
 use mathlib.Core.Path.{sym, ◌∙◌}
-use Rattle.decode.specs.EightLaws.{eight-short, eight-long}
+use Rattle.decode.proofs.EightLaws.{eight-short, eight-long}
 use Rattle.decode.proofs.eight.starts_eight.Goals as goal
 
 pub returns-then-s-at-lt8 : goal.returns-then-s-at-lt8

@@ -6,7 +6,7 @@ use Prim.Native.Nat.{ℕ, ◌+◌, ◌-◌, ◌≤◌}
 use native.Mathlib.Omega.{arith}
 use lib.ListN.{length, take, drop}
 use Rattle.decode.specs.Latin.{every, low}
-use Rattle.decode.specs.LatinLaws.{low-latin, every_more, every-not, every_cover}
+use Rattle.decode.proofs.LatinLaws.{low-latin, every_more, every-not, every_cover}
 use Rattle.decode.proofs.latin.is_latin1.Goals as goal
 
 -- sixteen bytes more

@@ -4,7 +4,7 @@ use native.Mathlib.Omega.{arith}
 use lib.ListN.{length}
 use lib.Seq.{take-length}
 use Rattle.decode.specs.Latin.{low}
-use Rattle.decode.specs.LatinLaws.{every-next}
+use Rattle.decode.proofs.LatinLaws.{every-next}
 use Rattle.decode.proofs.latin.is_short.Goals as goal
 
 pub loop-i-init : goal.loop-i-init

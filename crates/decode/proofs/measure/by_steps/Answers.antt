@@ -3,7 +3,7 @@
 use mathlib.Core.Path.{sym, ap, ◌∙◌}
 use native.Mathlib.Omega.{arith}
 use Rattle.decode.specs.Step.{added, Passed}
-use Rattle.decode.specs.StepLaws.{added_none, added_twice, added-ill, added-last}
+use Rattle.decode.proofs.StepLaws.{added_none, added_twice, added-ill, added-last}
 use Rattle.decode.proofs.measure.by_steps.Goals.{In-Past}
 use Rattle.decode.proofs.measure.by_steps.Goals as goal
 

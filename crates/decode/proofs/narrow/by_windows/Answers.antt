@@ -7,7 +7,8 @@ use native.Mathlib.Omega.{arith}
 use borrow.Author.Tests.{leb-false, not-false}
 use lib.Dec.{leb}
 use lib.ListN.{get_or}
-use Rattle.decode.specs.NarrowLaws.{Good, good-first, good-next, good-few, good-measured, neither}
+use Rattle.decode.specs.NarrowLaws.{Good}
+use Rattle.decode.proofs.NarrowLaws.{good-first, good-next, good-few, good-measured, neither}
 use Rattle.decode.proofs.narrow.by_windows.Goals.{After-struct_known-in-loop-at-1}
 use Rattle.decode.proofs.narrow.by_windows.Goals as goal
 

@@ -3,7 +3,7 @@
 use mathlib.Core.Path.{◌≡◌}
 use Prim.Native.Nat.{◌+◌, ◌-◌}
 use native.Mathlib.Omega.{arith}
-use Rattle.decode.specs.NarrowLaws.{far_none, far-all, far-next, front_off}
+use Rattle.decode.proofs.NarrowLaws.{far_none, far-all, far-next, front_off}
 use Rattle.decode.proofs.narrow.look_some.Goals as goal
 
 pub loop-i-init : goal.loop-i-init

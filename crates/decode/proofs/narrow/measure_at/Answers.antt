@@ -1,6 +1,6 @@
 -- `decode::narrow::measure_at` meets its contract. Assumes nothing.
 use native.Mathlib.Omega.{arith}
-use Rattle.decode.specs.NarrowLaws.{part-plain, part-some}
+use Rattle.decode.proofs.NarrowLaws.{part-plain, part-some}
 use Rattle.decode.proofs.narrow.measure_at.Goals as goal
 
 pub returns-then-is_plain : goal.returns-then-is_plain

@@ -2,7 +2,7 @@
 use mathlib.Core.Path.{◌≡◌, ◌∙◌}
 use native.Mathlib.Omega.{arith}
 use lib.ListN.{length-set}
-use Rattle.decode.specs.TailsLaws.{meant-none, meant-next}
+use Rattle.decode.proofs.TailsLaws.{meant-none, meant-next}
 use Rattle.decode.proofs.pairs.look_bytes.Goals as goal
 
 pub loop-k-init : goal.loop-k-init

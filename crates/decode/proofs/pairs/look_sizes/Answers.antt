@@ -2,7 +2,7 @@
 use mathlib.Core.Path.{◌≡◌, ◌∙◌}
 use native.Mathlib.Omega.{arith}
 use lib.ListN.{length-set}
-use Rattle.decode.specs.TailsLaws.{counted_none, counted_next}
+use Rattle.decode.proofs.TailsLaws.{counted_none, counted_next}
 use Rattle.decode.proofs.pairs.look_sizes.Goals as goal
 
 pub loop-k-init : goal.loop-k-init

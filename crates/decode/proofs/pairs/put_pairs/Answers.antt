@@ -4,7 +4,7 @@ use Prim.Native.Nat.{◌+◌, ◌-◌, ◌*◌}
 use native.Mathlib.Omega.{arith}
 use lib.ListN.{length-set}
 use lib.Seq.{length-take-le}
-use Rattle.decode.specs.TailsLaws.{filling_room-two, counted-small, filling_paired}
+use Rattle.decode.proofs.TailsLaws.{filling_room-two, counted-small, filling_paired}
 use Rattle.decode.proofs.pairs.put_pairs.Goals as goal
 
 pub look_bytes-requires : goal.look_bytes-requires

@@ -1,6 +1,6 @@
 -- `run::is_run` meets its contract. Assumes nothing.
 use mathlib.Core.Path.{sym}
-use Rattle.decode.specs.RunLaws.{run_short, run_long}
+use Rattle.decode.proofs.RunLaws.{run_short, run_long}
 use Rattle.decode.proofs.run.is_run.Goals as goal
 
 pub returns-then-s-at-lt12 : goal.returns-then-s-at-lt12

@@ -6,7 +6,7 @@ use native.Mathlib.Omega.{arith}
 use lib.ListN.{length-set}
 use Rattle.base.specs.OutputLaws.{wrote_stores}
 use Rattle.decode.specs.Run.{run_bytes}
-use Rattle.decode.specs.RunLaws.{run-leads, well_3, well_6, well_9}
+use Rattle.decode.proofs.RunLaws.{run-leads, well_3, well_6, well_9}
 use Rattle.decode.proofs.run.put_run.Goals as goal
 
 pub three_at-a-requires : goal.three_at-a-requires

@@ -2,7 +2,7 @@
 use mathlib.Core.Path.{◌≡◌, ◌∙◌}
 use native.Mathlib.Omega.{arith}
 use Rattle.decode.specs.Run.{three_at}
-use Rattle.decode.specs.RunLaws.{three-range, three-there, three-small}
+use Rattle.decode.proofs.RunLaws.{three-range, three-there, three-small}
 use Rattle.decode.proofs.run.three_at.Goals as goal
 
 pub bounds-s-at-2 : goal.bounds-s-at-2

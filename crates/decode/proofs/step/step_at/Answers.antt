@@ -1,7 +1,7 @@
 -- `decode::step::step_at` meets its contract. Assumes nothing.
 use mathlib.Core.Path.{sym, ◌∙◌}
 use native.Mathlib.Omega.{arith}
-use Rattle.decode.specs.StepLaws.{eight-passed, ascii-four-passed, four-passed, two-passed, one-passed, none_passed}
+use Rattle.decode.proofs.StepLaws.{eight-passed, ascii-four-passed, four-passed, two-passed, one-passed, none_passed}
 use Rattle.decode.proofs.step.step_at.Goals as goal
 
 pub returns-then-is_eight : goal.returns-then-is_eight

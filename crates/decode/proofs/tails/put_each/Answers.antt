@@ -1,6 +1,6 @@
 -- `tails::put_each` meets its contract. The loop's invariant: what of the bytes before place i is kept is written. Assumes nothing.
 use native.Mathlib.Omega.{arith}
-use Rattle.decode.specs.TailsLaws.{filling_none, filling_room, filling_byte, filling_all}
+use Rattle.decode.proofs.TailsLaws.{filling_none, filling_room, filling_byte, filling_all}
 use Rattle.decode.proofs.tails.put_each.Goals as goal
 
 pub loop-i-init : goal.loop-i-init

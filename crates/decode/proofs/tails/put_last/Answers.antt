@@ -1,7 +1,7 @@
 -- `tails::put_last` meets its contract: a byte more, or two. Assumes nothing.
 use native.Mathlib.Omega.{arith}
 use lib.ListN.{length-set}
-use Rattle.decode.specs.TailsLaws.{filling_room, filling_byte, filling_all}
+use Rattle.decode.proofs.TailsLaws.{filling_room, filling_byte, filling_all}
 use Rattle.decode.proofs.tails.put_last.Goals as goal
 
 pub bounds-out-wrote : goal.bounds-out-wrote

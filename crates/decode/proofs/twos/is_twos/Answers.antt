@@ -1,6 +1,6 @@
 -- `twos::is_twos` meets its contract. Assumes nothing.
 use mathlib.Core.Path.{sym}
-use Rattle.decode.specs.TwosLaws.{twos-short, twos-long}
+use Rattle.decode.proofs.TwosLaws.{twos-short, twos-long}
 use Rattle.decode.proofs.twos.is_twos.Goals as goal
 
 pub returns-then-s-at-lt8 : goal.returns-then-s-at-lt8

@@ -6,7 +6,7 @@ use native.Mathlib.Omega.{arith}
 use lib.ListN.{length-set}
 use Rattle.base.specs.OutputLaws.{wrote_stores}
 use Rattle.decode.specs.Twos.{twos_bytes}
-use Rattle.decode.specs.TwosLaws.{twos-leads, well_2, well_4, well_6}
+use Rattle.decode.proofs.TwosLaws.{twos-leads, well_2, well_4, well_6}
 use Rattle.decode.proofs.twos.put_twos.Goals as goal
 
 pub two_at-a-requires : goal.two_at-a-requires

@@ -2,7 +2,7 @@
 use mathlib.Core.Path.{◌≡◌, ◌∙◌}
 use native.Mathlib.Omega.{arith}
 use Rattle.decode.specs.Twos.{two_at}
-use Rattle.decode.specs.TwosLaws.{two-range, two-there, two-small}
+use Rattle.decode.proofs.TwosLaws.{two-range, two-there, two-small}
 use Rattle.decode.proofs.twos.two_at.Goals as goal
 
 pub bounds-s-at-2 : goal.bounds-s-at-2

@@ -8,10 +8,10 @@ use lib.Dec.{ltb}
 use lib.ListN.{length, set, take, get_or}
 use lib.Seq.{length-take-le, get_or-take}
 use Rattle.base.specs.OutputLaws.{wrote_as, wrote-length}
-use Rattle.decode.specs.NarrowLaws.{neither}
+use Rattle.decode.proofs.NarrowLaws.{neither}
 use Rattle.decode.specs.Tails.{Filling}
-use Rattle.decode.specs.TailsLaws.{filling_none, filling_room, filling_here, filling_then, filling_wrote}
-use Rattle.decode.specs.TailsLaws.{bytes_tailed, bytes-kept, kept-room, part-first}
+use Rattle.decode.proofs.TailsLaws.{filling_none, filling_room, filling_here, filling_then, filling_wrote}
+use Rattle.decode.proofs.TailsLaws.{bytes_tailed, bytes-kept, kept-room, part-first}
 use Rattle.decode.proofs.write.put_latin1.Goals.{Else-to-s}
 use Rattle.decode.proofs.write.put_latin1.Goals as goal
 

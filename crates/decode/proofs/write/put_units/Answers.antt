@@ -3,7 +3,7 @@ use mathlib.Core.Path.{ap}
 use native.Mathlib.Omega.{arith}
 use lib.ListN.{length, length-set}
 use Rattle.base.specs.OutputLaws.{wrote_stores}
-use Rattle.decode.specs.WriteLaws.{units-one, units-two}
+use Rattle.decode.proofs.WriteLaws.{units-one, units-two}
 use Rattle.decode.proofs.write.put_units.Goals as goal
 
 pub bounds-out-0 : goal.bounds-out-0

@@ -6,12 +6,15 @@ use Prim.Native.Nat.{◌+◌, ◌≤◌}
 use native.Mathlib.Omega.{arith}
 use lib.ListN.{length, take, drop}
 use Rattle.base.specs.OutputLaws.{wrote-length}
-use Rattle.decode.specs.TurnLaws.{Turn, turn, turn-well, well-next}
-use Rattle.decode.specs.WriteLaws.{partly_none, partly_all, partly_next, utf16le-room, utf16le-next, utf16le-last}
-use Rattle.decode.specs.RunLaws.{Leads, run-leads, run-well, run-next, run_room}
-use Rattle.decode.specs.TwosLaws.{Seconds, twos-leads, twos-well, twos-next, twos-room}
+use Rattle.decode.specs.TurnLaws.{Turn}
+use Rattle.decode.proofs.TurnLaws.{turn, turn-well, well-next}
+use Rattle.decode.proofs.WriteLaws.{partly_none, partly_all, partly_next, utf16le-room, utf16le-next, utf16le-last}
+use Rattle.decode.specs.RunLaws.{Leads}
+use Rattle.decode.proofs.RunLaws.{run-leads, run-well, run-next, run_room}
+use Rattle.decode.specs.TwosLaws.{Seconds}
+use Rattle.decode.proofs.TwosLaws.{twos-leads, twos-well, twos-next, twos-room}
 use Rattle.decode.specs.Latin.{every, ascii}
-use Rattle.decode.specs.EightLaws.{eight_is, eight-well, eight-next, eight-room}
+use Rattle.decode.proofs.EightLaws.{eight_is, eight-well, eight-next, eight-room}
 use Rattle.decode.proofs.write.put_utf16le.Goals.{In-Of, Then-is_run, Then-is_twos, Then-starts_eight}
 use Rattle.decode.proofs.write.put_utf16le.Goals as goal
 

@@ -8,7 +8,7 @@ use Rattle.base.specs.NumberLaws.{Bytes}
 use Rattle.base.specs.Reading.{gives, run}
 use Rattle.batch.specs.declared.places.Place.{Place}
 use Rattle.scriptblock.specs.Script.{Objects, script}
-use Rattle.scriptblock.specs.ScriptAccepted.{script-parts, entry-count}
+use Rattle.scriptblock.proofs.ScriptAccepted.{script-parts, entry-count}
 use Rattle.objects.specs.Numbers.{entry_no, link_of}
 use Rattle.objects.specs.NumberLaws.{link-null}
 use Rattle.objects.specs.Work.{one_if, packed}

@@ -2,7 +2,7 @@
 use Prim.Native.Nat.{◌≤◌}
 use native.Mathlib.Omega.{arith}
 use lib.ListN.{length}
-use Rattle.scriptblock.specs.ScriptFacts.{script-facts}
+use Rattle.scriptblock.proofs.ScriptFacts.{script-facts}
 use Rattle.hashes.specs.ChainLaws.{tells-unknown, tells-known}
 use Rattle.hashes.specs.ScanLaws.{rest, names-inside}
 use Rattle.hashes.proofs.path.path_hash_by_scan.Goals.{After-shared_slice_known-1}

@@ -10,7 +10,7 @@ use borrow.Author.Rules.{rules}
 use Rattle.base.specs.Number.{le_bytes}
 use Rattle.base.specs.NumberLaws.{length-le_bytes}
 use Rattle.base.specs.OutputLaws.{wrote-length}
-use Rattle.decode.specs.WriteLaws.{partly_none, partly_all, partly_room, partly_next}
+use Rattle.decode.proofs.WriteLaws.{partly_none, partly_all, partly_room, partly_next}
 use Rattle.header.proofs.little.put_longs.Goals.{In-loop-i}
 use Rattle.header.proofs.little.put_longs.Invariants.{left}
 use Rattle.header.proofs.little.put_longs.Goals as goal

@@ -6,7 +6,7 @@ use native.Mathlib.Omega.{arith}
 use lib.ListN.{length, take, drop, length-set, length-drop}
 use Rattle.base.specs.Number.{be_at}
 use Rattle.decode.specs.MeasureLaws.{Said}
-use Rattle.decode.specs.TableLaws.{part-is}
+use Rattle.decode.proofs.TableLaws.{part-is}
 use Rattle.header.specs.Places.{utf8_at}
 use Rattle.header.specs.WritingLaws.{head-is, string_said}
 use Rattle.header.specs.LaidLaws.{laid_both}

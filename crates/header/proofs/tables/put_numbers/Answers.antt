@@ -5,7 +5,7 @@ use native.Mathlib.Omega.{arith}
 use borrow.Author.Rules.{rules}
 use Rattle.base.specs.Find.{flat}
 use Rattle.base.specs.OutputLaws.{wrote-length, wrote_as}
-use Rattle.decode.specs.WriteLaws.{partly_none, partly_all, partly_room, partly_next}
+use Rattle.decode.proofs.WriteLaws.{partly_none, partly_all, partly_room, partly_next}
 use Rattle.base.specs.Number.{be_at, le_bytes}
 use Rattle.base.specs.NumberLaws.{length-le_bytes}
 use Rattle.header.specs.Places.{text_end, next_text, imported_from}

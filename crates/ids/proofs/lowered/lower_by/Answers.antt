@@ -3,7 +3,7 @@ use mathlib.Core.Path.{sym, ◌∙◌, ap}
 use mathlib.Core.Logic.{inr}
 use Prim.Native.Nat.{ℕ, ◌+◌, ◌-◌, ◌%◌}
 use native.Mathlib.Omega.{arith}
-use Rattle.lower.specs.LowerLaws.{lower-single, lower_double}
+use Rattle.lower.proofs.LowerLaws.{lower-single, lower_double}
 use Rattle.text.specs.Utf16.{of_pair}
 use Rattle.ids.specs.LowerLaws.{single-lowered, high-lowered, low-lowered, below-lowered}
 use Rattle.ids.proofs.lowered.lower_by.Goals as goal

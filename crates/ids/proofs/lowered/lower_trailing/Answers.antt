@@ -2,7 +2,7 @@
 use mathlib.Core.Path.{sym, ◌∙◌, ap}
 use Prim.Native.Nat.{ℕ, ◌+◌, ◌-◌, ◌%◌}
 use native.Mathlib.Omega.{arith}
-use Rattle.lower.specs.LowerLaws.{lower_double}
+use Rattle.lower.proofs.LowerLaws.{lower_double}
 use Rattle.text.specs.Utf16.{of_pair}
 use Rattle.ids.specs.LowerLaws.{low-lowered}
 use Rattle.ids.proofs.lowered.lower_trailing.Goals as goal

@@ -2,7 +2,7 @@
 use mathlib.Core.Path.{sym, ◌∙◌, ap}
 use native.Mathlib.Omega.{arith}
 use Rattle.lower.specs.Lower.{lower}
-use Rattle.lower.specs.LowerLaws.{lower-single}
+use Rattle.lower.proofs.LowerLaws.{lower-single}
 use Rattle.ids.proofs.ShortUnits.{unit-first, unit-rest}
 use Rattle.ids.proofs.short.one_unit.Goals as goal
 

@@ -6,7 +6,7 @@ use Prim.Native.Nat.{ℕ, ◌+◌, ◌<◌}
 use native.Mathlib.Omega.{arith}
 use borrow.Author.Rules.{rules}
 use Rattle.lower.specs.Ascii.{lower_ascii}
-use Rattle.lower.specs.AsciiLaws.{ascii-unit}
+use Rattle.lower.proofs.AsciiLaws.{ascii-unit}
 use Rattle.rules.specs.ScriptLaws.{caseless-script}
 use Rattle.text.specs.Units.{units_of}
 use Rattle.ids.proofs.PutUnits.{put-none, put_next, put_all}

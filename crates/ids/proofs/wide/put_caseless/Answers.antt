@@ -2,7 +2,7 @@
 use Prim.Native.Nat.{◌<◌}
 use native.Mathlib.Omega.{arith}
 use borrow.Author.Rules.{rules}
-use Rattle.lower.specs.AsciiLaws.{ascii-unit}
+use Rattle.lower.proofs.AsciiLaws.{ascii-unit}
 use Rattle.rules.specs.ScriptLaws.{caseless-script}
 use Rattle.ids.proofs.WideUnits.{passed_none, passed-next, passed-all}
 use Rattle.ids.proofs.wide.put_caseless.Goals as goal

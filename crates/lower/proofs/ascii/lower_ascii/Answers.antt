@@ -7,7 +7,7 @@ use native.Mathlib.Omega.{arith}
 use mir.Val.{bool_byte}
 use lib.Dec.{leb}
 use Rattle.lower.specs.Ascii.{lower_ascii}
-use Rattle.lower.specs.AsciiLaws.{ascii-cases}
+use Rattle.lower.proofs.AsciiLaws.{ascii-cases}
 use Rattle.lower.proofs.ascii.lower_ascii.Goals as goal
 
 -- the product of the two halves

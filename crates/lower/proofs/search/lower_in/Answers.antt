@@ -10,7 +10,7 @@ use Rattle.lower.specs.Table.{pairs}
 use Rattle.lower.specs.TableLaws.{count, firsts-rise}
 use Rattle.lower.specs.Lower.{lower, second_of}
 use Rattle.lower.specs.SearchLaws.{first_at, first-later, second_at_lem, second_below, second-between}
-use Rattle.lower.specs.LowerLaws.{lower-is, table-length}
+use Rattle.lower.proofs.LowerLaws.{lower-is, table-length}
 use Rattle.lower.proofs.search.lower_in.Invariants.{NotAbove, Above}
 use Rattle.lower.proofs.search.lower_in.Goals as goal
 use Rattle.lower.proofs.search.lower_in.Goals.{then-table-at, else-table-at}

@@ -1,6 +1,6 @@
 -- `class::ends_in_class` meets its contract: the columns give the name's number and its place. Assumes nothing.
 use mathlib.Core.Path.{refl, sym, ◌∙◌, ap}
-use Rattle.meaning.specs.ClassTest.{name_numbered_lem, name-plain}
+use Rattle.meaning.proofs.ClassTest.{name_numbered_lem, name-plain}
 use Rattle.objects.specs.Numbers.{entry_no}
 use Rattle.objects.specs.Work.{place_of}
 use Rattle.objects.specs.PathLaws.{inside-count, place-holds, place_base, place_no_lem, number_no_lem}

@@ -5,7 +5,7 @@ use Prim.Native.Nat.{◌<◌}
 use native.Mathlib.Omega.{arith}
 use Rattle.base.specs.NumberLaws.{Bytes}
 use Rattle.scriptblock.specs.ScriptFaults.{no_fault, fault-first, fault-none, fault-own, fault-seen, fault-next}
-use Rattle.scriptblock.specs.ScriptLaws.{open_fits}
+use Rattle.scriptblock.proofs.ScriptLaws.{open_fits}
 use Rattle.table.specs.TableLaws.{holds-linked}
 use Rattle.objects.specs.WorkLaws.{entered-none}
 use Rattle.objects.specs.EnterLaws.{open_held, is-new, is-old, entered-next}

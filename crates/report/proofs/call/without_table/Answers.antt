@@ -3,9 +3,9 @@ use mathlib.Core.Path.{◌≡◌, refl, sym, ◌∙◌}
 use native.Mathlib.Omega.{arith}
 use Rattle.base.specs.Reading.{run}
 use Rattle.scriptblock.specs.Script.{script}
-use Rattle.scriptblock.specs.ScriptAccepted.{script-parts}
+use Rattle.scriptblock.proofs.ScriptAccepted.{script-parts}
 use Rattle.scriptblock.specs.ScriptAnswers.{script_answer}
-use Rattle.scriptblock.specs.ScriptFacts.{script-facts}
+use Rattle.scriptblock.proofs.ScriptFacts.{script-facts}
 use Rattle.scriptblock.specs.declared.script.Script.TheVariants.{Accepted}
 use Rattle.scan.specs.BlockLaws.{blocks-refused}
 use Rattle.resolve.specs.Rows.{limits_of}

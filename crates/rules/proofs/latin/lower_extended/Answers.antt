@@ -1,7 +1,7 @@
 -- `lower_extended`: one law of `lower` for each case. Assumes nothing.
 use mathlib.Core.Path.{sym}
 use native.Mathlib.Omega.{arith}
-use Rattle.lower.specs.LowerLaws.{dotted_stays}
+use Rattle.lower.proofs.LowerLaws.{dotted_stays}
 use Rattle.rules.specs.LatinLaws.{lower-first, lower-second, lower-third, lower_last, diaeresis, long_stays}
 use Rattle.rules.proofs.latin.lower_extended.Goals as goal
 

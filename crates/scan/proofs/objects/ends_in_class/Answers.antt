@@ -11,13 +11,13 @@ use Rattle.batch.specs.Holds.{text_at, Holds, holds-own}
 use Rattle.batch.specs.Places.{place_at}
 use Rattle.batch.specs.declared.places.Place.{Place}
 use Rattle.scriptblock.specs.Script.{Objects, script, object_name}
-use Rattle.scriptblock.specs.ScriptAccepted.{script-parts, entry-count}
+use Rattle.scriptblock.proofs.ScriptAccepted.{script-parts, entry-count}
 use Rattle.scriptblock.specs.ScriptAnswers.{script_answer, entries_of, no_entry}
-use Rattle.scriptblock.specs.ScriptFacts.{objects-facts, script-facts}
+use Rattle.scriptblock.proofs.ScriptFacts.{objects-facts, script-facts}
 use Rattle.scriptblock.specs.declared.script.Entry.{Entry}
 use Rattle.scriptblock.specs.declared.script.Layout.{Layout}
 use Rattle.scriptblock.specs.declared.script.Script.TheVariants.{Accepted}
-use Rattle.meaning.specs.ClassTest.{name_numbered_lem, name-plain}
+use Rattle.meaning.proofs.ClassTest.{name_numbered_lem, name-plain}
 use Rattle.meaning.specs.Scan.{class_end}
 use Rattle.scan.proofs.objects.ends_in_class.Goals as goal
 

@@ -11,7 +11,7 @@ use Rattle.base.specs.Index.{kind}
 use Rattle.base.specs.Reading.{gives, run}
 use Rattle.scriptblock.specs.Objects.{entry_number}
 use Rattle.scriptblock.specs.Script.{Objects, script, object_name}
-use Rattle.scriptblock.specs.ScriptAccepted.{script-parts, entry-count}
+use Rattle.scriptblock.proofs.ScriptAccepted.{script-parts, entry-count}
 use Rattle.scriptblock.specs.ScriptAnswers.{script_answer, entries_of, no_entry}
 use Rattle.scriptblock.specs.declared.script.Layout.{Layout}
 use Rattle.scriptblock.specs.declared.script.Script.TheVariants.{Accepted}

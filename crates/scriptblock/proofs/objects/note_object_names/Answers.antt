@@ -1,5 +1,5 @@
 -- The names of an accepted block are held.
-use Rattle.scriptblock.specs.ScriptAccepted.{script-parts}
+use Rattle.scriptblock.proofs.ScriptAccepted.{script-parts}
 use Rattle.scriptblock.proofs.objects.note_object_names.Goals as goal
 
 pub note_names-requires : goal.note_names-requires

@@ -1,5 +1,5 @@
 -- The names of an accepted block are held.
-use Rattle.scriptblock.specs.ScriptAccepted.{script-parts}
+use Rattle.scriptblock.proofs.ScriptAccepted.{script-parts}
 use Rattle.scriptblock.proofs.objects.object_place.Goals as goal
 
 pub place_at-requires : goal.place_at-requires

@@ -1,7 +1,7 @@
 -- The block's answer in two steps.
 use mathlib.Core.Path.{sym, ap, ◌∙◌}
 use native.Mathlib.Omega.{arith}
-use Rattle.scriptblock.specs.ScriptLaws.{open_fits, script-shut, script-fault, script-left, script-accepted}
+use Rattle.scriptblock.proofs.ScriptLaws.{open_fits, script-shut, script-fault, script-left, script-accepted}
 use Rattle.scriptblock.specs.declared.script.Script.TheVariants.{Rejected}
 use Rattle.scriptblock.proofs.script.check_script.Goals as goal
 

@@ -1,7 +1,7 @@
 -- The entry that the accepted block lists stands at its place.
 use mathlib.Core.Path.{sym, ◌∙◌}
 use native.Mathlib.Omega.{arith}
-use Rattle.scriptblock.specs.ScriptAccepted.{listed}
+use Rattle.scriptblock.proofs.ScriptAccepted.{listed}
 use Rattle.scriptblock.proofs.script.entry_at.Goals as goal
 
 pub overflow_mul-i : goal.overflow_mul-i

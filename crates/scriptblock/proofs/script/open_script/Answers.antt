@@ -11,7 +11,7 @@ use Rattle.batch.specs.FoundBatch.{FoundAt, found_at}
 use Rattle.batch.specs.declared.names.Names.{Names}
 use Rattle.batch.specs.declared.names.NameBatch.{NameBatch}
 use Rattle.batch.specs.declared.names.NameBatch.TheVariants.{Found}
-use Rattle.scriptblock.specs.ScriptLaws.{opened-refused, opened-short, opened-negative, opened-few, opened-there}
+use Rattle.scriptblock.proofs.ScriptLaws.{opened-refused, opened-short, opened-negative, opened-few, opened-there}
 use Rattle.scriptblock.proofs.script.open_script.Goals as goal
 
 found : (b : List ℕ) (r : NameBatch) {n : Names} → r ≡ batched (walk batch b 0) → r ≡ Found n → FoundAt b 0 n

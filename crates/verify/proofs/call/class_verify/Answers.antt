@@ -4,7 +4,7 @@ use Prim.Native.Nat.{◌-◌}
 use native.Mathlib.Omega.{arith}
 use lib.ListN.{take, drop}
 use Rattle.scriptblock.specs.ScriptAnswers.{opened}
-use Rattle.scriptblock.specs.ScriptLaws.{script-shut}
+use Rattle.scriptblock.proofs.ScriptLaws.{script-shut}
 use Rattle.scriptblock.specs.declared.script.Opened.TheVariants.{Open}
 use Rattle.meaning.specs.Call.{limits}
 use Rattle.walk.specs.OpenSteps.{Begun}

@@ -2,7 +2,7 @@
 use mathlib.Core.Path.{refl, sym, ◌∙◌, ap}
 use native.Mathlib.Omega.{arith}
 use lib.ListN.{length}
-use Rattle.scriptblock.specs.ScriptLaws.{open_fits, script-fault, script-left, script-accepted}
+use Rattle.scriptblock.proofs.ScriptLaws.{open_fits, script-fault, script-left, script-accepted}
 use Rattle.scriptblock.specs.declared.script.Script.TheVariants.{Rejected}
 use Rattle.walk.proofs.Tabled.{front_length, Filled, filled-front, linked-after, linked-length}
 use Rattle.walk.proofs.script.enter_script.Goals.{Else-l-s}

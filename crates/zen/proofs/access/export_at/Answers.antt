@@ -4,7 +4,8 @@ use mathlib.Core.Path.{sym, ◌∙◌}
 use native.Mathlib.Nat.{sub-zero}
 use native.Mathlib.Omega.{arith}
 use lib.Seq.{length-take-le}
-use Rattle.zen.specs.Accepted.{Parts, parts, export-there, export_is}
+use Rattle.zen.specs.Accepted.{Parts}
+use Rattle.zen.proofs.Accepted.{parts, export-there, export_is}
 use Rattle.zen.proofs.access.export_at.Goals.{Start}
 use Rattle.zen.proofs.access.export_at.Goals as goal
 

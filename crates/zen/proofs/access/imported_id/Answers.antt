@@ -7,7 +7,7 @@ use Rattle.base.specs.Reading.{run_block}
 use Rattle.batch.specs.Holds.{Holds, holds-own}
 use Rattle.zen.specs.Answers.{imported_of}
 use Rattle.zen.specs.Zen.{package_block}
-use Rattle.zen.specs.PackageLaws.{imported-text, imported-rendered}
+use Rattle.zen.proofs.PackageLaws.{imported-text, imported-rendered}
 use Rattle.zen.proofs.access.imported_id.Goals.{After-imported_place-p}
 use Rattle.zen.proofs.access.imported_id.Goals as goal
 

@@ -3,7 +3,8 @@ use Prim.Native.Nat.{◌+◌, ◌*◌, ◌≤◌}
 use mathlib.Core.Path.{sym, ◌∙◌}
 use native.Mathlib.Omega.{arith}
 use lib.ListN.{length}
-use Rattle.zen.specs.Accepted.{Parts, parts, number-there, number_is}
+use Rattle.zen.specs.Accepted.{Parts}
+use Rattle.zen.proofs.Accepted.{parts, number-there, number_is}
 use Rattle.zen.proofs.access.imported_number.Goals.{Start}
 use Rattle.zen.proofs.access.imported_number.Goals as goal
 

@@ -1,6 +1,7 @@
 -- `zen::access::imported_place` meets its contract.
 use native.Mathlib.Nat.{sub-zero}
-use Rattle.zen.specs.Accepted.{Parts, parts}
+use Rattle.zen.specs.Accepted.{Parts}
+use Rattle.zen.proofs.Accepted.{parts}
 use Rattle.zen.proofs.access.imported_place.Goals.{Start}
 use Rattle.zen.proofs.access.imported_place.Goals as goal
 

@@ -1,6 +1,7 @@
 -- `zen::access::note_package_names` meets its contract.
 use native.Mathlib.Nat.{sub-zero}
-use Rattle.zen.specs.Accepted.{Parts, parts}
+use Rattle.zen.specs.Accepted.{Parts}
+use Rattle.zen.proofs.Accepted.{parts}
 use Rattle.zen.proofs.access.note_package_names.Goals.{Start}
 use Rattle.zen.proofs.access.note_package_names.Goals as goal
 

@@ -1,5 +1,5 @@
 -- `zen::access::package_name_place` meets its contract.
-use Rattle.zen.specs.Accepted.{parts}
+use Rattle.zen.proofs.Accepted.{parts}
 use Rattle.zen.proofs.access.package_name_place.Goals as goal
 
 pub name_place-requires : goal.name_place-requires

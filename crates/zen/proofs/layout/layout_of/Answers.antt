@@ -2,7 +2,8 @@
 use mathlib.Core.Path.{sym, ◌∙◌, ap}
 use native.Mathlib.Nat.{sub-zero}
 use native.Mathlib.Omega.{arith}
-use Rattle.zen.specs.Layouts.{Laid, accepted-laid}
+use Rattle.zen.specs.Layouts.{Laid}
+use Rattle.zen.proofs.Layouts.{accepted-laid}
 use Rattle.zen.specs.declared.zen.Package.TheVariants.{Accepted}
 use Rattle.zen.proofs.layout.layout_of.Goals.{Start}
 use Rattle.zen.proofs.layout.layout_of.Goals as goal

@@ -13,7 +13,7 @@ use Rattle.batch.specs.declared.cursor.Word.{Word}
 use Rattle.batch.specs.declared.cursor.Word.TheVariants.{Got, Short}
 use Rattle.zen.specs.Zen.{lead}
 use Rattle.zen.specs.Answers.{led}
-use Rattle.zen.specs.BlockLaws.{lead_is}
+use Rattle.zen.proofs.BlockLaws.{lead_is}
 use Rattle.zen.specs.declared.lead.Lead.TheVariants.{Header, Fault}
 use Rattle.zen.proofs.lead.lead_of.Goals as goal
 

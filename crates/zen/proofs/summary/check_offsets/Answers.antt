@@ -14,7 +14,7 @@ use Rattle.batch.specs.BatchAnswers.{checked}
 use Rattle.batch.specs.BatchAnswersLaws.{rows_none, rows_pass, rows_fail}
 use Rattle.batch.specs.declared.names.Checked.TheVariants.{Passed, Failed}
 use Rattle.zen.specs.Zen.{offset}
-use Rattle.zen.specs.SummaryLaws.{offset-short, offset-negative, offset-there}
+use Rattle.zen.proofs.SummaryLaws.{offset-short, offset-negative, offset-there}
 use Rattle.zen.proofs.summary.check_offsets.Goals as goal
 
 -- a turn, by the size r at its place

@@ -10,7 +10,7 @@ use Rattle.batch.specs.declared.names.Checked.{Checked}
 use Rattle.batch.specs.declared.names.Checked.TheVariants.{Passed, Failed}
 use Rattle.zen.specs.Zen.{offset, summary, summary_at}
 use Rattle.zen.specs.Answers.{summed}
-use Rattle.zen.specs.SummaryLaws.{summary-short, summary-failed, summary-passed}
+use Rattle.zen.proofs.SummaryLaws.{summary-short, summary-failed, summary-passed}
 use Rattle.zen.specs.declared.summary.Summary.{Summary}
 use Rattle.zen.specs.declared.summary.Summed.TheVariants.{Told, Missed}
 use Rattle.zen.proofs.summary.read_summary.Goals as goal

@@ -8,7 +8,7 @@ use Rattle.base.specs.Reading.{walk, got}
 use Rattle.base.specs.ReadingLaws.{out, ask-yes, ask_no, then-walk, then-bad}
 use Rattle.zen.specs.Zen.{summary, ordered, header, content}
 use Rattle.zen.specs.Answers.{summed, answer, Order}
-use Rattle.zen.specs.SummaryLaws.{order_of, summary-got}
+use Rattle.zen.proofs.SummaryLaws.{order_of, summary-got}
 use Rattle.zen.specs.AnswersLaws.{summed-told, summed-missed}
 use Rattle.zen.specs.declared.summary.Summary.{Summary}
 use Rattle.zen.specs.declared.summary.Summed.{Summed}

@@ -10,7 +10,7 @@ use Rattle.base.specs.ReadingLaws.{out}
 use Rattle.zen.specs.Zen.{header, lead, package_block}
 use Rattle.zen.specs.Answers.{led, answer}
 use Rattle.zen.specs.AnswersLaws.{led-header, led-fault}
-use Rattle.zen.specs.BlockLaws.{block-is, block-low, block-bad, lead-got}
+use Rattle.zen.proofs.BlockLaws.{block-is, block-low, block-bad, lead-got}
 use Rattle.zen.specs.declared.lead.Lead.{Lead}
 use Rattle.zen.specs.declared.lead.Lead.TheVariants.{Header, Fault}
 use Rattle.zen.specs.declared.zen.Package.{Package}

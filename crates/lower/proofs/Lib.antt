@@ -1,0 +1,2 @@
+pub mod AsciiLaws
+pub mod LowerLaws

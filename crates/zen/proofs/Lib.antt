@@ -1,0 +1,9 @@
+pub mod Layouts
+pub mod PassedOver
+pub mod Refusals
+pub mod Accepted
+pub mod PackageLaws
+pub mod PackageFacts
+pub mod SummaryLaws
+pub mod BlockLaws
+pub mod ListedLaws
