@@ -59,7 +59,7 @@ marked_closed c = record { count = λ z. open_not c z; holds = λ z. open_not c 
 -- at the start
 pub marked-none : (n : ℕ) (s : List ℕ) (at : ℕ) (w : List ℕ) → Marked n (marks_in s at 0) (opened_as 0 0 9) w
 unfolding marks_in
-marked-none n s at w = record { count = λ z. refl; holds = λ z. marks-none (drop (48 * n) w) }
+marked-none n s _ w = record { count = λ z. refl; holds = λ z. marks-none (drop (48 * n) w) }
 
 module _ {n : ℕ} {l : List ℕ} {t : Census} {w : List ℕ} (k : Marked n l t w) (a : t.open ≡ true) where
   -- no row more
