@@ -1,5 +1,5 @@
 //! The build script of the crates that call proved functions. Each names its archive as the library that it `links`: NAME
-//! is target/staticlib/libNAME.a of this repository, a copy of what `rt lib` writes in crates/NAME_c. No variable leads elsewhere.
+//! is target/staticlib/libNAME.a of this repository, a copy of what `rt lib` writes in `crates/NAME_c`. No variable leads elsewhere.
 //! Where the archive is not there the kit is asked for it, so that a fresh clone needs no step before `cargo run`.
 use std::env;
 use std::fs;
