@@ -1,6 +1,6 @@
 # shellcheck shell=bash
-# What .ci/run and .ci/floor-of share, and the gate's checks that prove and build nothing, one function each: a check prints what
-# is wrong and has status 1 then. Sourced by bash.
+# What .ci/run and .ci/floor-of share, and the gate's own checks, one function each: a check prints what is wrong and has status 1
+# then. Sourced by bash.
 
 # What may reach a run from outside: where tools and reference are, how git is set up, whether edits are tried at their places. Anything
 # else could lead it elsewhere (another folder's archives, another kit, flags for a compiler, a runner for the tests), so it goes.
@@ -48,7 +48,7 @@ tree_is_the_commit() {
 
 # A line for each exported function: file, name, kinds of its clauses, its text up to the body.
 exports() {
-    find crates -path 'crates/*/src/*' -name '*.rt' -print0 | LC_ALL=C sort -z | xargs -0 -r awk -f .ci/exports.awk
+    find crates/*/src -name '*.rt' -print0 | LC_ALL=C sort -z | xargs -0 -r awk -f .ci/exports.awk
 }
 
 # The archives there are: NAME for a crate NAME that has exported functions, and its crate NAME_c, which says what C sees of it.
