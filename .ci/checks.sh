@@ -1,15 +1,15 @@
 # shellcheck shell=bash
-# What .ci/run and .ci/floor-of share, and the gate's checks that prove and build nothing, one function each: a check prints what
-# is wrong and has status 1 then. Sourced by bash.
+# What .ci/run and .ci/floor-of share, and the gate's own checks, one function each: a check prints what is wrong and has status 1
+# then. Sourced by bash.
 
-# What may reach a run from outside: where tools and reference are, how git is set up, how many provers run at a time. Anything else
-# could lead it elsewhere (another folder's archives, another kit, flags for a compiler, a runner for the tests), so it goes.
+# What may reach a run from outside: where tools and reference are, how git is set up, whether edits are tried at their places. Anything
+# else could lead it elsewhere (another folder's archives, another kit, flags for a compiler, a runner for the tests), so it goes.
 clean_environment() {
     local name
     for name in $(compgen -e); do
         case $name in
         PATH | HOME | USER | LOGNAME | SHELL | TERM | TMPDIR | LANG | LC_* | TZ | PWD | OLDPWD | SHLVL | _) ;;
-        CI | ZEN_REFERENCE | RT_JOBS | CARGO_HOME | RUSTUP_* | GIT_CONFIG_*) ;;
+        CI | EDITS | ZEN_REFERENCE | CARGO_HOME | RUSTUP_* | GIT_CONFIG_*) ;;
         *) unset -v "$name" 2>/dev/null || : ;; # bash's own can't be
         esac
     done
@@ -24,17 +24,17 @@ settle() {
     root=$PWD
     host=(--manifest-path host/Cargo.toml)
     export ZEN_REFERENCE=$reference
-    # rt owns target/ and removes it: cargo's folder goes below it, so that a run trusts nothing of an earlier one.
+    # target/ is what a run makes: cargo's folder, and the archives, which each run writes anew.
     export CARGO_TARGET_DIR=$root/target/cargo CARGO_NET_OFFLINE=true CARGO_TERM_COLOR=never
 }
 
 # ---- The tree
 
 # What differs from the commit: changes; files that git does not know, whatever an ignore file says (only the top target/ is ours to
-# fill); files that git was told not to look at.
+# fill, and each crate's out/ is rt's); files that git was told not to look at.
 tree() {
     git status --porcelain --untracked-files=no &&
-        git ls-files --others --exclude=/target/ | sed 's/^/not in git: /' &&
+        git ls-files --others --exclude=/target/ --exclude='/crates/*/out/' | sed 's/^/not in git: /' &&
         git ls-files -v | sed -n 's/^[a-zS] /hidden from git: /p'
 }
 
@@ -48,11 +48,17 @@ tree_is_the_commit() {
 
 # A line for each exported function: file, name, kinds of its clauses, its text up to the body.
 exports() {
-    find crates -path 'crates/*/src/*' -name '*.rt' -print0 | LC_ALL=C sort -z | xargs -0 -r awk -f .ci/exports.awk
+    find crates/*/src -name '*.rt' -print0 | LC_ALL=C sort -z | xargs -0 -r awk -f .ci/exports.awk
 }
 
-# The crates that have exported functions.
-exporting_crates() { exports | sed 's|^crates/||; s|/.*||' | LC_ALL=C sort -u; }
+# The archives there are: NAME for a crate NAME that has exported functions, and its crate NAME_c, which says what C sees of it.
+archives() { exports | sed 's|^crates/||; s|/.*||; s|_c$||' | LC_ALL=C sort -u; }
+
+# Proves a crate NAME_c and copies its archive to where the Rust side and C take it from.
+archive() { # NAME
+    mkdir -p target/staticlib && rm -f -- "target/staticlib/lib$1.a" &&
+        env -C "crates/$1_c" rt lib && cp -- "crates/$1_c/out/lib$1_c.a" "target/staticlib/lib$1.a"
+}
 
 # Whoever calls from C or Rust proves nothing: a `requires` would be a promise that nobody checks, and without an `ensures` the
 # function may do anything.
@@ -69,39 +75,23 @@ exports_are_stated() {
 
 # ---- Must-fail edits
 
-# The lines that an edit wrote, as FILE:LINE.
-written_by() { # crate, label
-    local file range
-    while IFS= read -r file; do
-        # diff's `5,6c7,8`, `5a6,7`: what stands behind the letter is the new file's
-        for range in $(diff -- "crates/$1/$file" "target/must-fail/$1/$2/$file" | sed -n 's/^[0-9,]*[ac]\([0-9,]*\)$/\1/p'); do
-            seq -f "$file:%.0f" "${range%,*}" "${range#*,}"
-        done
-    done < <(sed -n 's/^file: //p' "crates/$1/must-fail/$2.edit" | LC_ALL=C sort -u)
-}
-
 # The mistakes of an edit that holds several, as lines 'NAME AT': `mistake: NAME, refused in AT` stands before each.
 mistakes_of() { sed -n 's/^mistake: \([a-z0-9_]*\), refused in \(.*\)$/\1 \2/p' -- "$1"; }
 
-# Each edit was tried and refused by a proof that fails, not by the parser or for a name that is not there (.ci/edits.awk).
-edits_reach_the_prover() {
-    local edit crate label log why status=0
-    for edit in crates/*/must-fail/*; do
+# Each mistake of an edit has a place, and no two of an edit have one.
+mistakes_are_placed() {
+    local edit status=0
+    for edit in crates/*/must-fail/*.edit; do
         [ -e "$edit" ] || continue
-        crate=${edit#crates/} crate=${crate%%/*} label=$(basename -- "$edit" .edit)
-        log=target/must-fail/$crate/$label/.log
-        if [ "$(cat -- "target/must-fail/$crate/$label.res" 2>/dev/null)" != refused ]; then
-            why='it was not tried, or not refused'
-        elif [ "$(grep -c '^mistake' -- "$edit")" -ne "$(mistakes_of "$edit" | cut -d ' ' -f 2- | sort -u | wc -l)" ]; then
-            why='two mistakes have one place, or a mistake none'
-        else
-            why=$(PLACE=$root/target/must-fail/$crate/$label/ WRITTEN=$(written_by "$crate" "$label") MISTAKES=$(mistakes_of "$edit") \
-                awk -f .ci/edits.awk "$log") || why='its log can not be read'
+        if [ "$(grep -c '^mistake' -- "$edit")" -ne "$(mistakes_of "$edit" | cut -d ' ' -f 2- | sort -u | wc -l)" ]; then
+            printf '%s: two mistakes have one place, or a mistake none\n' "$edit" && status=1
         fi
-        if [ -n "$why" ]; then printf 'must-fail %s/%s: %s\n' "$crate" "$label" "$why" && status=1; fi
     done
     return $status
 }
+
+# Each edit is refused by a proof that fails, not by the parser or for a name that is not there, and each of its mistakes at its place.
+edits_reach_the_prover() { .ci/edits; }
 
 # ---- The Rust side
 

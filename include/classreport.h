@@ -2,7 +2,7 @@
  * The class report of a corpus of package headers, the check of its own hashes, and headers written from a description:
  * the calls, their answers, and what a refusal means.
  *
- * Link with target/staticlib/libcapi.a, which `rt staticlib capi` writes (x86-64 Linux).
+ * Link with target/staticlib/libcapi.a, a copy of what `rt lib` writes in crates/capi_c (x86-64 Linux).
  *
  *     uint64_t answer = class_report(corpus, corpus_len, CLASSREPORT_MOST_LOOKUPS, CLASSREPORT_MOST_OBJECTS,
  *                                    work, work_len, report, report_len);
