@@ -23,7 +23,7 @@ LAWS = "no_names is_digit units_of front_bytes size_in first_step text_at head_a
 
 
 def in_snake_case(name):
-    if re.fullmatch("[A-Z0-9]+", name):
+    if re.fullmatch("[A-Z][A-Z0-9]*", name):
         return name
     return re.sub(r"(?<=[a-z0-9])[A-Z]+", lambda m: "_" + m[0].lower(), name).replace("-", "_")
 
