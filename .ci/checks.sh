@@ -9,7 +9,7 @@ clean_environment() {
     for name in $(compgen -e); do
         case $name in
         PATH | HOME | USER | LOGNAME | SHELL | TERM | TMPDIR | LANG | LC_* | TZ | PWD | OLDPWD | SHLVL | _) ;;
-        CI | EDITS | ZEN_REFERENCE | CARGO_HOME | RUSTUP_* | GIT_CONFIG_*) ;;
+        CI | ZEN_REFERENCE | CARGO_HOME | RUSTUP_* | GIT_CONFIG_*) ;;
         *) unset -v "$name" 2>/dev/null || : ;; # bash's own can't be
         esac
     done
