@@ -7,7 +7,7 @@ use Rattle.base.specs.SignedSize.{size_of, size_in}
 use Rattle.base.specs.Index.{kind, value, name_index, import_name, import_hash}
 use Rattle.base.specs.Answer.{refusal, is_refusal, question_of, block_of}
 use Rattle.base.specs.Output.{over}
-use Rattle.base.specs.declared.signed.Size.TheVariants.{Of, Negative}
+use Rattle.std.specs.Prelude.{Some, None}
 
 -- ---- numbers
 
@@ -19,8 +19,8 @@ pub record Numbers : Type 0 where
   pub bytes : be_bytes 3 0x01020304 ≡ 2 ∷ 3 ∷ 4 ∷ []
   -- "An offset is a signed number": the sign's edge, and -1
   pub signed : map (twos 32) (0 ∷ 0x7FFFFFFF ∷ 0x80000000 ∷ 0xFFFFFFFF ∷ []) ≡ pos 0 ∷ pos 0x7FFFFFFF ∷ negsuc 0x7FFFFFFF ∷ negsuc 0 ∷ []
-  pub sizes : map (size_in 32) (0x7FFFFFFF ∷ 0x80000000 ∷ []) ≡ Of 0x7FFFFFFF ∷ Negative ∷ []
-  pub sizes_of : map size_of (pos 7 ∷ negsuc 7 ∷ []) ≡ Of 7 ∷ Negative ∷ []
+  pub sizes : map (size_in 32) (0x7FFFFFFF ∷ 0x80000000 ∷ []) ≡ Some 0x7FFFFFFF ∷ None ∷ []
+  pub sizes_of : map size_of (pos 7 ∷ negsuc 7 ∷ []) ≡ Some 7 ∷ None ∷ []
   -- a buffer of four bytes whose first two are new
   pub front : over (1 ∷ 2 ∷ 3 ∷ 4 ∷ []) (8 ∷ 9 ∷ []) ≡ 8 ∷ 9 ∷ 3 ∷ 4 ∷ []
 

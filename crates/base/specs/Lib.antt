@@ -19,12 +19,15 @@ pub mod OutputLaws
 pub mod Index
 pub mod IndexLaws
 pub mod Answer
+pub mod Refusal
+pub mod Kind
 -- ---- Texts as they stand in examples
 pub mod Literal
 -- ---- Readings: blocks as programs of reads, arrays of records, which bytes count
 pub mod Reading
 pub mod ReadingLaws
 pub mod ReadingRows
+pub mod OneMore
 pub mod Seek
 pub mod SeekLaws
 pub mod ReadingFront

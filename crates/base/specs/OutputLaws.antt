@@ -154,3 +154,8 @@ front_fits x y n h = omega (arith, length-append x y)
 pub wrote-be : (k x : ℕ) {s o : List ℕ} {n : ℕ} → Wrote s (be_bytes k x) o n → be_at k o 0 ≡ x % 256 ^ k
 unfolding be_at
 wrote-be k x {s} {o} w = rw (w.is, take-over s (be_bytes k x) k (length-be_bytes k x), be-be_bytes k x)
+
+-- b was copied to the first n bytes
+pub wrote_front_copy : (s b p : List ℕ) (n : ℕ) → p ≡ b → length b ≡ n → n ≤ length s → Wrote s b (p ++ drop n s) n
+unfolding over
+wrote_front_copy s b p n e l h = record { size = sym l; fits = h; is = rw (e, l) }

@@ -11,7 +11,7 @@ use Rattle.std.proofs.lemmas.Bool.{lt-leb}
 use Rattle.base.specs.Choose.{lt_or_le}
 use Rattle.base.specs.Signed.{twos}
 use Rattle.base.specs.SignedSize.{size_of, size_in}
-use Rattle.base.specs.declared.signed.Size.TheVariants.{Of, Negative}
+use Rattle.std.specs.Prelude.{Some, None}
 
 -- n less a larger N
 below : (n N : ℕ) → n < N → pos n -ℤ pos N ≡ negsuc (N - suc n)
@@ -68,20 +68,20 @@ module _ (k n : ℕ) (fits : n < 2 ^ suc k) where
 -- ---- what a size that came out says
 
 -- a size: the number is not negative, and the size is n
-pub size_is : (k n m : ℕ) → size_in k n ≡ Of m → (non_neg (twos k n) ≡ true) × (m ≡ n)
+pub size_is : (k n m : ℕ) → size_in k n ≡ Some m → (non_neg (twos k n) ≡ true) × (m ≡ n)
 unfolding size_in
 size_is k n m e = go (non_neg (twos k n)) e
   where
-    go : (b : Bool) → cond b (Of n) Negative ≡ Of m → (b ≡ true) × (m ≡ n)
+    go : (b : Bool) → cond b (Some n) None ≡ Some m → (b ≡ true) × (m ≡ n)
     go true e = (refl, cc)
     go false e = (cc, cc)
 
 -- none: the number is negative
-pub size_none : (k n : ℕ) → size_in k n ≡ Negative → non_neg (twos k n) ≡ false
+pub size_none : (k n : ℕ) → size_in k n ≡ None → non_neg (twos k n) ≡ false
 unfolding size_in
 size_none k n e = go (non_neg (twos k n)) e
   where
-    go : (b : Bool) → cond b (Of n) Negative ≡ Negative → b ≡ false
+    go : (b : Bool) → cond b (Some n) None ≡ None → b ≡ false
     go true e = cc
     go false e = refl
 

@@ -1,12 +1,24 @@
 // The number that a call returns, packed and unpacked by shifts and masks.
 ghost use Rattle.std.specs.Prelude.{◌≡◌};
 ghost use Rattle.base.specs.Answer.{refusal, is_refusal, question_of, block_of};
+ghost use Rattle.base.specs.Refusal.{number};
+
+use super::refusal::Refused;
 
 // The number of a refusal: bit 63, the question in bits 32 to 39, the block in bits 0 to 31.
 pub fn refuse(question: u8, block: u32) -> u64
     ensures { result ≡ refusal question block }
 {
-    0x8000_0000_0000_0000 | (question as u64) << 32 | block as u64
+    0x8000_0000_0000_0000 | u64::from(question) << 32 | u64::from(block)
+}
+
+impl Refused {
+    // The number of the refusal.
+    pub fn number(self) -> u64
+        ensures { result ≡ refusal (number self.why) self.block }
+    {
+        refuse(self.why.number(), self.block)
+    }
 }
 
 // Whether a number is a refusal: bit 63.

@@ -1,12 +1,27 @@
 // The fields of object indices and mapped names, by shifts and masks; the contracts say them by division and remainder.
 ghost use Rattle.std.specs.Prelude.{◌≡◌};
 ghost use Rattle.base.specs.Index.{kind, value, name_index, import_name, import_hash};
+ghost use Rattle.base.specs.Kind.{kind_number};
+
+// What an index points to: an export of its package, a script object, an imported name's export, or nothing.
+#[derive(Clone, Copy, PartialEq, Eq)]
+pub enum Kind {
+    Export,
+    Script,
+    Import,
+    Null,
+}
 
 // The kind of an index: its top two bits.
-pub fn index_kind(x: u64) -> u64
-    ensures { result ≡ kind x }
+pub fn index_kind(x: u64) -> Kind
+    ensures { kind_number result ≡ kind x }
 {
-    x >> 62
+    match x >> 62 {
+        0 => Kind::Export,
+        1 => Kind::Script,
+        2 => Kind::Import,
+        _ => Kind::Null,
+    }
 }
 
 // The index without its kind.

@@ -9,4 +9,5 @@ pub mod output; // bytes and numbers written to the front of a buffer
 
 // Indices and answers
 pub mod index; // the fields of object indices and mapped names
+pub mod refusal; // what is refused
 pub mod answer; // the number that a call returns

@@ -17,23 +17,18 @@ pub fn put_bytes(out: &mut [u8], src: &[u8]) -> usize
     requires { length src.now ≤ length out.old }
     ensures { Wrote out.old src.now out.new result }
 {
-    let mut i = 0;
-    while i < src.len() {
-        out[i] = src[i];
-        i += 1;
-    }
-    i
+    out[..src.len()].copy_from_slice(src);
+    src.len()
 }
+
+// Kept: two functions, since a trait over u32 and u64 would have these bodies, one an `impl`.
 
 // A number in 4 bytes, big-endian.
 pub fn put_be32(out: &mut [u8], n: u32) -> usize
     requires { 4 ≤ length out.old }
     ensures { Wrote out.old (be_bytes 4 n) out.new result }
 {
-    out[0] = (n / 16777216 % 256) as u8;
-    out[1] = (n / 65536 % 256) as u8;
-    out[2] = (n / 256 % 256) as u8;
-    out[3] = (n % 256) as u8;
+    out[..4].copy_from_slice(&n.to_be_bytes());
     4
 }
 
@@ -42,6 +37,6 @@ pub fn put_be64(out: &mut [u8], n: u64) -> usize
     requires { 8 ≤ length out.old }
     ensures { Wrote out.old (be_bytes 8 n) out.new result }
 {
-    let at = put_be32(out, (n / 4294967296) as u32);
-    at + put_be32(&mut out[at..], (n % 4294967296) as u32)
+    out[..8].copy_from_slice(&n.to_be_bytes());
+    8
 }

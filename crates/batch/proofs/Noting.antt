@@ -27,108 +27,79 @@ one_more f notes k v l e g j i = go (ℕ_discrete j k)
     go (no q) = get_or-set_other notes k j v 0 q ∙ g j (lt_of_le-ne (omega arith) q)
 
 -- each of the first k names is noted; p is where the next starts among the strings
-pub record Each (s : List ℕ) (n : Names) (notes : List ℕ) (h p k : ℕ) : Type 0 where
-  pub few : k ≤ n.count
-  pub head : h ≡ n.headers + 2 * k
-  pub start : p ≡ name_start s n.headers n.strings k - n.strings
+pub record Each (s : List ℕ) (n : Names) (notes : List ℕ) (p k : ℕ) : Type 0 where
   pub size : length notes ≡ note_count
+  pub start : p ≡ name_start s n.headers n.strings k - n.strings
   pub noted : (j : ℕ) → j < k → get_or notes j 0 ≡ name_start s n.headers n.strings j - n.strings
 
-pub each_first : (s : List ℕ) (n : Names) (notes : List ℕ) → length notes ≡ note_count → Each s n notes n.headers 0 0
+pub each_first : (s : List ℕ) (n : Names) (notes : List ℕ) → length notes ≡ note_count → Each s n notes 0 0
 unfolding name_start
-each_first s n notes l = record { few = omega arith; head = omega arith; start = omega arith; size = l; noted = λ j i. absurd (omega arith) }
+each_first s n notes l = record { size = l; start = omega arith; noted = λ j i. absurd (omega arith) }
 
-module _ {s : List ℕ} {n : Names} {notes : List ℕ} {h p k : ℕ} (e : Each s n notes h p k) (d : Held s n) where
+module _ {s : List ℕ} {n : Names} {notes : List ℕ} {p k : ℕ} (e : Each s n notes p k) where
   -- the place fits a note
-  pub each-small : p < 4294967296
-  each-small = omega (arith, e.start, start-le s n.headers n.strings k n.count e.few, d.inside, d.span)
+  pub each-small : Held s n → k ≤ n.count → p < 4294967296
+  each-small d l = omega (arith, e.start, start-le s n.headers n.strings k n.count l, d.inside, d.span)
 
-  module _ (c : n.count < note_count) (l : k < n.count) where
-    pub each-head : h + 2 ≤ length s
-    each-head = omega (arith, e.head, d.heads)
-
-    pub each_next : Each s n (set notes k p) (h + 2) (p + (head_at s h).size) (k + 1)
-    unfolding name_start
-    each_next =
-        let a = start-add s n.headers n.strings k 1 in
-        let m = start_mono s n.headers n.strings k in
-        let z = e.start in
-        let y = e.head in
-        record {
-          few = omega arith;
-          head = omega arith;
-          start = rw (a, ← y) (omega arith);
-          size = simp length-set e.size;
-          noted = one_more (λ j. name_start s n.headers n.strings j - n.strings) notes k p (omega (arith, e.size)) z e.noted;
-        }
+  pub each_next : k < note_count → Each s n (set notes k p) (p + (head_at s (n.headers + 2 * k)).size) (k + 1)
+  unfolding name_start
+  each_next l =
+      let a = start-add s n.headers n.strings k 1 in
+      let m = start_mono s n.headers n.strings k in
+      let z = e.start in
+      record {
+        size = simp length-set e.size;
+        start = rw a (omega arith);
+        noted = one_more (λ j. name_start s n.headers n.strings j - n.strings) notes k p (omega (arith, e.size)) z e.noted;
+      }
 
 step-one : (count : ℕ) → count < note_count → step_of count ≡ 1
 step-one count c = omega arith
 
-pub each_end : {s : List ℕ} {n : Names} {notes : List ℕ} {h p k : ℕ} → Each s n notes h p k → n.count < note_count → n.count ≤ k → Noted s n notes
-each_end {s} {n} {notes} {h} {p} {k} e c l = record { at = λ j a b. go j (rw (step-one n.count c) at b) }
-  where
-    go : (j : ℕ) → 1 * j < n.count → get_or notes j 0 ≡ name_start s n.headers n.strings (step_of n.count * j) - n.strings
-    go j b = let q : 1 * j ≡ j = omega arith in rw (step-one n.count c, q) (e.noted j (omega arith))
-
 next-step : (step k : ℕ) → step * (k + 1) ≡ step * k + step
 next-step step k = rw (add-one k) (mul-suc step k)
 
--- every step-th name up to the k-th note is noted; left names are to come
-pub record Going (s : List ℕ) (h₀ p₀ left₀ step : ℕ) (notes : List ℕ) (h p left k : ℕ) : Type 0 where
-  pub few : k ≤ note_count
-  pub rest : step * k + left ≡ left₀
-  pub head : h ≡ h₀ + 2 * (step * k)
-  pub start : p ≡ name_start s h₀ p₀ (step * k)
-  pub size : length notes ≡ note_count
-  pub noted : (j : ℕ) → j < k → get_or notes j 0 ≡ name_start s h₀ p₀ (step * j) - p₀
+-- every step-th name up to the k-th note is noted; p is where the next starts
+pub record Going (s : List ℕ) (n : Names) (step : ℕ) (notes : List ℕ) (p k : ℕ) : Type 0 where
+  pub few : step * k ≤ n.count
+  pub start : p ≡ name_start s n.headers n.strings (step * k)
+  pub noted : (j : ℕ) → j < k → get_or notes j 0 ≡ name_start s n.headers n.strings (step * j) - n.strings
 
-pub going_first : (s : List ℕ) (h p left step : ℕ) (notes : List ℕ) → length notes ≡ note_count → Going s h p left step notes h p left 0
+pub going_first : (s : List ℕ) (n : Names) (step : ℕ) (notes : List ℕ) → Going s n step notes n.strings 0
 unfolding name_start
-going_first s h p left step notes l =
+going_first s n step notes =
     let e : step * 0 ≡ 0 = omega arith in
-    record { few = omega arith; rest = omega arith; head = omega arith; start = rw e; size = l; noted = λ j i. absurd (omega arith) }
+    record { few = omega arith; start = rw e; noted = λ j i. absurd (omega arith) }
 
-module _ {s : List ℕ} {h₀ p₀ left₀ step : ℕ} {notes : List ℕ} {h p left k : ℕ} (g : Going s h₀ p₀ left₀ step notes h p left k) where
-  going_note : k < note_count → (j : ℕ) → j < k + 1 → get_or (set notes k (p - p₀)) j 0 ≡ name_start s h₀ p₀ (step * j) - p₀
-  going_note l = one_more (λ j. name_start s h₀ p₀ (step * j) - p₀) notes k (p - p₀) (omega (arith, g.size)) (ap (λ x. x - p₀) g.start) g.noted
+module _ {s : List ℕ} {n : Names} {step : ℕ} {notes : List ℕ} {p k : ℕ} (g : Going s n step notes p k) where
+  going_note : k < length notes → (j : ℕ) → j < k + 1 → get_or (set notes k (p - n.strings)) j 0 ≡ name_start s n.headers n.strings (step * j) - n.strings
+  going_note l = one_more (λ j. name_start s n.headers n.strings (step * j) - n.strings) notes k (p - n.strings) l (ap (λ x. x - n.strings) g.start) g.noted
 
-  pub going_next : k < note_count → step ≤ left → Going s h₀ p₀ left₀ step (set notes k (p - p₀)) (h + 2 * step) (name_start s h p step) (left - step) (k + 1)
-  going_next l i =
-      let n = next-step step k in
-      record {
-        few = omega arith;
-        rest = omega (arith, g.rest);
-        head = omega (arith, g.head);
-        start = rw (n, g.head, g.start) (sym (start-add s h₀ p₀ (step * k) step));
-        size = simp length-set g.size;
-        noted = going_note l;
-      }
+  -- a noted name is not behind the last
+  pub going_inside : (n.strings ≤ p) × (p ≤ name_start s n.headers n.strings n.count)
+  going_inside = rw g.start (start_mono s n.headers n.strings (step * k), start-le s n.headers n.strings (step * k) n.count g.few)
+
+  module _ (i : step ≤ n.count - step * k) where
+    pub going_next : k < length notes → Going s n step (set notes k (p - n.strings)) (name_start s (n.headers + 2 * (step * k)) p step) (k + 1)
+    going_next l =
+        let z = next-step step k in
+        record { few = omega (arith, g.few); start = rw (z, g.start) (sym (start-add s n.headers n.strings (step * k) step)); noted = going_note l }
+
+    -- nor is the next
+    pub going_step : (n.headers + 2 * (step * k) + 2 * step ≤ n.headers + 2 * n.count)
+        × (name_start s (n.headers + 2 * (step * k)) p step ≤ name_start s n.headers n.strings n.count)
+    going_step =
+        let u = start-le s n.headers n.strings (step * k + step) n.count (omega (arith, g.few)) in
+        (omega (arith, g.few), rw (g.start, ← start-add s n.headers n.strings (step * k) step) u)
 
   -- the last note is before the last name
-  going_last : k < note_count → left < step → (j : ℕ) → step * j < left₀ → get_or (set notes k (p - p₀)) j 0 ≡ name_start s h₀ p₀ (step * j) - p₀
+  pub going_last : k < length notes → n.count - step * k < step → (j : ℕ) → step * j < n.count
+      → get_or (set notes k (p - n.strings)) j 0 ≡ name_start s n.headers n.strings (step * j) - n.strings
   going_last l i j b = going_note l j (go (dec_le (k + 1) j))
     where
       go : Dec (k + 1 ≤ j) → j < k + 1
-      go (yes y) = absurd (omega (arith, mul-le-mul_left step y, next-step step k, g.rest))
+      go (yes y) = absurd (omega (arith, mul-le-mul_left step y, next-step step k, g.few))
       go (no y) = omega arith
-
-  -- a noted name is not behind the last
-  pub going_inside : (p₀ ≤ p) × (p ≤ name_start s h₀ p₀ left₀)
-  going_inside = rw g.start (start_mono s h₀ p₀ (step * k), start-le s h₀ p₀ (step * k) left₀ (omega (arith, g.rest)))
-
-  -- nor is the next
-  pub going_step : step ≤ left → (h + 2 * step ≤ h₀ + 2 * left₀) × (name_start s h p step ≤ name_start s h₀ p₀ left₀)
-  going_step i =
-      let u = start-le s h₀ p₀ (step * k + step) left₀ (omega (arith, g.rest)) in
-      (omega (arith, g.rest, g.head), rw (g.head, g.start, ← start-add s h₀ p₀ (step * k) step) u)
-
-module _ {s : List ℕ} {n : Names} {notes : List ℕ} {h p left k : ℕ} (g : Going s n.headers n.strings n.count (step_of n.count) notes h p left k) where
-  pub going_end : k < note_count → left < step_of n.count → Noted s n (set notes k (p - n.strings))
-  going_end l i = record { at = λ j a b. going_last g l i j b }
-
-  pub going_full : note_count ≤ k → Noted s n notes
-  going_full l = record { at = λ j a b. g.noted j (omega arith) }
 
 -- ---- a name is reached
 

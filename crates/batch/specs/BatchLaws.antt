@@ -1,5 +1,5 @@
 -- A name batch by position.
-use Rattle.std.specs.Prelude.{◌≡◌, List, [], ◌∷◌, Bool, ℕ, zero, suc, ◌+◌, ◌*◌, ◌-◌, ◌≤◌, ◌<◌, leb, eqb, length, take, drop}
+use Rattle.std.specs.Prelude.{◌≡◌, List, [], ◌∷◌, Bool, ℕ, zero, suc, ◌+◌, ◌*◌, ◌-◌, ◌≤◌, ◌<◌, leb, eqb, length, take, drop, Ok, Err}
 use Rattle.std.proofs.Math.Path.{refl, ap}
 use Rattle.std.proofs.Common.{sym, ◌∙◌, arith, sub-one, le-leb, eq-eqb, ne_eqb, leb-true, eqb-true}
 use Rattle.std.proofs.Math.Bool.{true, false}
@@ -20,7 +20,6 @@ use Rattle.batch.specs.BatchAnswersLaws.{checked-map, checked-got, checked-bad}
 use Rattle.batch.specs.Places.{name_start, texts_at}
 use Rattle.batch.specs.declared.names.Head.{Head}
 use Rattle.batch.specs.declared.names.Names.{Names}
-use Rattle.batch.specs.declared.names.Checked.TheVariants.{Passed, Failed}
 
 -- a name's header
 module _ (s : List ℕ) (at : ℕ) where
@@ -88,15 +87,15 @@ strings_nil room s at = ask-is (eqb room 0) 7 (give []) s at
 
 -- the names from one on, by position
 module _ (s : List ℕ) («end» : ℕ) where
-  pub names-none : (k h p : ℕ) → k ≤ 0 → p ≡ «end» → checked (walk (strings (cells (head_at s) 2 h k) («end» - p)) s p) ≡ Passed
+  pub names-none : (k h p : ℕ) → k ≤ 0 → p ≡ «end» → checked (walk (strings (cells (head_at s) 2 h k) («end» - p)) s p) ≡ Ok tt
   names-none zero h p l e = checked-got {a = []} {n = p} (strings_nil («end» - p) s p ∙ rw (eq-eqb («end» - p) 0 (omega arith)))
   names-none (suc k) h p l e = absurd (omega arith)
 
-  pub names-left : (k h p : ℕ) → k ≤ 0 → p ≤ «end» → (p ≡ «end» → ⊥) → checked (walk (strings (cells (head_at s) 2 h k) («end» - p)) s p) ≡ Failed 7
+  pub names-left : (k h p : ℕ) → k ≤ 0 → p ≤ «end» → (p ≡ «end» → ⊥) → checked (walk (strings (cells (head_at s) 2 h k) («end» - p)) s p) ≡ Err 7
   names-left zero h p l g e = checked-bad (strings_nil («end» - p) s p ∙ rw (ne_eqb («end» - p) 0 (λ z. e (omega arith))))
   names-left (suc k) h p l g e = absurd (omega arith)
 
-  pub names-out : (k h p : ℕ) → 0 < k → «end» - p < (head_at s h).size → checked (walk (strings (cells (head_at s) 2 h k) («end» - p)) s p) ≡ Failed 5
+  pub names-out : (k h p : ℕ) → 0 < k → «end» - p < (head_at s h).size → checked (walk (strings (cells (head_at s) 2 h k) («end» - p)) s p) ≡ Err 5
   names-out zero h p l g = absurd (omega arith)
   names-out (suc k) h p l g =
       checked-bad (strings_cons (head_at s h) (cells (head_at s) 2 (h + 2) k) («end» - p) s p ∙ rw (lt-leb (head_at s h).size («end» - p) g))
@@ -104,7 +103,7 @@ module _ (s : List ℕ) («end» : ℕ) where
   -- a name within the strings
   pub names-ill : (k h p : ℕ) → 0 < k → «end» ≤ length s → p ≤ «end» → (head_at s h).size ≤ «end» - p
       → is_well (decoded (head_at s h).wide (part (head_at s h) s p)) ≡ false
-      → checked (walk (strings (cells (head_at s) 2 h k) («end» - p)) s p) ≡ Failed 6
+      → checked (walk (strings (cells (head_at s) 2 h k) («end» - p)) s p) ≡ Err 6
   names-ill zero h p l b c g w = absurd (omega arith)
   names-ill (suc k) h p l b c g w =
       checked-bad (strings_cons (head_at s h) (cells (head_at s) 2 (h + 2) k) («end» - p) s p

@@ -1,5 +1,5 @@
 -- A batch that was found: what its reading gives, and where its names are.
-use Rattle.std.specs.Prelude.{◌≡◌, refl, List, [], Bool, true, false, ℕ, ◌+◌, ◌*◌, ◌-◌, ◌≤◌, ◌<◌, leb, eqb}
+use Rattle.std.specs.Prelude.{◌≡◌, refl, List, [], Bool, true, false, ℕ, ◌+◌, ◌*◌, ◌-◌, ◌≤◌, ◌<◌, leb, eqb, Ok}
 use Rattle.std.proofs.Common.{sym, ◌∙◌, ap, arith, leb-true}
 use Rattle.std.proofs.Math.Path.{subst}
 use Rattle.std.proofs.Math.Decide.{dec_le}
@@ -18,7 +18,6 @@ use Rattle.batch.specs.BatchAnswers.{batched}
 use Rattle.batch.specs.BatchLaws.{strings-got, none_at, batch-is, some_is, body-hashes, body-heads, body-room, body_is, place_of_lem}
 use Rattle.batch.specs.Places.{name_start, texts_at, place_at, part_at, Held}
 use Rattle.batch.specs.declared.names.Names.{Names}
-use Rattle.batch.specs.declared.names.NameBatch.TheVariants.{Found}
 
 -- a batch that was found: its texts are those at its names' places
 pub record FoundAt (s : List ℕ) (at : ℕ) (n : Names) : Type 0 where
@@ -107,11 +106,11 @@ found_end {s} {at} b {e} w f =
     (cc, ap (λ b. b.texts) y)
 
 -- the same from the code's answer
-pub found_at : (s : List ℕ) (at : ℕ) (n : Names) → at ≤ length s → batched (walk batch s at) ≡ Found n → FoundAt s at n
+pub found_at : (s : List ℕ) (at : ℕ) (n : Names) → at ≤ length s → batched (walk batch s at) ≡ Ok n → FoundAt s at n
 unfolding batched
 found_at s at n l q = go (walk batch s at) refl q
   where
-    go : (g : Got Batch) → walk batch s at ≡ g → batched g ≡ Found n → FoundAt s at n
+    go : (g : Got Batch) → walk batch s at ≡ g → batched g ≡ Ok n → FoundAt s at n
     go (bad r) e q = never (cc)
     go (got b k) e q = let z : b.place ≡ n = cc in rw z at (found_by_lem s at b k l e)
 

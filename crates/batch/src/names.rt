@@ -2,10 +2,13 @@
 ghost use Rattle.std.specs.Prelude.{◌≡◌, ◌+◌, ◌*◌, ◌-◌, ◌≤◌, ◌<◌, length};
 ghost use Rattle.base.specs.Reading.{walk};
 ghost use Rattle.base.specs.ReadingRows.{cells};
+ghost use Rattle.base.specs.Refusal.{numbered};
 ghost use Rattle.batch.specs.Batch.{head_at, strings, body, some_names, batch};
 ghost use Rattle.batch.specs.BatchAnswers.{checked, batched};
 
 use super::reader;
+use base::refusal::Refusal;
+use text::text::Part;
 
 // Where the parts of a batch are: the end of the strings is the position after the batch.
 #[derive(Clone, Copy)]
@@ -21,18 +24,6 @@ pub struct Names {
 pub struct Head {
     pub wide: bool,
     pub size: usize,
-}
-
-#[derive(Clone, Copy)]
-pub enum Checked {
-    Passed,
-    Failed(u8),
-}
-
-#[derive(Clone, Copy)]
-pub enum NameBatch {
-    Found(Names),
-    Refused(u8),
 }
 
 pub fn read_head(s: &[u8], h: usize) -> Head
@@ -55,94 +46,97 @@ pub fn read_head(s: &[u8], h: usize) -> Head
 }
 
 // Every name, and that the strings are used up: questions 5 to 7.
-fn check_names(s: &[u8], count: usize, headers: usize, from: usize, end: usize) -> Checked
+fn check_names(
+    s: &[u8],
+    count: usize,
+    headers: usize,
+    from: usize,
+    end: usize,
+) -> Result<(), Refusal>
     requires { (headers + 2 * count ≤ length s.now) × (from ≤ end) × (end ≤ length s.now) }
-    ensures { result ≡ checked (walk (strings (cells (head_at s.now) 2 headers count) (end - from)) s.now from) }
+    ensures { numbered result ≡ checked (walk (strings (cells (head_at s.now) 2 headers count) (end - from)) s.now from) }
 {
-    let mut left = count;
-    let mut h = headers;
     let mut p = from;
-    while 0 < left {
-        let d = read_head(s, h);
+    for i in 0..count {
+        let d = read_head(s, headers + 2 * i);
         if end - p < d.size {
-            return Checked::Failed(5);
+            return Err(Refusal::NameOutside);
         }
         let next = p + d.size;
-        if !text::utf16::is_text(&s[p..next], d.wide) {
-            return Checked::Failed(6);
+        if !text::utf16::is_text(Part {
+            bytes: &s[p..next],
+            wide: d.wide,
+        }) {
+            return Err(Refusal::IllFormedName);
         }
         p = next;
-        h = h + 2;
-        left = left - 1;
     }
-    if p == end {
-        return Checked::Passed;
+    if p != end {
+        return Err(Refusal::StringsLeft);
     }
-    Checked::Failed(7)
+    Ok(())
 }
 
 // Past the version: the hashes, the headers, the strings.
-fn read_body(s: &[u8], at: usize, count: usize, room: usize) -> NameBatch
+fn read_body(s: &[u8], at: usize, count: usize, room: usize) -> Result<Names, Refusal>
     requires { (at ≤ length s.now) × (count < 4294967296) × (room < 4294967296) }
-    ensures { result ≡ batched (walk (body count room) s.now at) }
+    ensures { numbered result ≡ batched (walk (body count room) s.now at) }
 {
     let end = s.len();
     let headers = at + 8 * count;
     if end < headers {
-        return NameBatch::Refused(3);
+        return Err(Refusal::Cut);
     }
     let strings = headers + 2 * count;
     if end < strings {
-        return NameBatch::Refused(3);
+        return Err(Refusal::Cut);
     }
     let next = strings + room;
     if end < next {
-        return NameBatch::Refused(3);
+        return Err(Refusal::Cut);
     }
-    match check_names(s, count, headers, strings, next) {
-        Checked::Failed(r) => NameBatch::Refused(r),
-        Checked::Passed => NameBatch::Found(Names {
-            count,
-            headers,
-            strings,
-            end: next,
-        }),
-    }
+    check_names(s, count, headers, strings, next)?;
+    Ok(Names {
+        count,
+        headers,
+        strings,
+        end: next,
+    })
 }
 
 // Past a count that is not 0: the length of the strings, the version, the body.
-fn read_some(s: &[u8], at: usize, count: usize) -> NameBatch
+fn read_some(s: &[u8], at: usize, count: usize) -> Result<Names, Refusal>
     requires { (at ≤ length s.now) × (count < 4294967296) }
-    ensures { result ≡ batched (walk (some_names count) s.now at) }
+    ensures { numbered result ≡ batched (walk (some_names count) s.now at) }
 {
     let end = s.len();
     let version = at + 4;
     if end < version {
-        return NameBatch::Refused(3);
+        return Err(Refusal::Cut);
     }
     let room = reader::u32_le(s, at);
     let next = version + 8;
     if end < next {
-        return NameBatch::Refused(3);
+        return Err(Refusal::Cut);
     }
     if reader::u64_le(s, version) != 0xC1640000 {
-        return NameBatch::Refused(4);
+        return Err(Refusal::HashVersion);
     }
     read_body(s, next, count, room)
 }
 
 // The batch at a position.
-pub fn read_batch(s: &[u8], at: usize) -> NameBatch
+pub fn read_batch(s: &[u8], at: usize) -> Result<Names, Refusal>
     requires { at ≤ length s.now }
-    ensures { result ≡ batched (walk batch s.now at) }
+    ensures { numbered result ≡ batched (walk batch s.now at) }
 {
     let next = at + 4;
     if s.len() < next {
-        return NameBatch::Refused(3);
+        return Err(Refusal::Cut);
     }
     let count = reader::u32_le(s, at);
     if count == 0 {
-        return NameBatch::Found(Names {
+        return Ok(Names {
             count: 0,
             headers: next,
             strings: next,

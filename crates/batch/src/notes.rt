@@ -21,15 +21,10 @@ fn note_each(s: &[u8], n: Names, notes: &mut [u32; NOTES])
     requires { Held s.now n × (n.count < note_count) × (length notes.old ≡ note_count) }
     ensures { Noted s.now n notes.new × (length notes.new ≡ note_count) }
 {
-    let mut h = n.headers;
     let mut p: usize = 0;
-    let mut k: usize = 0;
-    while k < n.count {
+    for k in 0..n.count {
         notes[k] = p as u32;
-        let d = read_head(s, h);
-        p += d.size;
-        h += 2;
-        k += 1;
+        p += read_head(s, n.headers + 2 * k).size;
     }
 }
 
@@ -39,20 +34,14 @@ fn note_some(s: &[u8], n: Names, notes: &mut [u32; NOTES])
     ensures { Noted s.now n notes.new × (length notes.new ≡ note_count) }
 {
     let step = step_of(n.count);
-    let strings = n.strings;
-    let mut h = n.headers;
     let mut p = n.strings;
-    let mut left = n.count;
-    let mut k: usize = 0;
-    while k < NOTES {
-        notes[k] = (p - strings) as u32;
-        if left < step {
+    for k in 0..NOTES {
+        notes[k] = (p - n.strings) as u32;
+        let before = step * k;
+        if n.count - before < step {
             return;
         }
-        p = name_start(s, h, p, step);
-        h = h + 2 * step;
-        left = left - step;
-        k = k + 1;
+        p = name_start(s, n.headers + 2 * before, p, step);
     }
 }
 
@@ -68,19 +57,13 @@ pub fn note_names(s: &[u8], n: Names, notes: &mut [u32; NOTES])
     }
 }
 
-fn wide(x: u32) -> usize
-    ensures { result ≡ x }
-{
-    x as usize
-}
-
 // Where name i starts, from the nearest note before it.
 fn start_of(s: &[u8], n: Names, notes: &[u32; NOTES], i: usize) -> usize
     requires { Held s.now n × (i < n.count) × Noted s.now n notes.now }
     ensures { result ≡ name_start s.now n.headers n.strings i }
 {
     if n.count < NOTES {
-        return n.strings + wide(notes[i]);
+        return n.strings + notes[i] as usize;
     }
     let step = step_of(n.count);
     let k = i / step;
@@ -88,7 +71,7 @@ fn start_of(s: &[u8], n: Names, notes: &[u32; NOTES], i: usize) -> usize
     name_start(
         s,
         n.headers + 2 * before,
-        n.strings + wide(notes[k]),
+        n.strings + notes[k] as usize,
         i - before,
     )
 }
@@ -99,10 +82,5 @@ pub fn place_at(s: &[u8], n: Names, notes: &[u32; NOTES], i: usize) -> Place
     ensures { result ≡ place_at s.now n i }
 {
     let start = start_of(s, n, notes, i);
-    let d = read_head(s, n.headers + 2 * i);
-    Place {
-        start,
-        size: d.size,
-        wide: d.wide,
-    }
+    Place::at(start, read_head(s, n.headers + 2 * i))
 }

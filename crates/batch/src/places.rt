@@ -2,7 +2,7 @@
 ghost use Rattle.std.specs.Prelude.{◌≡◌, ◌+◌, ◌*◌, ◌≤◌, length};
 ghost use Rattle.batch.specs.Places.{name_start};
 
-use super::names::read_head;
+use super::names::{Head, read_head};
 
 // Where a name's text stands in its block.
 #[derive(Clone, Copy)]
@@ -12,19 +12,27 @@ pub struct Place {
     pub wide: bool,
 }
 
+impl Place {
+    // The place of a name, by where its text starts and by its header.
+    pub fn at(start: usize, head: Head) -> Place
+        ensures { result ≡ record { start = start; size = head.size; wide = head.wide } }
+    {
+        Place {
+            start,
+            size: head.size,
+            wide: head.wide,
+        }
+    }
+}
+
 // Where the i-th name from a header and a string on starts.
 pub fn name_start(s: &[u8], from: usize, first: usize, i: usize) -> usize
     requires { (from + 2 * i ≤ length s.now) × (name_start s.now from first i ≤ length s.now) }
     ensures { result ≡ name_start s.now from first i }
 {
-    let mut h = from;
     let mut p = first;
-    let mut left = i;
-    while 0 < left {
-        let d = read_head(s, h);
-        p = p + d.size;
-        h = h + 2;
-        left = left - 1;
+    for k in 0..i {
+        p += read_head(s, from + 2 * k).size;
     }
     p
 }

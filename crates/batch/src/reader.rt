@@ -7,7 +7,7 @@ pub fn byte(s: &[u8], at: usize) -> usize
     requires { at + 1 ≤ length s.now }
     ensures { (result ≡ get_or s.now at 0) × (result < 256) }
 {
-    s[at] as usize
+    usize::from(s[at])
 }
 
 // The number of four bytes.

@@ -10,6 +10,7 @@ ghost use Rattle.batch.specs.Places.{part_at};
 ghost use Rattle.batch.specs.Holds.{text_at, name_at, Holds, place_without};
 
 use super::places::Place;
+use text::text::{Part, Text};
 
 // The bytes at a place.
 pub fn part_of(b: &[u8], p: Place) -> &[u8]
@@ -21,12 +22,26 @@ pub fn part_of(b: &[u8], p: Place) -> &[u8]
     &b[start..end]
 }
 
+// The text at a place.
+pub fn text_of<'a>(b: &'a [u8], p: Place) -> Text<'a>
+    requires { Holds b.now p (text_at b.now p) }
+    ensures { (result.part.wide ≡ p.wide) × (result.part.bytes.now ≡ part_at b.now p) }
+{
+    let bytes = part_of(b, p);
+    Text {
+        part: Part {
+            bytes,
+            wide: p.wide,
+        },
+    }
+}
+
 // How many bytes of UTF-8 the name takes.
 pub fn place_len(b: &[u8], p: Place, number: u32) -> usize
     requires { Holds b.now p (text_at b.now p) }
     ensures { (result ≡ length (utf8 (name_at b.now p number))) × (result ≤ 131089) }
 {
-    text::plain::name_len(part_of(b, p), p.wide, number)
+    text::plain::name_len(text_of(b, p), number)
 }
 
 // The name.
@@ -34,7 +49,7 @@ pub fn put_place(out: &mut [u8], b: &[u8], p: Place, number: u32) -> usize
     requires { Holds b.now p (text_at b.now p) × (length (utf8 (name_at b.now p number)) ≤ length out.old) }
     ensures { Wrote out.old (utf8 (name_at b.now p number)) out.new result }
 {
-    text::plain::put_name(out, part_of(b, p), p.wide, number)
+    text::plain::put_name(out, text_of(b, p), number)
 }
 
 // The name as a text: its length in 4 bytes, then its bytes.
@@ -42,7 +57,7 @@ pub fn put_place_text(out: &mut [u8], b: &[u8], p: Place, number: u32) -> usize
     requires { Holds b.now p (text_at b.now p) × (length (text_bytes (name_at b.now p number)) ≤ length out.old) }
     ensures { Wrote out.old (text_bytes (name_at b.now p number)) out.new result }
 {
-    text::plain::put_name_text(out, part_of(b, p), p.wide, number)
+    text::plain::put_name_text(out, text_of(b, p), number)
 }
 
 // Whether the text starts with an ASCII text.
@@ -50,7 +65,7 @@ pub fn place_starts_with(b: &[u8], p: Place, affix: &[u8]) -> bool
     requires { Holds b.now p (text_at b.now p) × (all_ascii affix.now ≡ true) }
     ensures { result ≡ starts_with (text_at b.now p) affix.now }
 {
-    text::affix::starts_with(part_of(b, p), p.wide, affix)
+    text::affix::starts_with(text_of(b, p), affix)
 }
 
 // Whether the text ends in an ASCII text.
@@ -58,7 +73,14 @@ pub fn place_ends_with(b: &[u8], p: Place, affix: &[u8]) -> bool
     requires { Holds b.now p (text_at b.now p) × (all_ascii affix.now ≡ true) }
     ensures { result ≡ ends_with (text_at b.now p) affix.now }
 {
-    text::affix::ends_with(part_of(b, p), p.wide, affix)
+    text::affix::ends_with(text_of(b, p), affix)
+}
+
+// How many bytes a unit takes.
+fn unit_size(wide: bool) -> usize
+    ensures { result ≡ unit_size wide }
+{
+    if wide { 2 } else { 1 }
 }
 
 // The place without its last n units.
@@ -66,16 +88,9 @@ pub fn place_without(p: Place, n: usize) -> Place
     requires { unit_size p.wide * n ≤ p.size }
     ensures { result ≡ place_without p n }
 {
-    if p.wide {
-        return Place {
-            start: p.start,
-            size: p.size - 2 * n,
-            wide: true,
-        };
-    }
     Place {
         start: p.start,
-        size: p.size - n,
-        wide: false,
+        size: p.size - unit_size(p.wide) * n,
+        wide: p.wide,
     }
 }

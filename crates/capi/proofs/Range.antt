@@ -1,33 +1,18 @@
--- Question 29 by the code's own comparisons, and what a call gives where its test passes or fails.
+-- What a call gives where the test of question 29 passes or fails.
 use mathlib.Core.Path.{◌≡◌, sym, ◌∙◌}
 use mathlib.Core.Bool.{Bool, true, false}
 use mathlib.Core.Logic.{inl, inr}
 use mathlib.Core.List.{List}
-use Prim.Native.Nat.{ℕ, ◌<◌, ◌≤◌}
-use native.Mathlib.Omega.{arith}
-use borrow.Author.Tests.{le-leb}
-use lib.Dec.{leb}
+use Prim.Native.Nat.{ℕ, ◌≤◌}
 use Rattle.base.specs.Answer.{refusal}
 use Rattle.base.specs.Never.{never}
 use Rattle.meaning.specs.Resolve.{limits_of}
 use Rattle.meaning.specs.Call.{outcome, number_of, buffer_after}
 use Rattle.meaning.specs.Limited.{in_range, answer_within}
-use Rattle.meaning.proofs.LimitedLaws.{Tested, ranged, out_of_range}
+use Rattle.meaning.proofs.LimitedLaws.{Tested, ranged}
 use Rattle.claims.specs.Claims.{Called}
 
 module _ (lookups objects : ℕ) where
-  pub no_lookups : lookups ≡ 0 → false ≡ in_range (limits_of lookups objects)
-  no_lookups e = sym (out_of_range (limits_of lookups objects) (inl (inl e)))
-
-  pub many-lookups : 64 < lookups → false ≡ in_range (limits_of lookups objects)
-  many-lookups h = sym (out_of_range (limits_of lookups objects) (inl (inr h)))
-
-  pub no_objects_lem : objects ≡ 0 → false ≡ in_range (limits_of lookups objects)
-  no_objects_lem e = sym (out_of_range (limits_of lookups objects) (inr (inl e)))
-
-  pub objects_say : (lookups ≡ 0 → ⊥) → lookups ≤ 64 → (objects ≡ 0 → ⊥) → leb objects 65 ≡ in_range (limits_of lookups objects)
-  objects_say a b c = rw (le-leb 1 lookups (omega arith), le-leb lookups 64 b, le-leb 1 objects (omega arith))
-
   -- the object limit, as the inner call asks it; t: what the test said
   pub few-objects : (t : Bool) → t ≡ in_range (limits_of lookups objects) → t ≡ true → objects ≤ 65
   few-objects t e h = go (ranged (limits_of lookups objects))

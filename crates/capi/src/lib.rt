@@ -6,7 +6,7 @@ ghost use Rattle.claims.specs.Claims.{Called};
 ghost use Rattle.claims.specs.Header as Header;
 ghost use Rattle.claims.specs.Verify as Verify;
 
-use base::answer::refuse;
+use base::refusal::{Refusal, Refused};
 use limits::in_range;
 
 mod limits; // question 29
@@ -25,7 +25,11 @@ pub extern "C" fn class_report(
     if in_range(lookups, objects) {
         return report::call::class_report(corpus, work, report, lookups as usize, objects as usize);
     }
-    refuse(29, 0)
+    Refused {
+        why: Refusal::Limits,
+        block: 0,
+    }
+    .number()
 }
 
 // A build's own hashes (document 02, Q-2): its counts, and a flag for each package. `work` may have any length, and the answer is the same; with twice

@@ -7,14 +7,5 @@ ghost use Rattle.meaning.specs.Resolve.{limits_of};
 pub fn in_range(lookups: u32, objects: u32) -> bool
     ensures { result ≡ in_range (limits_of lookups objects) }
 {
-    if lookups == 0 {
-        return false;
-    }
-    if 64 < lookups {
-        return false;
-    }
-    if objects == 0 {
-        return false;
-    }
-    objects <= 65
+    (1..=64).contains(&lookups) && (1..=65).contains(&objects)
 }

@@ -1,9 +1,9 @@
 -- Laws of the hash: of the few bytes or words of a short text, and of a text that is read 64 bytes at a time. Assumes nothing.
-use Rattle.std.specs.Prelude.{◌≡◌, ℕ, zero, suc, ◌+◌, ◌-◌, ◌/◌, ◌<◌, ◌≤◌, List, length, take, drop, slice_index, refl}
-use Rattle.std.proofs.Common.{sym, ap, ◌∙◌, zero-add, not-suc-le-zero, sub-one, arith, lit≤, drop-drop}
+use Rattle.std.specs.Prelude.{◌≡◌, ℕ, zero, suc, ◌+◌, ◌-◌, ◌*◌, ◌/◌, ◌<◌, ◌≤◌, List, ◌++◌, length, take, drop, slice_index, refl}
+use Rattle.std.proofs.Common.{sym, ap, ◌∙◌, zero-add, not-suc-le-zero, sub-one, arith, lit≤, drop-drop, length-append, take_at, drop_at, take-take, length-take-le}
 use borrow.Author.Tests.{le-leb, lt-leb, lt-ltb}
 use Rattle.base.specs.Number.{le_at}
-use Rattle.base.specs.NumberLaws.{le_at-part}
+use Rattle.base.specs.NumberLaws.{le_at-part, drop-take}
 use Rattle.city.specs.City.{k2, hash_bytes, hash_halves, hash_two, hash_four, len1to3, len4to7, len8to16, len0to16, len17to32}
 use Rattle.city.specs.City.{weak_at, next_v, next_w, turn, turns, start, finish, longer, city_hash64}
 use Rattle.city.specs.declared.city.State.{State}
@@ -88,6 +88,27 @@ pub turns_end : (k : ℕ) (s : List ℕ) (t : State) → k ≤ 0 → turns k s t
 unfolding turns
 turns_end zero s t h = refl
 turns_end (suc k) s t h = absurd (not-suc-le-zero h)
+
+-- the same over a text that is cut into chunks of 64 bytes: the turn over the first, and the rest
+pub turns_chunk : (x s : List ℕ) (t : State) → length x ≡ 64 → turns (length (x ++ s) / 64) (x ++ s) t ≡ turns (length s / 64) s (turn x t)
+turns_chunk x s t h =
+    let e : length (x ++ s) / 64 ≡ suc (length s / 64) = rw (length-append x s) (omega arith) in
+    rw (e, turns-step (length s / 64) (x ++ s) t, take_at x s 64 h, drop_at x s 64 h)
+
+-- turns read no more than 64 bytes each
+pub turns_take : (k m : ℕ) (s : List ℕ) (t : State) → k * 64 ≤ m → turns k (take m s) t ≡ turns k s t
+turns_take zero m s t h = turns_end 0 (take m s) t (omega arith) ∙ sym (turns_end 0 s t (omega arith))
+turns_take (suc k) m s t h =
+    let l : 64 ≤ m = omega arith in
+    rw (turns-step k (take m s) t, turns-step k s t, take-take 64 m s l, drop-take 64 m s, turns_take k (m - 64) (drop 64 s) (turn (take 64 s) t) (omega arith))
+
+-- all turns over a text, where those over the whole chunks of all its bytes but the last are done and less than a chunk is left
+pub turns_done : (s all rest : List ℕ) (t before : State) → all ≡ take (length s - 1) s → length rest < 64
+    → turns (length rest / 64) rest t ≡ turns (length all / 64) all before → t ≡ turns ((length s - 1) / 64) s before
+turns_done s all rest t before e l h =
+    let none : length rest / 64 ≤ 0 = omega arith in
+    let n : length all ≡ length s - 1 = rw e (length-take-le (length s - 1) s (omega arith)) in
+    sym (turns_end (length rest / 64) rest t none) ∙ (h ∙ rw (n, e) (turns_take ((length s - 1) / 64) (length s - 1) s before (omega arith)))
 
 -- the hash of more than 64 bytes: of its last 64, its first word and the turns
 pub long-is : (s : List ℕ) → 64 < length s

@@ -6,7 +6,7 @@ ghost use Rattle.city.specs.City.{swap_mul, mix_u, mix_v, mix_y, mix_last, mix8,
 ghost use Rattle.city.specs.City.{weak32, weak_at, next_x, next_y, next_z, next_v, next_w, turn, start, finish, longer, city_hash64};
 
 use super::word::{add, mul, rotate, swap64};
-use base::number::{le32, le64, wide64};
+use base::number::{le32, le64};
 
 const K0: u64 = 0xc3a5_c85c_97cb_3127;
 
@@ -48,8 +48,8 @@ pub fn hash_bytes(n: usize, a: u8, b: u8, c: u8) -> u64
     requires { n ≤ 64 }
     ensures { result ≡ hash_bytes n a b c }
 {
-    let y = wide64(a) + (wide64(b) << 8);
-    let z = n as u64 + (wide64(c) << 2);
+    let y = u64::from(a) + (u64::from(b) << 8);
+    let z = n as u64 + (u64::from(c) << 2);
     mul(shift_mix(mul(y, K2) ^ mul(z, K0)), K2)
 }
 
@@ -66,7 +66,7 @@ pub fn hash_halves(n: usize, a: u32, b: u32) -> u64
     requires { n ≤ 64 }
     ensures { result ≡ hash_halves n a b }
 {
-    hash_len16_mul(n as u64 + ((a as u64) << 3), b as u64, mul_of(n))
+    hash_len16_mul(n as u64 + (u64::from(a) << 3), u64::from(b), mul_of(n))
 }
 
 fn hash_len4to7(s: &[u8]) -> u64
@@ -152,39 +152,64 @@ fn swap_mul(x: u64, m: u64) -> u64
     swap64(mul(x, m))
 }
 
-fn mix_u(a: u64, b: u64, c: u64, g: u64) -> u64
-    ensures { result ≡ mix_u a b c g }
-{
-    add(rotate(add(a, g), 43), mul(add(rotate(b, 30), c), 9))
+// The eight words that are read of 33 to 64 bytes, some of them multiplied, and the multiplier of their number.
+#[derive(Clone, Copy)]
+struct EightWords {
+    a: u64,
+    b: u64,
+    c: u64,
+    d: u64,
+    e: u64,
+    f: u64,
+    g: u64,
+    h: u64,
+    m: u64,
 }
 
-fn mix_v(a: u64, d: u64, f: u64, g: u64) -> u64
-    ensures { result ≡ mix_v a d f g }
-{
-    add(add(add(a, g) ^ d, f), 1)
-}
+impl EightWords {
+    fn mix_u(self) -> u64
+        ensures { result ≡ mix_u self.a self.b self.c self.g }
+    {
+        add(
+            rotate(add(self.a, self.g), 43),
+            mul(add(rotate(self.b, 30), self.c), 9),
+        )
+    }
 
-fn mix_y(u: u64, v: u64, g: u64, h: u64, m: u64) -> u64
-    ensures { result ≡ mix_y u v g h m }
-{
-    let w = add(swap_mul(add(u, v), m), h);
-    mul(add(swap_mul(add(v, w), m), g), m)
-}
+    fn mix_v(self) -> u64
+        ensures { result ≡ mix_v self.a self.d self.f self.g }
+    {
+        add(add(add(self.a, self.g) ^ self.d, self.f), 1)
+    }
 
-fn mix_last(x: u64, y: u64, z: u64, b: u64, d: u64, h: u64, m: u64) -> u64
-    ensures { result ≡ mix_last x y z b d h m }
-{
-    let a = add(swap64(add(mul(add(x, z), m), y)), b);
-    add(mul(shift_mix(add(add(mul(add(z, a), m), d), h)), m), x)
-}
+    fn mix_y(self, u: u64, v: u64) -> u64
+        ensures { result ≡ mix_y u v self.g self.h self.m }
+    {
+        let w = add(swap_mul(add(u, v), self.m), self.h);
+        mul(add(swap_mul(add(v, w), self.m), self.g), self.m)
+    }
 
-fn mix_eight(a: u64, b: u64, c: u64, d: u64, e: u64, f: u64, g: u64, h: u64, m: u64) -> u64
-    ensures { result ≡ mix8 a b c d e f g h m }
-{
-    let x = add(rotate(add(e, f), 42), c);
-    let y = mix_y(mix_u(a, b, c, g), mix_v(a, d, f, g), g, h, m);
-    let z = add(add(e, f), c);
-    mix_last(x, y, z, b, d, h, m)
+    fn mix_last(self, x: u64, y: u64, z: u64) -> u64
+        ensures { result ≡ mix_last x y z self.b self.d self.h self.m }
+    {
+        let a = add(swap64(add(mul(add(x, z), self.m), y)), self.b);
+        add(
+            mul(
+                shift_mix(add(add(mul(add(z, a), self.m), self.d), self.h)),
+                self.m,
+            ),
+            x,
+        )
+    }
+
+    fn mix_eight(self) -> u64
+        ensures { result ≡ mix8 self.a self.b self.c self.d self.e self.f self.g self.h self.m }
+    {
+        let x = add(rotate(add(self.e, self.f), 42), self.c);
+        let y = self.mix_y(self.mix_u(), self.mix_v());
+        let z = add(add(self.e, self.f), self.c);
+        self.mix_last(x, y, z)
+    }
 }
 
 fn hash_len33to64(s: &[u8]) -> u64
@@ -193,15 +218,18 @@ fn hash_len33to64(s: &[u8]) -> u64
 {
     let n = s.len();
     let m = mul_of(n);
-    let a = mul(le64(s, 0), K2);
-    let b = le64(s, 8);
-    let c = le64(s, n - 24);
-    let d = le64(s, n - 32);
-    let e = mul(le64(s, 16), K2);
-    let f = mul(le64(s, 24), 9);
-    let g = le64(s, n - 8);
-    let h = mul(le64(s, n - 16), m);
-    mix_eight(a, b, c, d, e, f, g, h, m)
+    let words = EightWords {
+        a: mul(le64(s, 0), K2),
+        b: le64(s, 8),
+        c: le64(s, n - 24),
+        d: le64(s, n - 32),
+        e: mul(le64(s, 16), K2),
+        f: mul(le64(s, 24), 9),
+        g: le64(s, n - 8),
+        h: mul(le64(s, n - 16), m),
+        m,
+    };
+    words.mix_eight()
 }
 
 #[derive(Clone, Copy)]
@@ -244,102 +272,110 @@ fn weak_at(s: &[u8], i: usize, a: u64, b: u64) -> Pair
     weak_hash_len32_with_seeds(f0, f1, f2, f3, a, b)
 }
 
-fn next_x(x: u64, y: u64, v0: u64, w1: u64, f: u64) -> u64
-    ensures { result ≡ next_x x y v0 w1 f }
-{
-    mul(rotate(add(add(add(x, y), v0), f), 37), K1) ^ w1
-}
+impl State {
+    fn next_x(self, f: u64) -> u64
+        ensures { result ≡ next_x self.x self.y self.v.first self.w.second f }
+    {
+        mul(
+            rotate(add(add(add(self.x, self.y), self.v.first), f), 37),
+            K1,
+        ) ^ self.w.second
+    }
 
-fn next_y(y: u64, v0: u64, v1: u64, f: u64, g: u64) -> u64
-    ensures { result ≡ next_y y v0 v1 f g }
-{
-    add(mul(rotate(add(add(y, v1), f), 42), K1), add(v0, g))
-}
+    fn next_y(self, f: u64, g: u64) -> u64
+        ensures { result ≡ next_y self.y self.v.first self.v.second f g }
+    {
+        add(
+            mul(rotate(add(add(self.y, self.v.second), f), 42), K1),
+            add(self.v.first, g),
+        )
+    }
 
-fn next_z(z: u64, w0: u64) -> u64
-    ensures { result ≡ next_z z w0 }
-{
-    mul(rotate(add(z, w0), 33), K1)
-}
+    fn next_z(self) -> u64
+        ensures { result ≡ next_z self.z self.w.first }
+    {
+        mul(rotate(add(self.z, self.w.first), 33), K1)
+    }
 
-fn next_v(s: &[u8], v1: u64, x: u64, w0: u64) -> Pair
-    requires { 64 ≤ length s.now }
-    ensures { result ≡ next_v s.now v1 x w0 }
-{
-    weak_at(s, 0, mul(v1, K1), add(x, w0))
-}
+    fn next_v(self, s: &[u8], x: u64) -> Pair
+        requires { 64 ≤ length s.now }
+        ensures { result ≡ next_v s.now self.v.second x self.w.first }
+    {
+        weak_at(s, 0, mul(self.v.second, K1), add(x, self.w.first))
+    }
 
-fn next_w(s: &[u8], z: u64, w1: u64, y: u64) -> Pair
-    requires { 64 ≤ length s.now }
-    ensures { result ≡ next_w s.now z w1 y }
-{
-    weak_at(s, 32, add(z, w1), add(y, le64(s, 16)))
-}
+    fn next_w(self, s: &[u8], y: u64, z: u64) -> Pair
+        requires { 64 ≤ length s.now }
+        ensures { result ≡ next_w s.now z self.w.second y }
+    {
+        weak_at(s, 32, add(z, self.w.second), add(y, le64(s, 16)))
+    }
 
-// One turn, over the first 64 bytes of s.
-pub fn one_turn(s: &[u8], t: State) -> State
-    requires { 64 ≤ length s.now }
-    ensures { result ≡ turn s.now t }
-{
-    let x = next_x(t.x, t.y, t.v.first, t.w.second, le64(s, 8));
-    let y = next_y(t.y, t.v.first, t.v.second, le64(s, 48), le64(s, 40));
-    let z = next_z(t.z, t.w.first);
-    let v = next_v(s, t.v.second, x, t.w.first);
-    let w = next_w(s, z, t.w.second, y);
-    State {
-        x: z,
-        y: y,
-        z: x,
-        v: v,
-        w: w,
+    // The state before the first turn over a text of n bytes, of its last 64 bytes and its first word.
+    pub fn first_state(n: u64, last: &[u8], first: u64) -> State
+        requires { 64 ≤ length last.now }
+        ensures { result ≡ start n last.now first }
+    {
+        let x = le64(last, 24);
+        let y = add(le64(last, 48), le64(last, 8));
+        let z = hash_len16(add(le64(last, 16), n), le64(last, 40));
+        let v = weak_at(last, 0, n, z);
+        let w = weak_at(last, 32, add(y, K1), x);
+        State {
+            x: add(mul(x, K1), first),
+            y,
+            z,
+            v,
+            w,
+        }
+    }
+
+    // One turn, over the first 64 bytes of s.
+    pub fn one_turn(self, s: &[u8]) -> State
+        requires { 64 ≤ length s.now }
+        ensures { result ≡ turn s.now self }
+    {
+        let x = self.next_x(le64(s, 8));
+        let y = self.next_y(le64(s, 48), le64(s, 40));
+        let z = self.next_z();
+        let v = self.next_v(s, x);
+        let w = self.next_w(s, y, z);
+        State {
+            x: z,
+            y,
+            z: x,
+            v,
+            w,
+        }
+    }
+
+    // The hash of the state after the last turn.
+    pub fn last_mix(self) -> u64
+        ensures { result ≡ finish self }
+    {
+        let a = add(
+            add(
+                hash_len16(self.v.first, self.w.first),
+                mul(shift_mix(self.y), K1),
+            ),
+            self.z,
+        );
+        let b = add(hash_len16(self.v.second, self.w.second), self.x);
+        hash_len16(a, b)
     }
 }
 
-// The state before the first turn over a text of n bytes, of its last 64 bytes and its first word.
-pub fn first_state(n: u64, last: &[u8], first: u64) -> State
-    requires { 64 ≤ length last.now }
-    ensures { result ≡ start n last.now first }
-{
-    let x = le64(last, 24);
-    let y = add(le64(last, 48), le64(last, 8));
-    let z = hash_len16(add(le64(last, 16), n), le64(last, 40));
-    let v = weak_at(last, 0, n, z);
-    let w = weak_at(last, 32, add(y, K1), x);
-    State {
-        x: add(mul(x, K1), first),
-        y: y,
-        z: z,
-        v: v,
-        w: w,
-    }
-}
-
-// The hash of the state after the last turn.
-pub fn last_mix(t: State) -> u64
-    ensures { result ≡ finish t }
-{
-    let a = add(
-        add(hash_len16(t.v.first, t.w.first), mul(shift_mix(t.y), K1)),
-        t.z,
-    );
-    let b = add(hash_len16(t.v.second, t.w.second), t.x);
-    hash_len16(a, b)
-}
-
+// CityHash64 of more than 64 bytes: a state of the first word and the last 64 bytes, and a turn over each chunk of all but the last byte.
 fn hash_longer(s: &[u8]) -> u64
     requires { 64 < length s.now }
     ensures { result ≡ longer s.now }
 {
     let n = s.len();
-    let mut t = first_state(n as u64, &s[n - 64..], le64(s, 0));
-    let mut at: usize = 0;
-    let mut left = (n - 1) >> 6;
-    while 0 < left {
-        t = one_turn(&s[at..], t);
-        at += 64;
-        left -= 1;
+    let mut t = State::first_state(n as u64, &s[n - 64..], le64(s, 0));
+    for chunk in s[..n - 1].chunks_exact(64) {
+        t = t.one_turn(chunk);
     }
-    last_mix(t)
+    t.last_mix()
 }
 
 // CityHash64 of up to 32 bytes: apart from the longer branches, which have registers to save.

@@ -1,5 +1,5 @@
 -- Laws of UTF-8 read one character at a time: the table of RFC 3629 gives what decoding gives. Assumes nothing.
-use Rattle.std.specs.Prelude.{◌≡◌, refl, Bool, false, List, [], ◌∷◌, ◌++◌, ℕ, ◌+◌, ◌-◌, ◌/◌, ◌%◌, ◌≤◌, ◌<◌, leb, length, get_or, drop}
+use Rattle.std.specs.Prelude.{◌≡◌, refl, Bool, false, List, [], ◌∷◌, ◌++◌, ℕ, ◌+◌, ◌-◌, ◌/◌, ◌%◌, ◌≤◌, ◌<◌, leb, length, get_or, drop, Option, None, Some}
 use Rattle.std.proofs.Common.{sym, ◌∙◌, inl, inr, leb-true}
 use Rattle.std.proofs.Math.Path.{ap}
 use Rattle.std.proofs.Math.Bool.{true}
@@ -11,29 +11,28 @@ use Rattle.text.specs.Utf16.{ill, more, Scalar}
 use Rattle.text.specs.Utf8.{utf8_one, from_utf8}
 use Rattle.text.specs.Utf8Laws.{utf8_1, utf8_2, utf8_3, utf8_4, Sized, one, two, three, four, sized, utf8-read}
 use Rattle.decode.specs.declared.chars.Char.{Char}
-use Rattle.decode.specs.declared.chars.Char.TheVariants.{Of, Ill}
 use Rattle.decode.specs.ReadLaws.{First, empty, starts, broken, first}
-use Rattle.decode.specs.Chars.{Range, is_two, is_three, is_four, joined, char_by, char_of}
+use Rattle.decode.specs.Chars.{Range, is_two, is_three, is_four, joined, char_by, char_of, a_char}
 use Rattle.decode.specs.TableLaws.{Second}
 use Rattle.decode.proofs.TableLaws.{inside, second-true, two_is, three-is, four_is, by_one, by_two, by_three, by-four}
 pub use Rattle.decode.specs.CharLaws.{Starts}
 
 -- a scalar value's bytes are in the table
 module _ (c : ℕ) (s : List ℕ) where
-  encoded_1 : c < 0x80 → char_of (utf8_one c ++ s) ≡ Of c 1
+  encoded_1 : c < 0x80 → char_of (utf8_one c ++ s) ≡ a_char c 1
   unfolding char_of
   encoded_1 h = rw (utf8_1 h) (by_one c _ _ _ (omega arith))
 
-  encoded_2 : 0x80 ≤ c → c < 0x800 → char_of (utf8_one c ++ s) ≡ Of c 2
+  encoded_2 : 0x80 ≤ c → c < 0x800 → char_of (utf8_one c ++ s) ≡ a_char c 2
   unfolding char_of is_two
   encoded_2 l h =
       let a = 192 + c / 64 in
       let b = 128 + c % 64 in
       let t : is_two a b ≡ true = rw (inside 0xC2 0xDF a (omega arith) (omega arith), inside 0x80 0xBF b (omega arith) (omega arith)) in
       let v : joined (a - 0xC0) b ≡ c = omega arith in
-      rw (utf8_2 l h) (by_two a b _ _ (omega arith) t ∙ ap (λ (x : ℕ). Of x 2) v)
+      rw (utf8_2 l h) (by_two a b _ _ (omega arith) t ∙ ap (λ (x : ℕ). a_char x 2) v)
 
-  encoded_3 : 0x800 ≤ c → c < 0x10000 → Scalar c → char_of (utf8_one c ++ s) ≡ Of c 3
+  encoded_3 : 0x800 ≤ c → c < 0x10000 → Scalar c → char_of (utf8_one c ++ s) ≡ a_char c 3
   unfolding char_of is_three
   encoded_3 l h z =
       let a = 224 + c / 4096 in
@@ -50,9 +49,9 @@ module _ (c : ℕ) (s : List ℕ) where
       let t : is_three a b d ≡ true =
       rw (inside 0xE0 0xEF a (omega arith) (omega arith), second-true a b k, inside 0x80 0xBF d (omega arith) (omega arith)) in
       let v : joined (joined (a - 0xE0) b) d ≡ c = omega arith in
-      rw (utf8_3 l h) (by_three a b d _ (omega arith) t ∙ ap (λ (x : ℕ). Of x 3) v)
+      rw (utf8_3 l h) (by_three a b d _ (omega arith) t ∙ ap (λ (x : ℕ). a_char x 3) v)
 
-  encoded_4 : 0x10000 ≤ c → c < 0x110000 → char_of (utf8_one c ++ s) ≡ Of c 4
+  encoded_4 : 0x10000 ≤ c → c < 0x110000 → char_of (utf8_one c ++ s) ≡ a_char c 4
   unfolding char_of is_four
   encoded_4 l h =
       let a = 240 + c / 262144 in
@@ -77,18 +76,18 @@ module _ (c : ℕ) (s : List ℕ) where
       let i : joined (a - 0xF0) b ≡ c / 4096 = omega arith in
       let j : joined (c / 4096) d ≡ c / 64 = omega arith in
       let v : joined (joined (joined (a - 0xF0) b) d) f ≡ c = rw (i, j) (omega arith) in
-      rw (utf8_4 l) (by-four a b d f (omega arith) t ∙ ap (λ (x : ℕ). Of x 4) v)
+      rw (utf8_4 l) (by-four a b d f (omega arith) t ∙ ap (λ (x : ℕ). a_char x 4) v)
 
-pub char-encoded : (c : ℕ) (s : List ℕ) → Scalar c → char_of (utf8_one c ++ s) ≡ Of c (length (utf8_one c))
+pub char-encoded : (c : ℕ) (s : List ℕ) → Scalar c → char_of (utf8_one c ++ s) ≡ a_char c (length (utf8_one c))
 char-encoded c s z = go (sized c)
   where
-    go : Sized c → char_of (utf8_one c ++ s) ≡ Of c (length (utf8_one c))
-    go (one h) = encoded_1 c s h ∙ ap (Of c) (sym (ap length (utf8_1 h)))
-    go (two l h) = encoded_2 c s l h ∙ ap (Of c) (sym (ap length (utf8_2 l h)))
-    go (three l h) = encoded_3 c s l h z ∙ ap (Of c) (sym (ap length (utf8_3 l h)))
+    go : Sized c → char_of (utf8_one c ++ s) ≡ a_char c (length (utf8_one c))
+    go (one h) = encoded_1 c s h ∙ ap (a_char c) (sym (ap length (utf8_1 h)))
+    go (two l h) = encoded_2 c s l h ∙ ap (a_char c) (sym (ap length (utf8_2 l h)))
+    go (three l h) = encoded_3 c s l h z ∙ ap (a_char c) (sym (ap length (utf8_3 l h)))
     go (four l) =
         let h : c < 0x110000 = ⊎_elim (λ w. omega arith) (λ w. omega arith) z in
-        encoded_4 c s l h ∙ ap (Of c) (sym (ap length (utf8_4 l)))
+        encoded_4 c s l h ∙ ap (a_char c) (sym (ap length (utf8_4 l)))
 
 back_2 : (a : ℕ) (s : List ℕ) → is_two a (get_or s 0 0) ≡ true → Starts (a ∷ s) (joined (a - 0xC0) (get_or s 0 0)) 2
 back_2 a [] e = let h = two_is a 0 e in absurd (omega arith)
@@ -154,9 +153,9 @@ back_4 a (b ∷ c ∷ d ∷ s) e =
     record { scalar = inr (omega arith, g); size = ap length u; is = rw (u, o, p, q, r) }
 
 -- what char_of says, of a character that starts with byte a
-abbrev Says : List ℕ → Char → Type 0
-Says s (Of c k) = Starts s c k
-Says s Ill = Unit {0}
+abbrev Says : List ℕ → Option Char → Type 0
+Says s (Some c) = Starts s c.value c.size
+Says s None = Unit {0}
 
 says : (s : List ℕ) → Says s (char_of s)
 unfolding char_of char_by
@@ -174,26 +173,26 @@ says (a ∷ s) = go (leb a 0x7F) refl (is_two a b) refl (is_three a b c) refl (i
 
     go : (p : Bool) → leb a 0x7F ≡ p → (q : Bool) → is_two a b ≡ q → (r : Bool) → is_three a b c ≡ r → (t : Bool) → is_four a b c d ≡ t
         → Says (a ∷ s)
-        (choose p (λ _. Of a 1)
-        (λ _. choose q (λ _. Of (joined (a - 0xC0) b) 2)
-        (λ _. choose r (λ _. Of (joined (joined (a - 0xE0) b) c) 3)
-        (λ _. choose t (λ _. Of (joined (joined (joined (a - 0xF0) b) c) d) 4) (λ _. Ill)))))
+        (choose p (λ _. a_char a 1)
+        (λ _. choose q (λ _. a_char (joined (a - 0xC0) b) 2)
+        (λ _. choose r (λ _. a_char (joined (joined (a - 0xE0) b) c) 3)
+        (λ _. choose t (λ _. a_char (joined (joined (joined (a - 0xF0) b) c) d) 4) (λ _. None)))))
     go true e q f r g t h = let u = utf8_1 {c = a} (omega (arith, leb-true a 0x7F e)) in record { scalar = inl (omega (arith, leb-true a 0x7F e)); size = ap length u; is = rw u }
     go false e true f r g t h = back_2 a s f
     go false e false f true g t h = back_3 a s g
     go false e false f false g true h = back_4 a s h
     go false e false f false g false h = tt
 
-pub char-starts : (s : List ℕ) {c k : ℕ} → char_of s ≡ Of c k → Starts s c k
+pub char-starts : (s : List ℕ) {c : Char} → char_of s ≡ Some c → Starts s c.value c.size
 char-starts s e = rw e at (says s)
 
 -- so what bytes mean shows one character at a time
-pub char-more : (s : List ℕ) {c k : ℕ} → char_of s ≡ Of c k → from_utf8 s ≡ more c (from_utf8 (drop k s))
-char-more s {c} {k} e =
+pub char-more : (s : List ℕ) {c : Char} → char_of s ≡ Some c → from_utf8 s ≡ more c.value (from_utf8 (drop c.size s))
+char-more s {c} e =
     let z = char-starts s e in
-    ap from_utf8 (sym z.is) ∙ utf8-read c (drop k s) z.scalar
+    ap from_utf8 (sym z.is) ∙ utf8-read c.value (drop c.size s) z.scalar
 
-pub char-ill : (s : List ℕ) → 0 < length s → char_of s ≡ Ill → from_utf8 s ≡ ill
+pub char-ill : (s : List ℕ) → 0 < length s → char_of s ≡ None → from_utf8 s ≡ ill
 char-ill s l e = go (first s)
   where
     go : First s → from_utf8 s ≡ ill

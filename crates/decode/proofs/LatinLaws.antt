@@ -1,7 +1,7 @@
 -- Laws of tests of many bytes at once, and of the one by which text fits Latin-1: it says of well-formed bytes what decoding says.
 -- Assumes nothing.
-use Rattle.std.specs.Prelude.{◌≡◌, refl, Bool, true, false, ◌&&◌, List, [], ◌∷◌, ◌++◌, ℕ, suc, ◌+◌, ◌-◌, ◌/◌, ◌%◌, ◌≤◌, ◌<◌, ltb, length, take, drop, get_or}
-use Rattle.std.proofs.Common.{sym, ap, ◌∙◌, ⊎_elim, add-one, arith, lt-ltb, le-ltb, length-drop, take-append-drop, take-suc, take-add, take_all, drop-drop, get_or-drop}
+use Rattle.std.specs.Prelude.{◌≡◌, refl, Bool, true, false, ◌&&◌, List, [], ◌∷◌, ◌++◌, ℕ, ◌+◌, ◌-◌, ◌/◌, ◌%◌, ◌≤◌, ◌<◌, ltb, length, take, drop, get_or}
+use Rattle.std.proofs.Common.{sym, ap, ◌∙◌, ⊎_elim, add-one, arith, lt-ltb, le-ltb, length-drop, take-append-drop, take-suc, take-add, take_all}
 use Rattle.std.proofs.Math.Bool.{and_assoc, and-true, and-false}
 use Rattle.base.specs.Choose.{lt_or_le}
 use Rattle.text.specs.Utf16.{is_well}
@@ -25,33 +25,6 @@ module _ (p : ℕ → Bool) where
   -- k bytes more
   pub every_more : (k : ℕ) (s : List ℕ) (i : ℕ) → every p (take (i + k) s) ≡ (every p (take i s) && every p (take k (drop i s)))
   every_more k s i = ap (every p) (take-add i k s) ∙ every-both (take i s) (take k (drop i s))
-
-  -- eight bytes in a row
-  module _ (s : List ℕ) (i : ℕ) (h : i + 8 ≤ length s) where
-    every-at : (k : ℕ) → k < 8 → every p (take (suc k) (drop i s)) ≡ (every p (take k (drop i s)) && p (get_or s (i + k) 0))
-    every-at k l =
-        let there : k < length (drop i s) = simp length-drop (omega arith) in
-        rw (← add-one k, every-next (drop i s) k there, get_or-drop i s k 0)
-
-    pub every-word : (p (get_or s i 0) && p (get_or s (i + 1) 0) && p (get_or s (i + 2) 0) && p (get_or s (i + 3) 0)
-        && p (get_or s (i + 4) 0) && p (get_or s (i + 5) 0) && p (get_or s (i + 6) 0) && p (get_or s (i + 7) 0)) ≡ every p (take 8 (drop i s))
-    every-word =
-        let e : i + 0 ≡ i = omega arith in
-        rw (
-          every-at 7 (omega arith),
-          every-at 6 (omega arith),
-          every-at 5 (omega arith),
-          every-at 4 (omega arith),
-          every-at 3 (omega arith),
-          every-at 2 (omega arith),
-          every-at 1 (omega arith),
-          every-at 0 (omega arith),
-          e,
-        )
-
-  -- sixteen bytes are twice eight
-  pub every-pair : (s : List ℕ) (i : ℕ) → every p (take 16 (drop i s)) ≡ (every p (take 8 (drop i s)) && every p (take 8 (drop (i + 8) s)))
-  every-pair s i = rw (← drop-drop 8 i s) (every_more 8 (drop i s) 8)
 
   -- k bytes of which one fails
   pub every-not : (k : ℕ) (s : List ℕ) (i : ℕ) → every p (take k (drop i s)) ≡ false → every p s ≡ false

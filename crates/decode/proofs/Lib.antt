@@ -11,5 +11,4 @@ pub mod PlainLaws
 pub mod TailsLaws
 pub mod WriteLaws
 pub mod RunLaws
-pub mod TwosLaws
 pub mod EightLaws

@@ -1,22 +1,22 @@
 -- Laws of measuring: what a measure says. Assumes nothing.
-use Rattle.std.specs.Prelude.{◌≡◌, refl, Bool, true, List, [], ◌∷◌, ℕ, ◌*◌, ◌≤◌, ltb, length}
+use Rattle.std.specs.Prelude.{◌≡◌, refl, Bool, true, List, [], ◌∷◌, ℕ, ◌*◌, ◌≤◌, ltb, length, None, Some}
 use Rattle.std.proofs.Common.{sym, ap, ◌∙◌, arith, ltb-true, length-append}
 use Rattle.std.proofs.Math.Bool.{and-eq-true_iff}
 use Rattle.base.specs.Never.{never}
 use Rattle.text.specs.Utf16.{Decoded, well, ill, scalars, encode_one, encode16, utf16le}
 use Rattle.text.specs.UnitBytesLaws.{unit_bytes-length}
 use Rattle.text.specs.Utf8.{utf8_one, utf8, from_utf8}
-use Rattle.decode.specs.declared.measure.Measured.TheVariants.{Text, NoText}
+use Rattle.decode.specs.declared.measure.Measured.{Measured}
 use Rattle.decode.specs.ReadLaws.{utf8_encode}
 use Rattle.decode.specs.Measure.{text_of, fits_latin1, measured}
 use Rattle.decode.proofs.TurnLaws.{one_unit, fewer-units}
 pub use Rattle.decode.specs.MeasureLaws.{Said}
 
-pub measured-text : (s : List ℕ) {n : ℕ} {latin : Bool} → measured (from_utf8 s) ≡ Text n latin → Said s n latin
+pub measured-text : (s : List ℕ) {m : Measured} → measured (from_utf8 s) ≡ Some m → Said s m.units m.latin
 unfolding measured
-measured-text s {n} {latin} e = go (from_utf8 s) refl e
+measured-text s {m} e = go (from_utf8 s) refl e
   where
-    go : (d : Decoded) → from_utf8 s ≡ d → measured d ≡ Text n latin → Said s n latin
+    go : (d : Decoded) → from_utf8 s ≡ d → measured d ≡ Some m → Said s m.units m.latin
     go (well t) q e = record {
       is-utf8 = rw q;
       units = ap (λ (d : Decoded). length (encode16 (scalars d))) q ∙ cc e;
@@ -24,11 +24,11 @@ measured-text s {n} {latin} e = go (from_utf8 s) refl e
     }
     go ill q e = never (cc)
 
-pub measured-none : (s : List ℕ) → measured (from_utf8 s) ≡ NoText → from_utf8 s ≡ ill
+pub measured-none : (s : List ℕ) → measured (from_utf8 s) ≡ None → from_utf8 s ≡ ill
 unfolding measured
 measured-none s e = go (from_utf8 s) e
   where
-    go : (d : Decoded) → measured d ≡ NoText → d ≡ ill
+    go : (d : Decoded) → measured d ≡ None → d ≡ ill
     go (well t) e = never (cc)
     go ill e = refl
 
@@ -40,7 +40,7 @@ units-fewer (c ∷ t) =
     let l = units-fewer t in
     omega (arith, fewer-units c, length-append (encode_one c) (encode16 t), length-append (utf8_one c) (utf8 t))
 
-pub measured-fits : (s : List ℕ) {n : ℕ} {latin : Bool} → measured (from_utf8 s) ≡ Text n latin → n ≤ length s
+pub measured-fits : (s : List ℕ) {m : Measured} → measured (from_utf8 s) ≡ Some m → m.units ≤ length s
 measured-fits s e =
     let m = measured-text s e in
     omega (arith, m.units, units-fewer (text_of s), ap length (utf8_encode s m.is-utf8).0)

@@ -6,19 +6,18 @@ use Rattle.std.proofs.Math.Bool.{true, xor, and-true, and-false, and_assoc}
 use Rattle.std.proofs.Math.Logic.{⊎_elim}
 use borrow.Author.Tests.{lt-ltb, le-ltb, lt-leb, le-leb, leb-false}
 use Rattle.std.proofs.Math.Dec.{ltb}
+use mir.Val.{bool_byte}
 use Rattle.base.specs.Never.{never}
 use Rattle.base.specs.Choose.{lt_or_le}
 use Rattle.text.specs.Affix.{all_ascii}
 use Rattle.text.specs.Utf16.{encode16}
 use Rattle.text.specs.Utf8.{from_utf8, from_utf8_on}
-use Rattle.decode.specs.declared.chars.Char.TheVariants.{Of}
-use Rattle.decode.specs.declared.measure.Measured.TheVariants.{Text}
 use Rattle.decode.specs.declared.narrow.Seen.{Seen}
 use Rattle.decode.specs.ReadLaws.{both}
-use Rattle.decode.specs.Chars.{Range, within, tail, is_two, joined, char_of}
+use Rattle.decode.specs.Chars.{Range, within, tail, is_two, joined, char_of, a_char}
 use Rattle.decode.proofs.TableLaws.{inside, within-is, by_one, by_two}
 use Rattle.decode.proofs.CharLaws.{char-more}
-use Rattle.decode.specs.Measure.{measured}
+use Rattle.decode.specs.Measure.{measured, a_text}
 use Rattle.decode.proofs.TurnLaws.{one_unit}
 use Rattle.decode.specs.Latin.{all_low}
 use Rattle.decode.proofs.LatinLaws.{low_append}
@@ -32,6 +31,15 @@ pub use Rattle.decode.specs.NarrowLaws.{Far, Good}
 pub neither : (t u : Bool) → (t || u) ≡ false → (t ≡ false) × (u ≡ false)
 neither true u e = never (cc)
 neither false u e = (refl, e)
+
+-- a bool as a number
+pub bit_is : (b : Bool) → bool_byte b ≡ cond b 1 0
+bit_is true = refl
+bit_is false = refl
+
+pub bit_few : {e : ℕ} (b : Bool) → e ≡ bool_byte b → e ≤ 1
+bit_few true h = omega arith
+bit_few false h = omega arith
 
 -- ---- a byte that is right
 
@@ -72,25 +80,25 @@ module _ (z b : ℕ) (e : not (wrong z b) ≡ true) where
 -- ---- bytes that are right are UTF-8
 
 -- one character of one byte or two before a text
-module _ (s : List ℕ) {n : ℕ} {latin : Bool} (rest : measured (from_utf8 s) ≡ Text n latin) where
-  one-first : (b : ℕ) → b < 0x80 → measured (from_utf8 (b ∷ s)) ≡ Text (1 + n) latin
+module _ (s : List ℕ) {n : ℕ} {latin : Bool} (rest : measured (from_utf8 s) ≡ a_text n latin) where
+  one-first : (b : ℕ) → b < 0x80 → measured (from_utf8 (b ∷ s)) ≡ a_text (1 + n) latin
   unfolding char_of added
   one-first b h =
-      let e : char_of (b ∷ s) ≡ Of b 1 = by_one b _ _ _ (omega arith) in
+      let e : char_of (b ∷ s) ≡ a_char b 1 = by_one b _ _ _ (omega arith) in
       ap measured (char-more (b ∷ s) e) ∙ added_more b (from_utf8 s) ∙ rw (rest, one_unit b (omega arith), lt-ltb b 0x100 (omega arith))
 
-  two-first : (a b : ℕ) → Range 0xC2 0xDF a → Range 0x80 0xBF b → measured (from_utf8 (a ∷ b ∷ s)) ≡ Text (1 + n) (ltb a 0xC4 && latin)
+  two-first : (a b : ℕ) → Range 0xC2 0xDF a → Range 0x80 0xBF b → measured (from_utf8 (a ∷ b ∷ s)) ≡ a_text (1 + n) (ltb a 0xC4 && latin)
   unfolding char_of added is_two
   two-first a b h k =
       let v = joined (a - 0xC0) b in
       let t : is_two a b ≡ true = rw (inside 0xC2 0xDF a h.0 h.1, inside 0x80 0xBF b k.0 k.1) in
-      let e : char_of (a ∷ b ∷ s) ≡ Of v 2 = by_two a b _ _ (omega arith) t in
+      let e : char_of (a ∷ b ∷ s) ≡ a_char v 2 = by_two a b _ _ (omega arith) t in
       let l : ltb v 0x100 ≡ ltb a 0xC4 =
       ⊎_elim (λ (m : a < 0xC4). lt-ltb v 0x100 (omega arith) ∙ sym (lt-ltb a 0xC4 m)) (λ (m : 0xC4 ≤ a). le-ltb v 0x100 (omega arith) ∙ sym (le-ltb a 0xC4 m))
       (lt_or_le a 0xC4) in
       ap measured (char-more (a ∷ b ∷ s) e) ∙ added_more v (from_utf8 s) ∙ rw (rest, one_unit v (omega arith), l)
 
-right-measured : (z : ℕ) (s : List ℕ) → z < 0xC0 → all_right z s ≡ true → last_byte z s < 0xC0 → measured (from_utf8 s) ≡ Text (ends s) (all_low s)
+right-measured : (z : ℕ) (s : List ℕ) → z < 0xC0 → all_right z s ≡ true → last_byte z s < 0xC0 → measured (from_utf8 s) ≡ a_text (ends s) (all_low s)
 unfolding measured from_utf8 from_utf8_on encode16
 right-measured z [] h e l = refl
 right-measured z (a ∷ []) h e l =
@@ -163,20 +171,17 @@ module _ (s : List ℕ) (at n : ℕ) (fits : at + n ≤ length s) where
 
   -- a turn: the byte at i is on where i is below n
   pub far-next : (z y i : ℕ) {bad high : Bool} {u : ℕ} → Far z front y (drop i front) bad high u
-      → (x : Bool) → x ≡ wrong y (get_or s (at + i) 0) → (e : ℕ) → e ≡ cond (ltb (get_or s (at + i) 0) 0xC0 && ltb i n) 1 0
-      → Far z front (get_or s (at + i) 0) (drop (i + 1) front) (bad || (x && ltb i n)) (high || (leb 0xC4 (get_or s (at + i) 0) && ltb i n)) (u + e)
-  far-next z y i f x ex e ee =
-      ⊎_elim (λ (h : i < n). rw (ex, ee, lt-ltb i n h) (far-on f (front-on i h)))
-      (λ (h : n ≤ i). rw (ex, ee, le-ltb i n h) (far_off f (get_or s (at + i) 0) (front_off i h) (front_off (i + 1) (omega arith))))
+      → (on : Bool) → on ≡ ltb i n → (x : Bool) → x ≡ wrong y (get_or s (at + i) 0) → (e : ℕ) → e ≡ bool_byte (ltb (get_or s (at + i) 0) 0xC0 && on)
+      → Far z front (get_or s (at + i) 0) (drop (i + 1) front) (bad || (x && on)) (high || (leb 0xC4 (get_or s (at + i) 0) && on)) (u + e)
+  far-next z y i f on eo x ex e ee =
+      ⊎_elim (λ (h : i < n). rw (ex, ee, bit_is (ltb (get_or s (at + i) 0) 0xC0 && on), eo, lt-ltb i n h) (far-on f (front-on i h)))
+      (λ (h : n ≤ i). rw (ex, ee, bit_is (ltb (get_or s (at + i) 0) 0xC0 && on), eo, le-ltb i n h) (far_off f (get_or s (at + i) 0) (front_off i h) (front_off (i + 1) (omega arith))))
       (lt_or_le i n)
 
-  -- a turn where all n bytes are looked at
-  pub far-full : (z y i : ℕ) {bad high : Bool} {u : ℕ} → Far z front y (drop i front) bad high u → i < n
-      → (x : Bool) → x ≡ wrong y (get_or s (at + i) 0) → (e : ℕ) → e ≡ cond (ltb (get_or s (at + i) 0) 0xC0) 1 0
-      → Far z front (get_or s (at + i) 0) (drop (i + 1) front) (bad || x) (high || leb 0xC4 (get_or s (at + i) 0)) (u + e)
-  far-full z y i f h x ex e ee =
-      let b = get_or s (at + i) 0 in
-      rw (ex, ee) (rw (and-true (wrong y b), and-true (leb 0xC4 b), and-true (ltb b 0xC0)) at (far-on f (front-on i h)))
+-- where all are on, each of them is below n
+pub masked : (all : Bool) (i n : ℕ) → (all ≡ true → i < n) → (all || ltb i n) ≡ ltb i n
+masked true i n h = sym (lt-ltb i n (h refl))
+masked false i n h = refl
 
 -- ---- a text window by window: all bytes from one place to another are right, u of them end a character, and they fit Latin-1 or not
 
@@ -238,7 +243,7 @@ module _ (s : List ℕ) (from at : ℕ) (some : from < at) (fits : at ≤ length
   good-few g = omega (arith, g.units, ends-few part, part_length)
 
   -- all of them
-  pub good-measured : {u : ℕ} {latin : Bool} → Good s from at u latin → get_or s (at - 1) 0 < 0xC0 → Text u latin ≡ measured (from_utf8 part)
+  pub good-measured : {u : ℕ} {latin : Bool} → Good s from at u latin → get_or s (at - 1) 0 < 0xC0 → a_text u latin ≡ measured (from_utf8 part)
   good-measured g h = rw (g.units, g.low) (sym (right-measured 0 part (omega arith) g.right (omega (arith, part-last))))
 
 -- the first byte
@@ -257,9 +262,9 @@ good-first s from h e =
 -- ---- what the test for ASCII says of a part
 
 module _ (s : List ℕ) (from to : ℕ) (fits : to ≤ length s) (b : Bool) (is : b ≡ all_ascii (take (to - from) (drop from s))) where
-  pub part-plain : b ≡ true → Text (to - from) true ≡ measured (from_utf8 (take (to - from) (drop from s)))
+  pub part-plain : b ≡ true → a_text (to - from) true ≡ measured (from_utf8 (take (to - from) (drop from s)))
   part-plain e =
-      ap (λ (n : ℕ). Text n true) (sym (length-take-le (to - from) (drop from s) (omega (arith, length-drop from s)))) ∙ plain-measured _ b is e
+      ap (λ (n : ℕ). a_text n true) (sym (length-take-le (to - from) (drop from s) (omega (arith, length-drop from s)))) ∙ plain-measured _ b is e
 
   pub part-some : b ≡ false → from < to
   part-some e = ⊎_elim (λ (h : from < to). h) (λ (h : to ≤ from). let n : to - from ≡ 0 = omega arith in let f = rw n at is in never (cc)) (lt_or_le from to)

@@ -9,8 +9,7 @@ use Rattle.base.specs.OutputLaws.{wrote_as}
 use Rattle.text.specs.Utf16.{well, scalars, Scalars}
 use Rattle.text.specs.Utf8.{from_utf8}
 use Rattle.text.specs.Utf8Laws.{utf8-ascii, utf8_decode}
-use Rattle.decode.specs.declared.measure.Measured.TheVariants.{Text}
-use Rattle.decode.specs.Measure.{text_of, fits_latin1, measured}
+use Rattle.decode.specs.Measure.{text_of, fits_latin1, measured, a_text}
 use Rattle.decode.proofs.MeasureLaws.{latin-units}
 
 plain-scalars : (s : List ℕ) → all_ascii s ≡ true → Scalars s
@@ -30,7 +29,7 @@ plain-text s e = ap from_utf8 (sym (utf8-ascii s e)) ∙ utf8_decode s (plain-sc
 
 -- what the code's test says
 module _ (s : List ℕ) (b : Bool) (is : b ≡ all_ascii s) (yes-ascii : b ≡ true) where
-  pub plain-measured : Text (length s) true ≡ measured (from_utf8 s)
+  pub plain-measured : a_text (length s) true ≡ measured (from_utf8 s)
   unfolding measured
   plain-measured =
       let e = sym is ∙ yes-ascii in

@@ -1,20 +1,19 @@
 -- Laws of characters passed at once. Assumes nothing.
-use Rattle.std.specs.Prelude.{◌≡◌, refl, Bool, true, false, cond, ◌&&◌, List, ℕ, zero, suc, ◌+◌, ◌-◌, ◌≤◌, ◌<◌, ltb, eqb, length, get_or, take, drop}
+use Rattle.std.specs.Prelude.{◌≡◌, refl, Bool, true, false, cond, ◌&&◌, List, ℕ, zero, suc, ◌+◌, ◌-◌, ◌≤◌, ◌<◌, ltb, eqb, length, get_or, take, drop, Option, None, Some}
 use Rattle.std.proofs.Common.{sym, ◌∙◌, add-one, arith, lt-ltb, le-ltb, ltb-true, eqb-true, length-append, length-drop, get_or-drop}
 use Rattle.std.proofs.Math.Path.{ap}
 use Rattle.std.proofs.Math.Bool.{and-true, and_assoc}
 use Rattle.text.specs.Utf16.{Decoded, well, ill, more, encode_one, encode16}
 use Rattle.text.specs.Utf8.{utf8_one, from_utf8}
 use Rattle.text.specs.Utf8Laws.{utf8_1, utf8_2, utf8_3, utf8_4, Sized, one, two, three, four, sized}
-use Rattle.decode.specs.declared.chars.Char.TheVariants.{Of, Ill}
+use Rattle.decode.specs.declared.chars.Char.{Char}
 use Rattle.decode.specs.declared.measure.Measured.{Measured}
-use Rattle.decode.specs.declared.measure.Measured.TheVariants.{Text, NoText}
 use Rattle.decode.specs.ReadLaws.{both}
 use Rattle.decode.specs.Chars.{Range, within, tail, is_four, joined, char_of}
 use Rattle.decode.specs.TableLaws.{Second}
 use Rattle.decode.proofs.TableLaws.{inside, within-is, second-true, common_is, common_three, char_of-at, by_one, by_three, by-four}
 use Rattle.decode.proofs.CharLaws.{char-starts}
-use Rattle.decode.specs.Measure.{measured}
+use Rattle.decode.specs.Measure.{measured, a_text}
 use Rattle.decode.specs.TurnLaws.{Turn}
 use Rattle.decode.proofs.TurnLaws.{turn, turn-ill, one_unit, two-units, last_turn}
 use Rattle.decode.specs.Latin.{every, ascii}
@@ -23,17 +22,17 @@ use Rattle.decode.specs.Step.{common_at, is_plane, plane_at, added, Passed}
 
 -- ---- measures of texts that start with some units
 
-pub added_none : (m : Measured) → m ≡ added 0 true m
+pub added_none : (m : Option Measured) → m ≡ added 0 true m
 unfolding added
-added_none (Text n latin) = let e : 0 + n ≡ n = omega arith in rw e
-added_none NoText = refl
+added_none (Some m) = let e : 0 + m.units ≡ m.units = omega arith in rw e
+added_none None = refl
 
-pub added_twice : (u v : ℕ) (low more : Bool) (m : Measured) → added u low (added v more m) ≡ added (u + v) (low && more) m
+pub added_twice : (u v : ℕ) (low more : Bool) (m : Option Measured) → added u low (added v more m) ≡ added (u + v) (low && more) m
 unfolding added
-added_twice u v low more (Text n latin) =
-    let e : u + (v + n) ≡ u + v + n = omega arith in
-    rw (e, and_assoc low more latin)
-added_twice u v low more NoText = refl
+added_twice u v low more (Some m) =
+    let e : u + (v + m.units) ≡ u + v + m.units = omega arith in
+    rw (e, and_assoc low more m.latin)
+added_twice u v low more None = refl
 
 -- the units of one scalar value before a text
 pub added_more : (c : ℕ) (d : Decoded) → measured (more c d) ≡ added (length (encode_one c)) (ltb c 0x100) (measured d)
@@ -42,11 +41,11 @@ added_more c (well t) = rw (length-append (encode_one c) (encode16 t))
 added_more c ill = refl
 
 -- and before what is no text, or nothing
-pub added-ill : (u : ℕ) (low : Bool) {m : Measured} → m ≡ NoText → added u low m ≡ NoText
+pub added-ill : (u : ℕ) (low : Bool) {m : Option Measured} → m ≡ None → added u low m ≡ None
 unfolding added
 added-ill u low e = rw e
 
-pub added-last : (s : List ℕ) (at u : ℕ) (low : Bool) → length s ≤ at → added u low (measured (from_utf8 (drop at s))) ≡ Text u low
+pub added-last : (s : List ℕ) (at u : ℕ) (low : Bool) → length s ≤ at → added u low (measured (from_utf8 (drop at s))) ≡ a_text u low
 unfolding added measured encode16
 added-last s at u low h =
     let e : u + 0 ≡ u = omega arith in
@@ -109,11 +108,11 @@ plane_four a b c d e =
 
 module _ (s : List ℕ) (at : ℕ) where
   -- a character whose units are known
-  char-passed : at < length s → {c k : ℕ} → char_of (drop at s) ≡ Of c k → (u : ℕ) (low : Bool) → length (encode_one c) ≡ u → ltb c 0x100 ≡ low → Passed s at k u low
-  char-passed h {c} {k} e u low eu el = let p = turn-passed (turn s at h e) in rw (eu, el) at p
+  char-passed : at < length s → {c : Char} → char_of (drop at s) ≡ Some c → (u : ℕ) (low : Bool) → length (encode_one c.value) ≡ u → ltb c.value 0x100 ≡ low → Passed s at c.size u low
+  char-passed h {c} e u low eu el = let p = turn-passed (turn s at h e) in rw (eu, el) at p
 
-  ascii-passed : at < length s → ascii (get_or s at 0) ≡ true → Passed s at 1 1 true
-  ascii-passed h e =
+  letter-passed : at < length s → ascii (get_or s at 0) ≡ true → Passed s at 1 1 true
+  letter-passed h e =
       let a = get_or s at 0 in
       let l = ltb-true a 0x80 e in
       let q = char_of-at s at h ∙ by_one a _ _ _ (omega arith) in
@@ -151,27 +150,16 @@ module _ (s : List ℕ) (at : ℕ) where
       let p = both (every ascii (take k (drop at s))) (ascii (get_or (drop at s) k 0)) (sym (every-next ascii (drop at s) k there) ∙ f) in
       let g : ascii (get_or s (at + k) 0) ≡ true = rw (← get_or-drop at s k 0) p.1 in
       let n : at + k + 1 ≡ at + suc k = omega arith in
-      every-ascii k (omega arith) p.0 ∙ ap (added k true) (ascii-passed s (at + k) (omega arith) g).is ∙ rw (n, ← add-one k) (added_twice k 1 true true _)
+      every-ascii k (omega arith) p.0 ∙ ap (added k true) (letter-passed s (at + k) (omega arith) g).is ∙ rw (n, ← add-one k) (added_twice k 1 true true _)
 
-  -- eight characters of ASCII
-  pub eight-passed : at + 8 ≤ length s → every ascii (take 8 (drop at s)) ≡ true → Passed s at 8 8 true
-  eight-passed h e = record {
-    some = omega arith;
+  -- k characters of ASCII
+  pub ascii-passed : (k : ℕ) → 0 < k → at + k ≤ length s → every ascii (take k (drop at s)) ≡ true → Passed s at k k true
+  ascii-passed k some h e = record {
+    some = some;
     within = h;
     few = omega arith;
-    is = every-ascii 8 h e;
+    is = every-ascii k h e;
   }
-
-  -- four of them
-  pub ascii-four-passed : at + 4 ≤ length s → (ascii (get_or s at 0) && ascii (get_or s (at + 1) 0) && ascii (get_or s (at + 2) 0) && ascii (get_or s (at + 3) 0)) ≡ true
-      → Passed s at 4 4 true
-  ascii-four-passed h e =
-      let p = both (ascii (get_or s at 0) && ascii (get_or s (at + 1) 0) && ascii (get_or s (at + 2) 0)) (ascii (get_or s (at + 3) 0)) e in
-      let q = both (ascii (get_or s at 0) && ascii (get_or s (at + 1) 0)) (ascii (get_or s (at + 2) 0)) p.0 in
-      let r = both (ascii (get_or s at 0)) (ascii (get_or s (at + 1) 0)) q.0 in
-      passed_then
-      (passed_then (passed_then (ascii-passed s at (omega arith) r.0) (ascii-passed s (at + 1) (omega arith) r.1)) (ascii-passed s (at + 2) (omega arith) q.1))
-      (ascii-passed s (at + 3) (omega arith) p.1)
 
   -- four common characters, two of planes 1 to 3
   pub four-passed : at + 12 ≤ length s → (common_at s at && common_at s (at + 3) && common_at s (at + 6) && common_at s (at + 9)) ≡ true → Passed s at 12 4 false
@@ -189,9 +177,9 @@ module _ (s : List ℕ) (at : ℕ) where
       passed_then (plane_passed s at (omega arith) p.0) (plane_passed s (at + 4) (omega arith) p.1)
 
   -- one character, by how many bytes it has; none
-  pub one-passed : at < length s → {c k : ℕ} → char_of (drop at s) ≡ Of c k → Passed s at k (cond (eqb k 4) 2 1) (ltb c 0x100)
-  one-passed h {c} {k} e = char-passed s at h e _ _ (sized-units c k (char-starts (drop at s) e).size (sized c)) refl
+  pub one-passed : at < length s → {c : Char} → char_of (drop at s) ≡ Some c → Passed s at c.size (cond (eqb c.size 4) 2 1) (ltb c.value 0x100)
+  one-passed h {c} e = char-passed s at h e _ _ (sized-units c.value c.size (char-starts (drop at s) e).size (sized c.value)) refl
 
-  pub none_passed : at < length s → char_of (drop at s) ≡ Ill → measured (from_utf8 (drop at s)) ≡ NoText
+  pub none_passed : at < length s → char_of (drop at s) ≡ None → measured (from_utf8 (drop at s)) ≡ None
   unfolding measured
   none_passed h e = ap measured (turn-ill s at h e)

@@ -1,11 +1,10 @@
 -- Laws of the table of RFC 3629: its tests as facts, and the first character by its bytes. Assumes nothing.
-use Rattle.std.specs.Prelude.{◌≡◌, refl, Bool, true, false, cond, ◌&&◌, List, [], ◌∷◌, ℕ, zero, suc, ◌+◌, ◌-◌, ◌≤◌, ◌<◌, leb, eqb, length, get_or, take, drop}
+use Rattle.std.specs.Prelude.{◌≡◌, refl, Bool, true, false, cond, ◌&&◌, List, [], ◌∷◌, ℕ, zero, suc, ◌+◌, ◌-◌, ◌≤◌, ◌<◌, leb, eqb, length, get_or, take, drop, None}
 use Rattle.std.proofs.Common.{sym, ◌∙◌, ⊎_elim, arith, le-leb, leb-true, eqb-true, length-drop, take_all, get_or-drop}
 use Rattle.std.proofs.lemmas.Bool.{lt-leb, eqb-false}
 use Rattle.base.specs.Choose.{lt_or_le}
-use Rattle.decode.specs.declared.chars.Char.TheVariants.{Of, Ill}
 use Rattle.decode.specs.ReadLaws.{both}
-use Rattle.decode.specs.Chars.{Range, within, tail, second, is_two, is_three, is_four, is_common, joined, char_by, char_of}
+use Rattle.decode.specs.Chars.{Range, within, tail, second, is_two, is_three, is_four, is_common, joined, char_by, char_of, a_char}
 pub use Rattle.decode.specs.TableLaws.{Second}
 
 -- the tests as facts
@@ -150,11 +149,11 @@ common_three a b c e =
     rw (inside 0xE0 0xEF a (omega arith) (omega arith), second-true a b k, inside 0x80 0xBF c (omega arith) (omega arith))
 
 -- char_by by its first byte
-pub by_one : (a b c d : ℕ) → a ≤ 0x7F → char_by a b c d ≡ Of a 1
+pub by_one : (a b c d : ℕ) → a ≤ 0x7F → char_by a b c d ≡ a_char a 1
 unfolding char_by
 by_one a b c d h = rw (le-leb a 0x7F h)
 
-pub by_two : (a b c d : ℕ) → 0x7F < a → is_two a b ≡ true → char_by a b c d ≡ Of (joined (a - 0xC0) b) 2
+pub by_two : (a b c d : ℕ) → 0x7F < a → is_two a b ≡ true → char_by a b c d ≡ a_char (joined (a - 0xC0) b) 2
 unfolding char_by
 by_two a b c d h e = rw (lt-leb a 0x7F h, e)
 
@@ -166,11 +165,11 @@ no_three : (a b c : ℕ) → 0xEF < a → is_three a b c ≡ false
 unfolding is_three
 no_three a b c h = rw (above 0xE0 0xEF a h)
 
-pub by_three : (a b c d : ℕ) → 0xDF < a → is_three a b c ≡ true → char_by a b c d ≡ Of (joined (joined (a - 0xE0) b) c) 3
+pub by_three : (a b c d : ℕ) → 0xDF < a → is_three a b c ≡ true → char_by a b c d ≡ a_char (joined (joined (a - 0xE0) b) c) 3
 unfolding char_by
 by_three a b c d h e = let k : 0x7F < a = omega arith in rw (lt-leb a 0x7F k, no_two a b h, e)
 
-pub by-four : (a b c d : ℕ) → 0xEF < a → is_four a b c d ≡ true → char_by a b c d ≡ Of (joined (joined (joined (a - 0xF0) b) c) d) 4
+pub by-four : (a b c d : ℕ) → 0xEF < a → is_four a b c d ≡ true → char_by a b c d ≡ a_char (joined (joined (joined (a - 0xF0) b) c) d) 4
 unfolding char_by
 by-four a b c d h e =
     let k : 0x7F < a = omega arith in
@@ -178,7 +177,7 @@ by-four a b c d h e =
     rw (lt-leb a 0x7F k, no_two a b j, no_three a b c h, e)
 
 -- and no character, where the bytes that the first asks for don't follow
-pub ill-four : (a b c d : ℕ) → 0xEF < a → is_four a b c d ≡ false → char_by a b c d ≡ Ill
+pub ill-four : (a b c d : ℕ) → 0xEF < a → is_four a b c d ≡ false → char_by a b c d ≡ None
 unfolding char_by
 ill-four a b c d h e =
     let k : 0x7F < a = omega arith in
@@ -189,7 +188,7 @@ few-four : (a b c d : ℕ) → a < 0xF0 → is_four a b c d ≡ false
 unfolding is_four
 few-four a b c d h = rw (below 0xF0 0xF4 a h)
 
-pub ill-three : (a b c d : ℕ) → 0xDF < a → a ≤ 0xEF → is_three a b c ≡ false → char_by a b c d ≡ Ill
+pub ill-three : (a b c d : ℕ) → 0xDF < a → a ≤ 0xEF → is_three a b c ≡ false → char_by a b c d ≡ None
 unfolding char_by
 ill-three a b c d h l e =
     let k : 0x7F < a = omega arith in
@@ -200,7 +199,7 @@ few-three : (a b c : ℕ) → a < 0xE0 → is_three a b c ≡ false
 unfolding is_three
 few-three a b c h = rw (below 0xE0 0xEF a h)
 
-pub ill-two : (a b c d : ℕ) → 0x7F < a → a ≤ 0xDF → is_two a b ≡ false → char_by a b c d ≡ Ill
+pub ill-two : (a b c d : ℕ) → 0x7F < a → a ≤ 0xDF → is_two a b ≡ false → char_by a b c d ≡ None
 unfolding char_by
 ill-two a b c d h l e =
     let k : a < 0xE0 = omega arith in
@@ -228,7 +227,7 @@ common_short s at h = go (is_common (get_or s at 0) (get_or s (at + 1) 0) (get_o
         absurd (omega (arith, there s (at + 2) r.2.0))
 
 -- char_of by its bytes
-pub char_of-none : (s : List ℕ) → length s < 1 → char_of s ≡ Ill
+pub char_of-none : (s : List ℕ) → length s < 1 → char_of s ≡ None
 unfolding char_of
 char_of-none [] h = refl
 char_of-none (a ∷ s) h = absurd (omega arith)
@@ -250,7 +249,7 @@ char_of-at s at h =
     ∙ rw (get_or-drop at s 0 0, e, get_or-drop at s 1 0, get_or-drop at s 2 0, get_or-drop at s 3 0)
 
 module _ (s : List ℕ) (at : ℕ) (h : at < length s) (a : ℕ) (ea : a ≡ get_or s at 0) where
-  pub quick-one : a ≤ 0x7F → Of a 1 ≡ char_of (drop at s)
+  pub quick-one : a ≤ 0x7F → a_char a 1 ≡ char_of (drop at s)
   quick-one l = rw (char_of-at s at h, ← ea) (sym (by_one a _ _ _ l))
 
   module _ (t : Bool) (et : t ≡ is_common (get_or s at 0) (get_or s (at + 1) 0) (get_or s (at + 2) 0)) (is : t ≡ true) where
@@ -264,7 +263,7 @@ module _ (s : List ℕ) (at : ℕ) (h : at < length s) (a : ℕ) (ea : a ≡ get
       pub quick-range : Range 0xE0 0xEF a × Range 0x80 0xBF b × Range 0x80 0xBF c
       quick-range = rw (eb, ec) (three-range _ _ _ is_three_lem)
 
-      pub quick-three : (v : ℕ) → v ≡ joined (joined (a - 0xE0) b) c → Of v 3 ≡ char_of (drop at s)
+      pub quick-three : (v : ℕ) → v ≡ joined (joined (a - 0xE0) b) c → a_char v 3 ≡ char_of (drop at s)
       quick-three v ev =
           let r = three-range _ _ _ is_three_lem in
           rw (char_of-at s at h, ← ea, ev, eb, ec) (sym (by_three a _ _ _ (omega arith) is_three_lem))

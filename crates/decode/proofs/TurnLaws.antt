@@ -1,12 +1,12 @@
 -- Loops over the characters of some bytes: what a turn passes. Assumes nothing.
-use Rattle.std.specs.Prelude.{◌≡◌, true, List, [], ◌∷◌, ℕ, ◌+◌, ◌≤◌, ◌<◌, length, drop}
+use Rattle.std.specs.Prelude.{◌≡◌, true, List, [], ◌∷◌, ℕ, ◌+◌, ◌≤◌, ◌<◌, length, drop, None, Some}
 use Rattle.std.proofs.Common.{sym, ap, ◌∙◌, ⊎_elim, arith, lt-ltb, le-ltb, length-append, length-drop, drop_of_length-le, drop-drop}
 use Rattle.base.specs.Choose.{lt_or_le}
 use Rattle.text.specs.Utf16.{well, ill, is_well, scalars, encode_one}
 use Rattle.text.specs.UnitsLaws.{is_well-more, scalars-more}
 use Rattle.text.specs.Utf8.{utf8_one, from_utf8, from_utf8_on}
 use Rattle.text.specs.Utf8Laws.{utf8_4}
-use Rattle.decode.specs.declared.chars.Char.TheVariants.{Of, Ill}
+use Rattle.decode.specs.declared.chars.Char.{Char}
 use Rattle.decode.specs.ReadLaws.{utf8_one-some}
 use Rattle.decode.specs.Chars.{char_of}
 use Rattle.decode.proofs.CharLaws.{char-starts, char-more, char-ill}
@@ -26,22 +26,22 @@ fewer-units c =
     ⊎_elim (λ h. omega (arith, ap length (one_unit c h), utf8_one-some c)) (λ h. omega (arith, two-units c h, ap length (utf8_4 h))) (lt_or_le c 0x10000)
 
 module _ (s : List ℕ) (at : ℕ) where
-  pub turn : (h : at < length s) {c k : ℕ} → char_of (drop at s) ≡ Of c k → Turn s at c k
-  turn h {c} {k} e =
+  pub turn : (h : at < length s) {c : Char} → char_of (drop at s) ≡ Some c → Turn s at c.value c.size
+  turn h {c} e =
       let z = char-starts (drop at s) e in
       record {
-        within = omega (arith, ap length z.is, length-append (utf8_one c) (drop k (drop at s)), z.size, length-drop at s);
-        some = omega (arith, utf8_one-some c, z.size);
+        within = omega (arith, ap length z.is, length-append (utf8_one c.value) (drop c.size (drop at s)), z.size, length-drop at s);
+        some = omega (arith, utf8_one-some c.value, z.size);
         small = ⊎_elim (λ w. omega arith) (λ w. omega arith) z.scalar;
-        units = omega (arith, fewer-units c, z.size);
-        is = char-more (drop at s) e ∙ rw (drop-drop k at s);
+        units = omega (arith, fewer-units c.value, z.size);
+        is = char-more (drop at s) e ∙ rw (drop-drop c.size at s);
       }
 
-  pub turn-ill : at < length s → char_of (drop at s) ≡ Ill → from s at ≡ ill
+  pub turn-ill : at < length s → char_of (drop at s) ≡ None → from s at ≡ ill
   turn-ill h e = char-ill (drop at s) (omega (arith, length-drop at s)) e
 
   -- where the bytes are well-formed every turn passes a scalar value
-  pub turn-well : at < length s → is_well (from s at) ≡ true → char_of (drop at s) ≡ Ill → ⊥
+  pub turn-well : at < length s → is_well (from s at) ≡ true → char_of (drop at s) ≡ None → ⊥
   turn-well h ok e =
       let f = turn-ill h e in
       let z : ◌≡◌ {A = ℕ} 0 1 = cc in

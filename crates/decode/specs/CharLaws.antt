@@ -1,5 +1,5 @@
 -- Laws of UTF-8 read one character at a time: the table of RFC 3629 gives what decoding gives. Assumes nothing.
-use Rattle.std.specs.Prelude.{◌≡◌, List, ◌++◌, ℕ, ◌+◌, ◌-◌, length, drop}
+use Rattle.std.specs.Prelude.{◌≡◌, List, ◌++◌, ℕ, length, drop}
 use Rattle.text.specs.Utf16.{Scalar}
 use Rattle.text.specs.Utf8.{utf8_one}
 

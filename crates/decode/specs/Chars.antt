@@ -1,8 +1,7 @@
 -- UTF-8 read one character at a time, by the table of RFC 3629, section 4. Assumes nothing.
-use Rattle.std.specs.Prelude.{Bool, cond, ◌&&◌, List, [], ◌∷◌, ℕ, ◌+◌, ◌*◌, ◌-◌, ◌≤◌, leb, eqb, get_or}
+use Rattle.std.specs.Prelude.{Bool, cond, ◌&&◌, List, [], ◌∷◌, ℕ, ◌+◌, ◌*◌, ◌-◌, ◌≤◌, leb, eqb, get_or, Option, None, Some}
 use Rattle.base.specs.Choose.{choose}
 use Rattle.decode.specs.declared.chars.Char.{Char}
-use Rattle.decode.specs.declared.chars.Char.TheVariants.{Of, Ill}
 
 -- "%x80-BF": the bytes from 80 to BF
 abbrev pub within : ℕ → ℕ → ℕ → Bool
@@ -43,15 +42,19 @@ is_four a b c d = within 0xF0 0xF4 a && second a b && tail c && tail d
 abbrev pub joined : ℕ → ℕ → ℕ
 joined bits b = bits * 64 + (b - 0x80)
 
+-- a scalar value and how many bytes it takes
+abbrev pub a_char : ℕ → ℕ → Option Char
+a_char value size = Some (record { value = value; size = size })
+
 -- the character that starts with byte a, which b, c, d follow; "UTF8-1 = %x00-7F"
-unfoldable pub char_by : ℕ → ℕ → ℕ → ℕ → Char
+unfoldable pub char_by : ℕ → ℕ → ℕ → ℕ → Option Char
 char_by a b c d =
-    choose (leb a 0x7F) (λ _. Of a 1)
-    (λ _. choose (is_two a b) (λ _. Of (joined (a - 0xC0) b) 2)
-    (λ _. choose (is_three a b c) (λ _. Of (joined (joined (a - 0xE0) b) c) 3)
-    (λ _. choose (is_four a b c d) (λ _. Of (joined (joined (joined (a - 0xF0) b) c) d) 4) (λ _. Ill))))
+    choose (leb a 0x7F) (λ _. a_char a 1)
+    (λ _. choose (is_two a b) (λ _. a_char (joined (a - 0xC0) b) 2)
+    (λ _. choose (is_three a b c) (λ _. a_char (joined (joined (a - 0xE0) b) c) 3)
+    (λ _. choose (is_four a b c d) (λ _. a_char (joined (joined (joined (a - 0xF0) b) c) d) 4) (λ _. None))))
 
 -- the first character of some bytes, and how many it takes; a byte that is not there counts as 0, which is no tail
-unfoldable pub char_of : List ℕ → Char
-char_of [] = Ill
+unfoldable pub char_of : List ℕ → Option Char
+char_of [] = None
 char_of (a ∷ s) = char_by a (get_or s 0 0) (get_or s 1 0) (get_or s 2 0)

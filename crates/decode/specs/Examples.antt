@@ -1,12 +1,10 @@
 -- The edges of the table, computed: each value here is another one where a definition is off by a byte or a case. Assumes nothing.
-use Rattle.std.specs.Prelude.{◌≡◌, refl, true, false, List, [], ◌∷◌, map, ℕ}
+use Rattle.std.specs.Prelude.{◌≡◌, refl, true, false, List, [], ◌∷◌, map, ℕ, None}
 use Rattle.base.specs.Literal.{quoted as text}
 use Rattle.text.specs.Utf16.{well, ill, encode_one, encode16}
 use Rattle.text.specs.Utf8.{utf8_one, utf8, from_utf8, from_utf8_on}
-use Rattle.decode.specs.declared.chars.Char.TheVariants.{Of, Ill}
-use Rattle.decode.specs.declared.measure.Measured.TheVariants.{Text, NoText}
-use Rattle.decode.specs.Chars.{second, is_two, is_three, is_four, char_by, char_of}
-use Rattle.decode.specs.Measure.{text_of, fits_latin1, measured}
+use Rattle.decode.specs.Chars.{second, is_two, is_three, is_four, char_by, char_of, a_char}
+use Rattle.decode.specs.Measure.{text_of, fits_latin1, measured, a_text}
 
 -- what starts with no character
 abbrev none : List (List ℕ)
@@ -40,20 +38,20 @@ none =
 
 -- the first and the last character of each row of the table, and what follows is not looked at
 pub record Table : Type 0 where
-  pub one : map char_of ((0x00 ∷ []) ∷ (0x7F ∷ 0x80 ∷ []) ∷ []) ≡ Of 0x00 1 ∷ Of 0x7F 1 ∷ []
-  pub two : map char_of ((0xC2 ∷ 0x80 ∷ []) ∷ (0xDF ∷ 0xBF ∷ 0x80 ∷ []) ∷ []) ≡ Of 0x80 2 ∷ Of 0x7FF 2 ∷ []
+  pub one : map char_of ((0x00 ∷ []) ∷ (0x7F ∷ 0x80 ∷ []) ∷ []) ≡ a_char 0x00 1 ∷ a_char 0x7F 1 ∷ []
+  pub two : map char_of ((0xC2 ∷ 0x80 ∷ []) ∷ (0xDF ∷ 0xBF ∷ 0x80 ∷ []) ∷ []) ≡ a_char 0x80 2 ∷ a_char 0x7FF 2 ∷ []
   pub three : map char_of (
       (0xE0 ∷ 0xA0 ∷ 0x80 ∷ []) ∷ (0xE0 ∷ 0xBF ∷ 0xBF ∷ []) ∷
       (0xE1 ∷ 0x80 ∷ 0x80 ∷ []) ∷ (0xEC ∷ 0xBF ∷ 0xBF ∷ []) ∷
       (0xED ∷ 0x80 ∷ 0x80 ∷ []) ∷ (0xED ∷ 0x9F ∷ 0xBF ∷ []) ∷
       (0xEE ∷ 0x80 ∷ 0x80 ∷ []) ∷ (0xEF ∷ 0xBF ∷ 0xBF ∷ 0x80 ∷ []) ∷ [])
-      ≡ Of 0x800 3 ∷ Of 0xFFF 3 ∷ Of 0x1000 3 ∷ Of 0xCFFF 3 ∷ Of 0xD000 3 ∷ Of 0xD7FF 3 ∷ Of 0xE000 3 ∷ Of 0xFFFF 3 ∷ []
+      ≡ a_char 0x800 3 ∷ a_char 0xFFF 3 ∷ a_char 0x1000 3 ∷ a_char 0xCFFF 3 ∷ a_char 0xD000 3 ∷ a_char 0xD7FF 3 ∷ a_char 0xE000 3 ∷ a_char 0xFFFF 3 ∷ []
   pub four : map char_of (
       (0xF0 ∷ 0x90 ∷ 0x80 ∷ 0x80 ∷ []) ∷ (0xF0 ∷ 0xBF ∷ 0xBF ∷ 0xBF ∷ []) ∷
       (0xF1 ∷ 0x80 ∷ 0x80 ∷ 0x80 ∷ []) ∷ (0xF3 ∷ 0xBF ∷ 0xBF ∷ 0xBF ∷ []) ∷
       (0xF4 ∷ 0x80 ∷ 0x80 ∷ 0x80 ∷ []) ∷ (0xF4 ∷ 0x8F ∷ 0xBF ∷ 0xBF ∷ 0x80 ∷ []) ∷ [])
-      ≡ Of 0x10000 4 ∷ Of 0x3FFFF 4 ∷ Of 0x40000 4 ∷ Of 0xFFFFF 4 ∷ Of 0x100000 4 ∷ Of 0x10FFFF 4 ∷ []
-  pub no_char : map char_of none ≡ map (λ s. Ill) none
+      ≡ a_char 0x10000 4 ∷ a_char 0x3FFFF 4 ∷ a_char 0x40000 4 ∷ a_char 0xFFFFF 4 ∷ a_char 0x100000 4 ∷ a_char 0x10FFFF 4 ∷ []
+  pub no_char : map char_of none ≡ map (λ s. None) none
 
 pub table : Table
 unfolding second is_two is_three is_four char_by char_of
@@ -67,8 +65,8 @@ pub record Texts : Type 0 where
   pub text_of_lem : text_of (0xC3 ∷ 0xA9 ∷ []) ≡ text "é"
   -- a pair counts 2
   pub sizes : map (λ t. measured (from_utf8 (utf8 t))) ([] ∷ text "Aé" ∷ text "A€" ∷ text "Aé€😀" ∷ (0xFFFF ∷ 0x10000 ∷ []) ∷ [])
-      ≡ Text 0 true ∷ Text 2 true ∷ Text 2 false ∷ Text 5 false ∷ Text 3 false ∷ []
-  pub no_text : measured (from_utf8 (0x41 ∷ 0x80 ∷ [])) ≡ NoText
+      ≡ a_text 0 true ∷ a_text 2 true ∷ a_text 2 false ∷ a_text 5 false ∷ a_text 3 false ∷ []
+  pub no_text : measured (from_utf8 (0x41 ∷ 0x80 ∷ [])) ≡ None
 
 pub texts : Texts
 unfolding utf8_one from_utf8 from_utf8_on encode_one encode16 measured

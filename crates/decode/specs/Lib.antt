@@ -18,9 +18,7 @@ pub mod NarrowLaws
 pub mod Tails
 pub mod WriteLaws
 pub mod Run
-pub mod Twos
 pub mod RunLaws
-pub mod TwosLaws
 pub mod Eight
 pub mod BackLaws
 -- ---- All of it computed at its edges

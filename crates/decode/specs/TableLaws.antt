@@ -1,5 +1,5 @@
 -- Laws of the table of RFC 3629: its tests as facts, and the first character by its bytes. Assumes nothing.
-use Rattle.std.specs.Prelude.{◌≡◌, ℕ, ◌-◌, ◌≤◌}
+use Rattle.std.specs.Prelude.{◌≡◌, ℕ, ◌≤◌}
 
 -- what may be second, as facts
 pub record Second (a b : ℕ) : Type 0 where

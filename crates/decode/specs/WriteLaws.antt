@@ -1,5 +1,5 @@
 -- Loops that write a text character by character: what is written, and what is left. Assumes nothing.
-use Rattle.std.specs.Prelude.{◌≡◌, List, ◌++◌, ℕ, ◌+◌, ◌-◌}
+use Rattle.std.specs.Prelude.{◌≡◌, List, ◌++◌, ℕ}
 use Rattle.base.specs.Output.{Wrote}
 
 -- the buffer s is now o: of x, the first n bytes are written to its front, and rest is left

@@ -2,23 +2,9 @@
 ghost use Rattle.std.specs.Prelude.{◌≡◌, ◌+◌, ◌≤◌, length, take, drop};
 ghost use Rattle.base.specs.Output.{Wrote};
 ghost use Rattle.text.specs.Utf16.{unit_bytes};
-ghost use Rattle.decode.specs.Latin.{every, ascii};
 ghost use Rattle.decode.specs.Eight.{is_eight};
 
-// Whether the eight bytes from a place on are ASCII. In a straight line, so that they are one test.
-pub fn is_eight(s: &[u8], at: usize) -> bool
-    requires { at + 8 ≤ length s.now }
-    ensures { result ≡ every ascii (take 8 (drop at s.now)) }
-{
-    (s[at] < 0x80)
-        & (s[at + 1] < 0x80)
-        & (s[at + 2] < 0x80)
-        & (s[at + 3] < 0x80)
-        & (s[at + 4] < 0x80)
-        & (s[at + 5] < 0x80)
-        & (s[at + 6] < 0x80)
-        & (s[at + 7] < 0x80)
-}
+use super::latin::all_below;
 
 // Whether eight bytes from a place on are there, and ASCII.
 pub fn starts_eight(s: &[u8], at: usize) -> bool
@@ -28,7 +14,7 @@ pub fn starts_eight(s: &[u8], at: usize) -> bool
     if s.len() - at < 8 {
         return false;
     }
-    is_eight(s, at)
+    all_below::<8, 0x80>(s, at)
 }
 
 // Eight bytes of ASCII as UTF-16LE.
@@ -36,10 +22,8 @@ pub fn put_eight(out: &mut [u8], s: &[u8], at: usize)
     requires { (at + 8 ≤ length s.now) × (16 ≤ length out.old) }
     ensures { Wrote out.old (unit_bytes (take 8 (drop at s.now))) out.new 16 }
 {
-    let mut i: usize = 0;
-    while i < 8 {
+    for i in 0..8 {
         out[2 * i] = s[at + i];
         out[2 * i + 1] = 0;
-        i += 1;
     }
 }

@@ -1,44 +1,27 @@
 // Text that is known to be UTF-8: whether it fits Latin-1, by its bytes alone, none decoded.
-ghost use Rattle.std.specs.Prelude.{◌≡◌, true, ◌+◌, ◌≤◌, length, take, drop};
+ghost use Rattle.std.specs.Prelude.{◌≡◌, true, ◌+◌, ◌≤◌, ltb, length, take, drop};
 ghost use Rattle.text.specs.Utf16.{is_well};
 ghost use Rattle.text.specs.Utf8.{from_utf8};
 ghost use Rattle.decode.specs.Measure.{text_of, fits_latin1};
 ghost use Rattle.decode.specs.Latin.{every, low};
 
-// Whether the eight bytes from a place on are all below C4. In a straight line, so that they are one test.
-fn is_word(s: &[u8], i: usize) -> bool
-    requires { i + 8 ≤ length s.now }
-    ensures { result ≡ every low (take 8 (drop i s.now)) }
-{
-    (s[i] < 0xC4)
-        & (s[i + 1] < 0xC4)
-        & (s[i + 2] < 0xC4)
-        & (s[i + 3] < 0xC4)
-        & (s[i + 4] < 0xC4)
-        & (s[i + 5] < 0xC4)
-        & (s[i + 6] < 0xC4)
-        & (s[i + 7] < 0xC4)
-}
-
-// Whether the sixteen bytes from a place on are.
-fn is_pair(s: &[u8], i: usize) -> bool
-    requires { i + 16 ≤ length s.now }
-    ensures { result ≡ every low (take 16 (drop i s.now)) }
-{
-    is_word(s, i) & is_word(s, i + 8)
-}
-
-// Whether a few bytes are.
-fn is_short(s: &[u8]) -> bool
-    ensures { result ≡ every low s.now }
+// Whether some bytes are all below a limit: one test for all, without a branch.
+fn are_below<const LIMIT: u8>(s: &[u8]) -> bool
+    ensures { result ≡ every (λ b. ltb b LIMIT) s.now }
 {
     let mut all = true;
-    let mut i = 0;
-    while i < s.len() {
-        all = all & (s[i] < 0xC4);
-        i += 1;
+    for b in s {
+        all &= *b < LIMIT;
     }
     all
+}
+
+// Whether the N bytes from a place on are.
+pub fn all_below<const N: usize, const LIMIT: u8>(s: &[u8], at: usize) -> bool
+    requires { at + N ≤ length s.now }
+    ensures { result ≡ every (λ b. ltb b LIMIT) (take N (drop at s.now)) }
+{
+    are_below::<LIMIT>(&s[at..at + N])
 }
 
 // Whether the text fits Latin-1: U+00FF is C3 BF. Sixteen bytes a turn; the last sixteen, or eight, may have some of those before them.
@@ -48,18 +31,16 @@ pub fn is_latin1(s: &[u8]) -> bool
 {
     let n = s.len();
     if n < 8 {
-        return is_short(s);
+        return are_below::<0xC4>(s);
     }
     if n < 16 {
-        return is_word(s, 0) & is_word(s, n - 8);
+        return all_below::<8, 0xC4>(s, 0) & all_below::<8, 0xC4>(s, n - 8);
     }
     let last = n - 16;
-    let mut i = 0;
-    while i < last {
-        if !is_pair(s, i) {
+    for turn in 0..last.div_ceil(16) {
+        if !all_below::<16, 0xC4>(s, 16 * turn) {
             return false;
         }
-        i += 16;
     }
-    is_pair(s, last)
+    all_below::<16, 0xC4>(s, last)
 }

@@ -3,42 +3,41 @@ ghost use Rattle.std.specs.Prelude.{◌≡◌};
 ghost use Rattle.text.specs.Utf8.{from_utf8};
 ghost use Rattle.decode.specs.Measure.{measured};
 
-use super::step::{Step, step_at};
+use super::step::step_at;
 use text::plain::is_plain;
 
-// A text: how many units it has and whether it fits Latin-1; or no UTF-8.
+// Of a text: how many units it has and whether it fits Latin-1.
 #[derive(Clone, Copy)]
-pub enum Measured {
-    Text(usize, bool),
-    NoText,
+pub struct Measured {
+    pub units: usize,
+    pub latin: bool,
 }
 
 // The text of some bytes, measured a few characters at a time.
-fn by_steps(s: &[u8]) -> Measured
+fn by_steps(s: &[u8]) -> Option<Measured>
     ensures { result ≡ measured (from_utf8 s.now) }
 {
     let mut units = 0;
     let mut latin = true;
     let mut at = 0;
     while at < s.len() {
-        match step_at(s, at) {
-            Step::Past(k, u, low) => {
-                units += u;
-                latin = latin & low;
-                at += k;
-            }
-            Step::Stuck => return Measured::NoText,
-        }
+        let step = step_at(s, at)?;
+        units += step.units;
+        latin &= step.latin;
+        at += step.size;
     }
-    Measured::Text(units, latin)
+    Some(Measured { units, latin })
 }
 
-// The text of some bytes, measured. ASCII has a unit for each byte.
-pub fn measure(s: &[u8]) -> Measured
+// The text of some bytes, measured, or none where they are no UTF-8. ASCII has a unit for each byte.
+pub fn measure(s: &[u8]) -> Option<Measured>
     ensures { result ≡ measured (from_utf8 s.now) }
 {
     if is_plain(s) {
-        return Measured::Text(s.len(), true);
+        return Some(Measured {
+            units: s.len(),
+            latin: true,
+        });
     }
     by_steps(s)
 }

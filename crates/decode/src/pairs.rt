@@ -4,10 +4,10 @@
 ghost use Rattle.std.specs.Prelude.{◌≡◌, ◌+◌, ◌-◌, ◌*◌, ◌≤◌, ◌<◌, length, take, get_or};
 ghost use Rattle.decode.specs.Tails.{Filling, picked, ran, Meant, Counted};
 
-use super::narrow::bit;
 use super::tails::raised;
 
 // What a byte means between two others; a leading byte stands for its tail.
+#[tactic(auto, unfolding(crate::specs::Tails::picked))]
 fn picked(a: u8, b: u8, c: u8) -> u8
     ensures { result ≡ picked a b c }
 {
@@ -18,10 +18,11 @@ fn picked(a: u8, b: u8, c: u8) -> u8
 }
 
 // How many of two bytes end a character.
+#[tactic(auto, unfolding(crate::specs::Tails::ran))]
 fn ran(b: u8, c: u8) -> u8
     ensures { result ≡ ran b c }
 {
-    bit(b < 0xC0) + bit(c < 0xC0)
+    u8::from(b < 0xC0) + u8::from(c < 0xC0)
 }
 
 // What each of the 32 bytes from a place on means.
@@ -29,12 +30,8 @@ fn look_bytes(bytes: &mut [u8; 32], s: &[u8], i: usize)
     requires { (0 < i) × (i + 32 < length s.now) × (length bytes.old ≡ 32) }
     ensures { Meant s.now i 32 bytes.new }
 {
-    let mut k: usize = 0;
-    while k < 32 {
-        let b = s[i + k];
-        let c = s[i + k + 1];
-        bytes[k] = picked(s[i + k - 1], b, c);
-        k += 1;
+    for k in 0..32 {
+        bytes[k] = picked(s[i + k - 1], s[i + k], s[i + k + 1]);
     }
 }
 
@@ -43,10 +40,8 @@ fn look_sizes(sizes: &mut [u8; 16], s: &[u8], i: usize)
     requires { (i + 32 ≤ length s.now) × (length sizes.old ≡ 16) }
     ensures { Counted s.now i 16 sizes.new }
 {
-    let mut k: usize = 0;
-    while k < 16 {
+    for k in 0..16 {
         sizes[k] = ran(s[i + 2 * k], s[i + 2 * k + 1]);
-        k += 1;
     }
 }
 
@@ -55,10 +50,7 @@ pub fn pairs_of(left: usize) -> usize
     requires { 3 ≤ left }
     ensures { (0 < result) × (result ≤ 16) × (2 * result < left) }
 {
-    if left < 34 {
-        return (left - 1) / 2;
-    }
-    16
+    ((left - 1) / 2).min(16)
 }
 
 // So many pairs from a place on, of the text that is the first bytes of s as far as another, behind so many bytes that are written already. Returns
@@ -72,14 +64,10 @@ pub fn put_pairs(out: &mut [u8], wrote: usize, s: &[u8], to: usize, i: usize, pa
     look_bytes(&mut bytes, s, i);
     look_sizes(&mut sizes, s, i);
     let mut n = wrote;
-    let mut j: usize = 0;
-    while j < pairs {
-        let a = bytes[2 * j];
-        let b = bytes[2 * j + 1];
-        out[n] = a;
-        out[n + 1] = b;
-        n += sizes[j] as usize;
-        j += 1;
+    for j in 0..pairs {
+        out[n] = bytes[2 * j];
+        out[n + 1] = bytes[2 * j + 1];
+        n += usize::from(sizes[j]);
     }
     n
 }

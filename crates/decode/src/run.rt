@@ -1,54 +1,115 @@
-// Four characters of three bytes in a row, in text that is known to be UTF-8: seen by their first bytes and written as UTF-16LE at once.
-ghost use Rattle.std.specs.Prelude.{◌≡◌, true, ◌≤◌, ◌<◌, length, drop, get_or};
+// Four characters of two bytes or of three in a row, in text that is known to be UTF-8: seen by their first bytes and written as UTF-16LE at once.
+ghost use Rattle.std.specs.Prelude.{◌≡◌, Bool, true, List, [], ◌∷◌, ℕ, ◌/◌, ◌%◌, ◌≤◌, ◌<◌, length, drop, get_or};
+ghost use Rattle.std.proofs.Common.{rules};
 ghost use Rattle.base.specs.Output.{Wrote};
 ghost use Rattle.text.specs.Utf16.{is_well};
 ghost use Rattle.text.specs.Utf8.{from_utf8};
-ghost use Rattle.decode.specs.Run.{leads_three, is_run, three_at, run_bytes};
+ghost use Rattle.decode.specs.Run.{leads_two, two_at, leads_three, three_at, four_led, four_units};
+ghost use Rattle.decode.specs.TurnLaws.{Turn};
 
-use super::chars::three;
-use base::number::wide;
+use super::chars::{three, two, within};
 
-// Whether a byte is the first of a character of three.
-fn leads_three(b: u8) -> bool
-    ensures { result ≡ leads_three b }
-{
-    b & 0xF0 == 0xE0
+// A kind of character by how many bytes it has: one unit, which its first byte tells.
+pub trait Lead {
+    const SIZE: usize;
+
+    ghost SIZE: { ℕ };
+
+    ghost lead: { ℕ → Bool };
+
+    ghost value: { List ℕ → ℕ → ℕ };
+
+    // Whether a byte is the first of such a character.
+    fn leads(b: u8) -> bool
+        ensures { result ≡ lead b };
+
+    // The scalar value of the bytes at a place, which are such a character.
+    fn value_at(s: &[u8], at: usize) -> u16
+        requires { (at < length s.now) × (is_well (from_utf8 (drop at s.now)) ≡ true) × (lead (get_or s.now at 0) ≡ true) }
+        ensures { (result ≡ value s.now at) × Turn s.now at result SIZE };
+
+    ghost few: { (1 ≤ SIZE) × (SIZE ≤ 3) };
 }
 
-// Whether twelve bytes from a place on are there, and each third of them is the first of a character of three. One test, without a branch.
-pub fn is_run(s: &[u8], at: usize) -> bool
+// Characters of two bytes.
+pub struct Two;
+
+impl Lead for Two {
+    const SIZE: usize = 2;
+
+    ghost SIZE = { 2 };
+
+    ghost lead = { leads_two };
+
+    ghost value = { two_at };
+
+    fn leads(b: u8) -> bool {
+        within(0xC0, 0xDF, b)
+    }
+
+    fn value_at(s: &[u8], at: usize) -> u16 {
+        two(s[at], s[at + 1]) as u16
+    }
+
+    ghost few = { Prim.search rules };
+}
+
+// Characters of three bytes.
+pub struct Three;
+
+impl Lead for Three {
+    const SIZE: usize = 3;
+
+    ghost SIZE = { 3 };
+
+    ghost lead = { leads_three };
+
+    ghost value = { three_at };
+
+    fn leads(b: u8) -> bool {
+        b & 0xF0 == 0xE0
+    }
+
+    fn value_at(s: &[u8], at: usize) -> u16 {
+        three(s[at], s[at + 1], s[at + 2]) as u16
+    }
+
+    ghost few = { Prim.search rules };
+}
+
+// Whether the bytes of four such characters are there from a place on, by their first bytes. One test, without a branch.
+pub fn is_run<L: Lead>(s: &[u8], at: usize) -> bool
     requires { at ≤ length s.now }
-    ensures { result ≡ is_run s.now at }
+    ensures { result ≡ four_led L.lead L.SIZE s.now at }
 {
-    if s.len() - at < 12 {
+    let size = L::SIZE;
+    if s.len() - at < 4 * size {
         return false;
     }
-    leads_three(s[at]) & leads_three(s[at + 3]) & leads_three(s[at + 6]) & leads_three(s[at + 9])
+    L::leads(s[at])
+        & L::leads(s[at + size])
+        & L::leads(s[at + 2 * size])
+        & L::leads(s[at + 3 * size])
 }
 
-// The scalar value of the three bytes at a place.
-fn three_at(s: &[u8], at: usize) -> u32
-    requires { (at < length s.now) × (is_well (from_utf8 (drop at s.now)) ≡ true) × (leads_three (get_or s.now at 0) ≡ true) }
-    ensures { (result ≡ three_at s.now at) × (result < 0x10000) }
+// A unit, the low byte first.
+pub fn put_unit(out: &mut [u8], unit: u16)
+    requires { 2 ≤ length out.old }
+    ensures { Wrote out.old (unit % 256 ∷ unit / 256 ∷ []) out.new 2 }
 {
-    three(wide(s[at]), wide(s[at + 1]), wide(s[at + 2]))
+    let [low, high] = unit.to_le_bytes();
+    out[0] = low;
+    out[1] = high;
 }
 
-// Four characters of three bytes as UTF-16LE.
-pub fn put_run(out: &mut [u8], s: &[u8], at: usize)
-    requires { (is_well (from_utf8 (drop at s.now)) ≡ true) × (is_run s.now at ≡ true) × (8 ≤ length out.old) }
-    ensures { Wrote out.old (run_bytes s.now at) out.new 8 }
+// Four such characters as UTF-16LE.
+pub fn put_run<L: Lead>(out: &mut [u8], s: &[u8], at: usize)
+    requires { (is_well (from_utf8 (drop at s.now)) ≡ true) × (four_led L.lead L.SIZE s.now at ≡ true) × (8 ≤ length out.old) }
+    ensures { Wrote out.old (four_units L.value L.SIZE s.now at) out.new 8 }
 {
-    let a = three_at(s, at);
-    let b = three_at(s, at + 3);
-    let c = three_at(s, at + 6);
-    let d = three_at(s, at + 9);
-    out[0] = (a % 256) as u8;
-    out[1] = (a / 256) as u8;
-    out[2] = (b % 256) as u8;
-    out[3] = (b / 256) as u8;
-    out[4] = (c % 256) as u8;
-    out[5] = (c / 256) as u8;
-    out[6] = (d % 256) as u8;
-    out[7] = (d / 256) as u8;
+    let size = L::SIZE;
+    put_unit(out, L::value_at(s, at));
+    put_unit(&mut out[2..], L::value_at(s, at + size));
+    put_unit(&mut out[4..], L::value_at(s, at + 2 * size));
+    put_unit(&mut out[6..], L::value_at(s, at + 3 * size));
 }

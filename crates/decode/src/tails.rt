@@ -5,6 +5,7 @@ ghost use Rattle.base.specs.Output.{Wrote};
 ghost use Rattle.decode.specs.Tails.{kept, raised, Tailed, Filling};
 
 // What a byte below C0 means after another: C3 adds 40 to a tail.
+#[tactic(auto, unfolding(crate::specs::Tails::raised))]
 pub fn raised(before: u8, b: u8) -> u8
     ensures { result ≡ raised before b }
 {
@@ -21,13 +22,10 @@ pub fn put_each(out: &mut [u8], s: &[u8]) -> usize
 {
     let mut n: usize = 0;
     let mut before: u8 = 0;
-    let mut i: usize = 0;
-    while i < s.len() {
-        let b = s[i];
-        out[n] = raised(before, b);
-        n += (b < 0xC0) as usize;
-        before = b;
-        i += 1;
+    for b in s {
+        out[n] = raised(before, *b);
+        n += usize::from(*b < 0xC0);
+        before = *b;
     }
     n
 }
@@ -39,11 +37,11 @@ pub fn put_last(out: &mut [u8], wrote: usize, s: &[u8], i: usize) -> usize
 {
     let b = s[i];
     out[wrote] = raised(s[i - 1], b);
-    let n = wrote + (b < 0xC0) as usize;
+    let n = wrote + usize::from(b < 0xC0);
     if s.len() - i < 2 {
         return n;
     }
     let c = s[i + 1];
     out[n] = raised(b, c);
-    n + (c < 0xC0) as usize
+    n + usize::from(c < 0xC0)
 }

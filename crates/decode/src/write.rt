@@ -6,12 +6,14 @@ ghost use Rattle.text.specs.Utf16.{is_well, encode_one, unit_bytes, utf16le};
 ghost use Rattle.text.specs.Utf8.{from_utf8};
 ghost use Rattle.decode.specs.Measure.{text_of, fits_latin1};
 
-use super::chars::{Char, known_char};
+use super::chars::known_char;
 use super::eight::{put_eight, starts_eight};
 use super::pairs::{pairs_of, put_pairs};
-use super::run::{is_run, put_run};
+use super::run::{Three, Two, is_run, put_run, put_unit};
 use super::tails::{put_each, put_last};
-use super::twos::{is_twos, put_twos};
+
+// Kept: that bytes are UTF-8 is a `requires` on a slice, on its first bytes or on those from a place on. A struct with that as a ghost field would be
+// made anew where one of these becomes another: `put_run::<Two>(out, Utf8 { bytes: &s[at..] })`.
 
 // The text that is the first bytes of s, as Latin-1: pairs of bytes, many at once, behind its first byte, and its last byte or two alone. Where few bytes
 // follow the text, it is written byte by byte.
@@ -26,7 +28,7 @@ pub fn put_latin1(out: &mut [u8], s: &[u8], to: usize) -> usize
     }
     let a = s[0];
     out[0] = a;
-    let mut n = (a < 0xC0) as usize;
+    let mut n = usize::from(a < 0xC0);
     let mut i = 1;
     while 3 <= to - i {
         let pairs = pairs_of(to - i);
@@ -42,16 +44,11 @@ fn put_units(out: &mut [u8], c: u32) -> usize
     ensures { Wrote out.old (unit_bytes (encode_one c)) out.new result }
 {
     if 0x10000 <= c {
-        let high = 0xD800 + (c - 0x10000) / 0x400;
-        let low = 0xDC00 + (c - 0x10000) % 0x400;
-        out[0] = (high % 256) as u8;
-        out[1] = (high / 256) as u8;
-        out[2] = (low % 256) as u8;
-        out[3] = (low / 256) as u8;
+        put_unit(out, (0xD800 + (c - 0x10000) / 0x400) as u16);
+        put_unit(&mut out[2..], (0xDC00 + (c - 0x10000) % 0x400) as u16);
         return 4;
     }
-    out[0] = (c % 256) as u8;
-    out[1] = (c / 256) as u8;
+    put_unit(out, c as u16);
     2
 }
 
@@ -72,27 +69,25 @@ pub fn put_utf16le(out: &mut [u8], s: &[u8]) -> usize
                 continue;
             }
         } else if a < 0xE0 {
-            if is_twos(s, at) {
-                put_twos(&mut out[n..], s, at);
+            if is_run::<Two>(s, at) {
+                put_run::<Two>(&mut out[n..], s, at);
                 n += 8;
                 at += 8;
                 continue;
             }
         } else if a < 0xF0 {
-            if is_run(s, at) {
-                put_run(&mut out[n..], s, at);
+            if is_run::<Three>(s, at) {
+                put_run::<Three>(&mut out[n..], s, at);
                 n += 8;
                 at += 12;
                 continue;
             }
         }
-        match known_char(s, at) {
-            Char::Of(c, k) => {
-                n += put_units(&mut out[n..], c);
-                at += k;
-            }
-            Char::Ill => return n,
-        }
+        let Some(c) = known_char(s, at) else {
+            return n;
+        };
+        n += put_units(&mut out[n..], c.value);
+        at += c.size;
     }
     n
 }

@@ -1,6 +1,6 @@
 -- Laws of the units that names bring: how many they are, and how a window of them is filled name by name. Assumes nothing.
 use Rattle.std.specs.Prelude.{◌≡◌, Bool, true, false, List, [], ◌∷◌, ◌++◌, map, get_or, take, drop}
-use Rattle.std.proofs.Math.Path.{refl, ap}
+use Rattle.std.proofs.Math.Path.{refl, ap, ap₂}
 use Rattle.std.proofs.Common.{sym, ◌∙◌, append-nil, sub-one, arith, length-append, length-take, length-drop, take-append-drop, drop_of_length-le, take_all, take_at, drop_at, take-add, drop-drop, length-take-le}
 use Rattle.std.proofs.Math.Bool.{cond}
 use Rattle.std.proofs.Math.Logic.{by_cases}
@@ -8,7 +8,7 @@ use Prim.Native.Nat.{ℕ, zero, suc, ◌+◌, ◌-◌, ◌*◌, ◌/◌, ◌≤�
 use Rattle.std.proofs.Math.Decide.{dec_lt}
 use Rattle.std.proofs.Math.ListN.{length}
 use Rattle.std.proofs.lemmas.List.{length-map}
-use Rattle.std.proofs.Math.Seq.{take-length, drop-length}
+use Rattle.std.proofs.Math.Seq.{take-length, drop-length, get_or-take}
 use Rattle.text.specs.UnitBytesLaws.{unit_bytes-length, unit_bytes_append}
 use Rattle.ids.specs.LowerLaws.{lowered-units}
 use Rattle.text.specs.Name.{decoded, base, suffix}
@@ -23,7 +23,8 @@ use Rattle.batch.specs.Holds.{text_at, Holds}
 use Rattle.batch.specs.Places.{part_at}
 use Rattle.batch.specs.declared.places.Place.{Place}
 use Rattle.meaning.specs.Verify.{slash}
-use Rattle.hashes.specs.Chain.{place_no, number_no, piece, pieces, piece_count, chain_units, Named, Sized}
+use Rattle.hashes.specs.Chain.{no_link, place_no, number_no, piece, pieces, piece_count, chain_units, Named, Sized}
+use Rattle.hashes.specs.declared.chain.Link.{Link}
 
 -- ---- how many
 
@@ -48,31 +49,38 @@ module _ {b : List ℕ} (y : Bytes b) (p : Place) (d : Holds b p (text_at b p)) 
       ∙ ap (λ (n : ℕ). cond p.wide (n / 2) n) part-size in
       omega (arith, e, f)
 
--- of object k, by its columns
-pub piece_count_lem : {b : List ℕ} → Bytes b → (c : List ℕ) (k : ℕ) → Holds b (place_no c k) (text_at b (place_no c k))
-    → piece_count (get_or c (3 * k + 1) 0) (number_no c k) ≡ length (piece b (place_no c k) (number_no c k))
+-- by its place
+pub piece_count_lem : {b : List ℕ} → Bytes b → (p : Place) → Holds b p (text_at b p) → (number : ℕ) → piece_count p number ≡ length (piece b p number)
 unfolding piece_count
-piece_count_lem y c k d = sym (piece-length y (place_no c k) d (number_no c k))
+piece_count_lem y p d number = sym (piece-length y p d number)
 
 -- one object more
-pub pieces-next : (b c : List ℕ) (k : ℕ) → pieces b c (k + 1) ≡ piece b (place_no c k) (number_no c k) ++ pieces b c k
+pub pieces-next : (b : List ℕ) (c : List Link) (k : ℕ) → pieces b c (k + 1) ≡ piece b (place_no c k) (number_no c k) ++ pieces b c k
 unfolding pieces
 pieces-next b c k = let e : k + 1 ≡ suc k = omega arith in rw e
 
-pub pieces_none : (b c : List ℕ) → pieces b c 0 ≡ []
+pub pieces_none : (b : List ℕ) (c : List Link) → pieces b c 0 ≡ []
 unfolding pieces
 pieces_none b c = refl
 
-pub pieces-some : (b c : List ℕ) (k : ℕ) → 0 < length (pieces b c k) → 0 < k
+pub pieces-some : (b : List ℕ) (c : List Link) (k : ℕ) → 0 < length (pieces b c k) → 0 < k
 unfolding pieces
 pieces-some b c zero h = absurd (omega arith)
 pieces-some b c (suc k) h = omega arith
+
+-- the first n objects bring the same in a longer chain
+pub pieces-take : (b : List ℕ) (c : List Link) (n k : ℕ) → k ≤ n → pieces b (take n c) k ≡ pieces b c k
+unfolding pieces
+pieces-take b c n zero h = refl
+pieces-take b c n (suc k) h =
+    let e : get_or (take n c) k no_link ≡ get_or c k no_link = get_or-take n c k no_link (omega arith) in
+    ap₂ (λ (u : Link) (l : List ℕ). piece b u.place u.number ++ l) e (pieces-take b c n k (omega arith))
 
 piece-some : (b : List ℕ) (p : Place) (number : ℕ) → 0 < length (piece b p number)
 unfolding piece
 piece-some b p number = omega arith
 
-pub pieces-full : (b c : List ℕ) (k : ℕ) → 0 < k → 0 < length (pieces b c k)
+pub pieces-full : (b : List ℕ) (c : List Link) (k : ℕ) → 0 < k → 0 < length (pieces b c k)
 pieces-full b c k h =
     let e : k ≡ k - 1 + 1 = omega arith in
     let p = piece b (place_no c (k - 1)) (number_no c (k - 1)) in
@@ -84,10 +92,10 @@ pieces-full b c k h =
       piece-some b (place_no c (k - 1)) (number_no c (k - 1)),
     )
 
-pub count_next : {b : List ℕ} → Bytes b → (c : List ℕ) (k : ℕ) → Holds b (place_no c k) (text_at b (place_no c k)) → (total r : ℕ) → total ≡ length (pieces b c k)
-    → r ≡ piece_count (get_or c (3 * k + 1) 0) (number_no c k) → total + r ≡ length (pieces b c (k + 1))
+pub count_next : {b : List ℕ} → Bytes b → (c : List Link) (k : ℕ) → Holds b (place_no c k) (text_at b (place_no c k)) → (total r : ℕ) → total ≡ length (pieces b c k)
+    → r ≡ piece_count (place_no c k) (number_no c k) → total + r ≡ length (pieces b c (k + 1))
 count_next {b} y c k d total r e q =
-    omega (arith, q ∙ piece_count_lem y c k d, ap length (pieces-next b c k), length-append (piece b (place_no c k) (number_no c k)) (pieces b c k))
+    omega (arith, q ∙ piece_count_lem y (place_no c k) d (number_no c k), ap length (pieces-next b c k), length-append (piece b (place_no c k) (number_no c k)) (pieces b c k))
 
 -- ---- a piece, from a place on
 
@@ -121,24 +129,26 @@ map-drop f zero l = refl
 map-drop f (suc n) [] = refl
 map-drop f (suc n) (x ∷ l) = map-drop f n l
 
-pub chain-window : (b c : List ℕ) (d from n : ℕ) → map slash (take n (drop (from + 1) (pieces b c d))) ≡ take n (drop from (chain_units b c d))
+pub chain-window : (b : List ℕ) (c : List Link) (from n : ℕ)
+    → map slash (take n (drop (from + 1) (pieces b c (length c)))) ≡ take n (drop from (chain_units b c))
 unfolding chain_units
-chain-window b c d from n =
+chain-window b c from n =
+    let d = length c in
     let e : 1 + from ≡ from + 1 = omega arith in
     let us : List ℕ = map slash (pieces b c d) in
     let behind : drop from (drop 1 us) ≡ map slash (drop (from + 1) (pieces b c d)) =
     drop-drop from 1 us ∙ ap (λ (k : ℕ). drop k us) e ∙ map-drop slash (from + 1) (pieces b c d) in
     sym (ap (take n) behind ∙ map-take slash n (drop (from + 1) (pieces b c d)))
 
-pub chain_length : (b c : List ℕ) (d n : ℕ) → length (pieces b c d) ≡ n + 1 → length (chain_units b c d) ≡ n
+pub chain_length : (b : List ℕ) (c : List Link) (n : ℕ) → length (pieces b c (length c)) ≡ n + 1 → length (chain_units b c) ≡ n
 unfolding chain_units
-chain_length b c d n e = length-drop 1 (map slash (pieces b c d)) ∙ rw (length-map (pieces b c d) slash, e) (omega arith)
+chain_length b c n e = length-drop 1 (map slash (pieces b c (length c))) ∙ rw (length-map (pieces b c (length c)) slash, e) (omega arith)
 
 -- so many units of a path take twice as many bytes
-pub window-size : {b c : List ℕ} {d n : ℕ} → Sized b c d n → (from m : ℕ) → from + m ≤ n → length (unit_bytes (take m (drop from (chain_units b c d)))) ≡ 2 * m
-window-size {b} {c} {d} {n} t from m h =
-    unit_bytes-length (take m (drop from (chain_units b c d)))
-    ∙ ap (λ (k : ℕ). 2 * k) (length-take-le m (drop from (chain_units b c d)) (simp length-drop (omega (arith, chain_length b c d n t.count))))
+pub window-size : {b : List ℕ} {c : List Link} {n : ℕ} → Sized b c n → (from m : ℕ) → from + m ≤ n → length (unit_bytes (take m (drop from (chain_units b c)))) ≡ 2 * m
+window-size {b} {c} {n} t from m h =
+    unit_bytes-length (take m (drop from (chain_units b c)))
+    ∙ ap (λ (k : ℕ). 2 * k) (length-take-le m (drop from (chain_units b c)) (simp length-drop (omega (arith, chain_length b c n t.count))))
 
 -- a buffer that is written to its end
 pub wrote-full : {s a o : List ℕ} {r : ℕ} → Wrote s a o r → length a ≡ length s → o ≡ a
@@ -185,29 +195,29 @@ window-split left skip past here xs ys ep eh =
     let k : left - (length xs - past) ≡ left - here = sub-least left (length xs - past) eh in
     rw (drop-both skip xs ys, d, i, take-both left (drop past xs) (drop (skip - past) ys), n, a, k)
 
--- object k - 1's part of a window that passes over `skip` units of the k innermost objects' and takes `left`
-pub record Part (b c : List ℕ) (depth k skip left count past here : ℕ) : Type 0 where
+-- the part of object u, which is object k, of a window that passes over `skip` units of what it and the k objects inside it bring, and takes `left`
+pub record Part (b : List ℕ) (c : List Link) (u : Link) (k skip left count past here : ℕ) : Type 0 where
   pub bytes : Bytes b
-  pub named : Named b c depth
-  pub some : 0 < k
-  pub most : k ≤ depth
-  pub room : skip + left ≤ length (pieces b c k)
-  pub counts : count ≡ piece_count (get_or c (3 * (k - 1) + 1) 0) (number_no c (k - 1))
+  pub named : Named b c
+  pub most : k < length c
+  pub object : u ≡ get_or c k no_link
+  pub room : skip + left ≤ length (pieces b c (k + 1))
+  pub counts : count ≡ piece_count u.place u.number
   pub passed : past ≡ min skip count
   pub taken : here ≡ min left (count - past)
 
-module _ {b c : List ℕ} {depth k skip left count past here : ℕ} (t : Part b c depth k skip left count past here) where
+module _ {b : List ℕ} {c : List Link} {u : Link} {k skip left count past here : ℕ} (t : Part b c u k skip left count past here) where
   abbrev own : List ℕ
-  own = piece b (place_no c (k - 1)) (number_no c (k - 1))
+  own = piece b u.place u.number
 
-  pub own-holds : Holds b (place_no c (k - 1)) (text_at b (place_no c (k - 1)))
-  own-holds = t.named.holds (k - 1) (omega (arith, t.some, t.most))
+  pub own-holds : Holds b u.place (text_at b u.place)
+  own-holds = rw t.object (t.named.holds k t.most)
 
   counted : count ≡ length own
-  counted = t.counts ∙ piece_count_lem t.bytes c (k - 1) own-holds
+  counted = t.counts ∙ piece_count_lem t.bytes u.place own-holds u.number
 
-  next : pieces b c k ≡ own ++ pieces b c (k - 1)
-  next = let e : k ≡ k - 1 + 1 = omega (arith, t.some) in ap (pieces b c) e ∙ pieces-next b c (k - 1)
+  next : pieces b c (k + 1) ≡ own ++ pieces b c k
+  next = pieces-next b c k ∙ ap (λ (v : Link). piece b v.place v.number ++ pieces b c k) (sym t.object)
 
   pub own-fits : past + here ≤ length own
   own-fits = within counted t.passed t.taken
@@ -215,16 +225,16 @@ module _ {b c : List ℕ} {depth k skip left count past here : ℕ} (t : Part b 
       within : {n : ℕ} → count ≡ n → past ≡ min skip count → here ≡ min left (count - past) → past + here ≤ n
       within e p h = omega arith
 
-  pub own_split : unit_bytes (take left (drop skip (pieces b c k)))
-      ≡ unit_bytes (take here (drop past own)) ++ unit_bytes (take (left - here) (drop (skip - past) (pieces b c (k - 1))))
+  pub own_split : unit_bytes (take left (drop skip (pieces b c (k + 1))))
+      ≡ unit_bytes (take here (drop past own)) ++ unit_bytes (take (left - here) (drop (skip - past) (pieces b c k)))
   own_split =
-      let e = window-split left skip past here own (pieces b c (k - 1)) (t.passed ∙ ap (min skip) counted)
+      let e = window-split left skip past here own (pieces b c k) (t.passed ∙ ap (min skip) counted)
       (t.taken ∙ ap (λ (n : ℕ). min left (n - past)) counted) in
       ap (λ (l : List ℕ). unit_bytes (take left (drop skip l))) next ∙ ap unit_bytes e
-      ∙ unit_bytes_append (take here (drop past own)) (take (left - here) (drop (skip - past) (pieces b c (k - 1))))
+      ∙ unit_bytes_append (take here (drop past own)) (take (left - here) (drop (skip - past) (pieces b c k)))
 
-  pub own-after : skip - past + (left - here) ≤ length (pieces b c (k - 1))
-  own-after = beyond counted t.passed t.taken (omega (arith, t.room, ap length next, length-append own (pieces b c (k - 1))))
+  pub own-after : skip - past + (left - here) ≤ length (pieces b c k)
+  own-after = beyond counted t.passed t.taken (omega (arith, t.room, ap length next, length-append own (pieces b c k)))
     where
       beyond : {n m : ℕ} → count ≡ n → past ≡ min skip count → here ≡ min left (count - past) → skip + left ≤ n + m → skip - past + (left - here) ≤ m
       beyond e p h r = omega arith
@@ -263,13 +273,13 @@ module _ {s x o rest : List ℕ} {at : ℕ} (w : Filled s x o rest at) where
         }
 
 -- the object's part has room where the window has, and is written next
-module _ {b c : List ℕ} {depth k skip left count past here : ℕ} (t : Part b c depth k skip left count past here) {s x o : List ℕ} {at : ℕ}
-    (w : Filled s x o (unit_bytes (take left (drop skip (pieces b c k)))) at) where
+module _ {b : List ℕ} {c : List Link} {u : Link} {k skip left count past here : ℕ} (t : Part b c u k skip left count past here) {s x o : List ℕ} {at : ℕ}
+    (w : Filled s x o (unit_bytes (take left (drop skip (pieces b c (k + 1))))) at) where
   abbrev part : List ℕ
-  part = unit_bytes (take here (drop past (piece b (place_no c (k - 1)) (number_no c (k - 1)))))
+  part = unit_bytes (take here (drop past (piece b u.place u.number)))
 
   abbrev others : List ℕ
-  others = unit_bytes (take (left - here) (drop (skip - past) (pieces b c (k - 1))))
+  others = unit_bytes (take (left - here) (drop (skip - past) (pieces b c k)))
 
   pub part_room : length x ≤ length s → 2 * here ≤ length (take (length o - at) (drop at o))
   part_room h = omega (arith, own-size t, filled-room w part others (own_split t) h)

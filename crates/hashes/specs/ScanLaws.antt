@@ -1,6 +1,6 @@
 -- Laws of a chain made by looking in the block alone: its names' starts are counted from where the block's names start. Assumes nothing.
-use Rattle.std.specs.Prelude.{◌≡◌, refl, Bool, true, false, cond, List, [], ◌∷◌, ℕ, zero, suc, ◌+◌, ◌-◌, ◌≤◌, ◌<◌, eqb, length, get_or, take, drop}
-use Rattle.std.proofs.Common.{sym, ◌∙◌, ap, arith, length-drop, drop-drop}
+use Rattle.std.specs.Prelude.{◌≡◌, refl, Bool, true, false, cond, List, [], ◌∷◌, ℕ, zero, suc, ◌+◌, ◌-◌, ◌≤◌, ◌<◌, eqb, length, get_or, take, drop, Ok}
+use Rattle.std.proofs.Common.{◌∙◌, ap, arith, length-drop, drop-drop}
 use Rattle.std.proofs.Math.Seq.{take-length}
 use Rattle.base.specs.Index.{kind}
 use Rattle.base.specs.NumberLaws.{Bytes}
@@ -17,11 +17,8 @@ use Rattle.scriptblock.specs.ScriptAnswers.{script_answer, entries_of, no_entry}
 use Rattle.scriptblock.proofs.ScriptFacts.{objects-facts, script-facts, number_is}
 use Rattle.scriptblock.specs.declared.script.Entry.{Entry}
 use Rattle.scriptblock.specs.declared.script.Layout.{Layout}
-use Rattle.scriptblock.specs.declared.script.Script.TheVariants.{Accepted}
 use Rattle.objects.specs.Numbers.{entry_no, raised, number_of, link_of}
-use Rattle.objects.specs.NumberLaws.{link-found, raised-some}
-use Rattle.objects.specs.PathLaws.{unpacked}
-use Rattle.objects.specs.Work.{packed}
+use Rattle.objects.specs.NumberLaws.{link-found}
 use Rattle.hashes.specs.ChainLaws.{Own}
 
 -- ---- an object by its global index: the two ways to say its number
@@ -73,7 +70,7 @@ rest s first = rw (← length-drop first s) (take-length (drop first s))
 
 -- ---- the objects of an accepted block
 
-module _ (s : List ℕ) (l : Layout) (acc : script_answer (run script 0 s) ≡ Accepted l) (y : Bytes s) where
+module _ (s : List ℕ) (l : Layout) (acc : script_answer (run script 0 s) ≡ Ok l) (y : Bytes s) where
   abbrev first : ℕ
   first = l.names.strings
 
@@ -104,30 +101,29 @@ module _ (s : List ℕ) (l : Layout) (acc : script_answer (run script 0 s) ≡ A
       pub entry-small : p.size < 65536
       entry-small = let (o, t) = script-facts s l acc in (entry-holds o t.is).small
 
-      -- its columns
-      pub own_scan : (o : Objects) → run script 0 s ≡ gives o → Own (drop first s) o at (p.start - first) (packed p) e.number
+      -- as an object of a chain
+      pub own_scan : (o : Objects) → run script 0 s ≡ gives o → Own (drop first s) o at (record { place = moved first p; number = e.number })
       own_scan o q =
           let d = entry-holds o q in
           record {
-            place = moved first p;
-            is = unpacked (moved first p);
             holds = holds-own (moved_holds first s p entry-behind.0 d);
             name = rw (← entry-same o q, moved-part first s p entry-behind.0, d.text);
           }
 
   -- where an outer leads
-  module _ (outer k : ℕ) (f : k ≡ entry_number outer (entries_of (run script 0 s))) where
-    pub found_inside : (k ≡ 0 → ⊥) → k - 1 < l.count
-    found_inside n = let (o, t) = script-facts s l acc in
-        let q = (number_is outer (entries_of (run script 0 s)) (k - 1) (omega arith)).0 in
+  module _ (outer : ℕ) where
+    pub found_inside : {k : ℕ} → suc k ≡ entry_number outer (entries_of (run script 0 s)) → k < l.count
+    found_inside {k} f =
+        let (o, t) = script-facts s l acc in
+        let q = (number_is outer (entries_of (run script 0 s)) k (omega (arith, f))).0 in
         omega (arith, ap length t.entries_of_lem, t.entries)
 
     module _ (o : Objects) (q : run script 0 s ≡ gives o) (n : kind outer ≡ 3 → ⊥) where
-      number : k ≡ number_of o.entries outer
-      number = f ∙ ap (entry_number outer) (objects-facts s l acc o q).entries_of_lem ∙ entry_number_lem outer o.entries
+      number : {k : ℕ} → k ≡ entry_number outer (entries_of (run script 0 s)) → k ≡ number_of o.entries outer
+      number f = f ∙ ap (entry_number outer) (objects-facts s l acc o q).entries_of_lem ∙ entry_number_lem outer o.entries
 
-      pub link-none : k ≡ 0 → 0 ≡ link_of o outer
-      link-none z = ap raised (sym z) ∙ link-found o outer n number
+      pub link-none : 0 ≡ entry_number outer (entries_of (run script 0 s)) → 0 ≡ link_of o outer
+      link-none f = link-found o outer n (number f)
 
-      pub link-some : (k ≡ 0 → ⊥) → k + 1 ≡ link_of o outer
-      link-some z = raised-some k z ∙ link-found o outer n number
+      pub link-some : {k : ℕ} → suc k ≡ entry_number outer (entries_of (run script 0 s)) → suc (suc k) ≡ link_of o outer
+      link-some f = link-found o outer n (number f)

@@ -89,8 +89,7 @@ bytes-slashed (u ∷ us) rest = rw (slash-byte u, slash-high u, bytes-slashed us
 
 -- one unit more, of those from a place on
 pub slash-step : (o : List ℕ) (at m : ℕ) {v : ℕ} → at + 2 ≤ length o → v ≡ slash_low (get_or o at 0) (get_or o (at + 1) 0)
-    → take (at + 2) (set (set o at v) (at + 1) (get_or o (at + 1) 0)) ++ slash_bytes m (drop (at + 2) (set (set o at v) (at + 1) (get_or o (at + 1) 0)))
-    ≡ take at o ++ slash_bytes (suc m) (drop at o)
+    → take (at + 2) (set o at v) ++ slash_bytes m (drop (at + 2) (set o at v)) ≡ take at o ++ slash_bytes (suc m) (drop at o)
 unfolding slash_bytes
 slash-step o at m {v} h e =
     let high : ℕ = get_or o (at + 1) 0 in
@@ -98,9 +97,11 @@ slash-step o at m {v} h e =
     let l : length p ≡ at + 2 = length-append (take at o) (v ∷ high ∷ []) ∙ ap (λ (n : ℕ). n + 2) (length-take-le at o (omega arith)) in
     let one : at + 1 ≡ suc at = add-one at in
     let two : suc (suc at) ≡ at + 2 = omega arith in
-    let stored : set (set o at v) (at + 1) high ≡ p ++ drop (at + 2) o = ap (λ (i : ℕ). set (set o at v) i high) one ∙ sets-eq (v ∷ high ∷ []) o at h in
-    let there : drop at o ≡ get_or o at 0 ∷ high ∷ drop (at + 2) o =
-    drop-cons o at 0 (omega arith) ∙ ap (λ (r : List ℕ). get_or o at 0 ∷ r) (drop-cons o (suc at) 0 (omega arith) ∙ rw (two, ← one)) in
+    let behind : drop (suc at) o ≡ high ∷ drop (at + 2) o = drop-cons o (suc at) 0 (omega arith) ∙ rw (two, ← one) in
+    let stored : set o at v ≡ p ++ drop (at + 2) o =
+    sets-eq (v ∷ []) o at (omega arith) ∙ ap (λ (r : List ℕ). (take at o ++ (v ∷ [])) ++ r) (ap (λ (i : ℕ). drop i o) one ∙ behind)
+    ∙ (append_assoc (take at o) (v ∷ []) (high ∷ drop (at + 2) o) ∙ sym (append_assoc (take at o) (v ∷ high ∷ []) (drop (at + 2) o))) in
+    let there : drop at o ≡ get_or o at 0 ∷ high ∷ drop (at + 2) o = drop-cons o at 0 (omega arith) ∙ ap (λ (r : List ℕ). get_or o at 0 ∷ r) behind in
     rw (stored, take_at p (drop (at + 2) o) (at + 2) l, drop_at p (drop (at + 2) o) (at + 2) l, there, ← e)
     (append_assoc (take at o) (v ∷ high ∷ []) (slash_bytes m (drop (at + 2) o)))
 

@@ -1,8 +1,10 @@
 -- Laws of the hash's turns over parts of a text. Assumes nothing.
-use Rattle.std.specs.Prelude.{◌≡◌, refl, List, ℕ, zero, suc, ◌+◌, ◌-◌, ◌*◌, ◌/◌, ◌≤◌, ◌<◌, length, take, drop}
-use Rattle.std.proofs.Common.{sym, ◌∙◌, ap, suc-add, zero-add, arith, drop-drop, take-take}
+use Rattle.std.specs.Prelude.{◌≡◌, refl, List, ◌++◌, ℕ, zero, suc, ◌+◌, ◌-◌, ◌*◌, ◌/◌, ◌≤◌, ◌<◌, min, length, take, drop}
+use Rattle.std.proofs.Common.{sym, ◌∙◌, ap, suc-add, zero-add, arith, drop-drop, take-take, take_at, drop_at, length-append}
+use Rattle.std.proofs.Math.Logic.{by_cases}
+use Rattle.std.proofs.Math.Decide.{dec_lt}
 use Rattle.city.specs.City.{turn, turns, start, finish, city_hash64}
-use Rattle.city.specs.CityLaws.{turn-front, long-is}
+use Rattle.city.specs.CityLaws.{turn-front, turns-step, turns_end, long-is}
 use Rattle.text.specs.UnitBytesLaws.{unit_bytes-length, unit_bytes-take, unit_bytes-drop}
 use Rattle.base.specs.Number.{le_at}
 use Rattle.base.specs.NumberLaws.{drop-take, le_at-part}
@@ -33,6 +35,30 @@ turns-some left count from s t h =
     let d : 2 * (from + 32 * count) ≡ 2 * from + 64 * count = omega arith in
     sym (ap (λ (n : ℕ). turns n (drop (2 * from) s) t) (sym a) ∙ turns-add count (left - count) (drop (2 * from) s) t
     ∙ rw (drop-drop (64 * count) (2 * from) s, d))
+
+-- the turn over the first 64 bytes, and the rest
+pub turns_chunk : (x s : List ℕ) (t : State) → length x ≡ 64 → turns (length (x ++ s) / 64) (x ++ s) t ≡ turns (length s / 64) s (turn x t)
+turns_chunk x s t h =
+    let e : length (x ++ s) / 64 ≡ suc (length s / 64) = rw (length-append x s) (omega arith) in
+    rw (e, turns-step (length s / 64) (x ++ s) t, take_at x s 64 h, drop_at x s 64 h)
+
+-- up to 16 of those left, as a loop in steps of 16 has it
+pub turns-step16 : (all i count : ℕ) (s : List ℕ) (t : State) → count ≡ min (all - i) 16
+    → turns (all - (i + 16)) (drop (64 * (i + 16)) s) (turns count (drop (2 * (32 * i)) s) t) ≡ turns (all - i) (drop (64 * i) s) t
+turns-step16 all i count s t e =
+    let m : 2 * (32 * i) ≡ 64 * i = omega arith in
+    let h = turns-some (all - i) count (32 * i) s t (omega arith) in
+    by_cases (dec_lt (all - i) 16)
+    (λ (g : all - i < 16).
+    let a : all - i - count ≡ 0 = omega arith in
+    let b : all - (i + 16) ≡ 0 = omega arith in
+    let x : turns 0 (drop (2 * (32 * i + 32 * count)) s) (turns count (drop (2 * (32 * i)) s) t) ≡ turns (all - i) (drop (2 * (32 * i)) s) t = rw a at h in
+    rw b (turns_end 0 _ _ (omega arith) ∙ (sym (turns_end 0 _ _ (omega arith)) ∙ (x ∙ rw m))))
+    (λ (g : ¬ (all - i < 16)).
+    let c : count ≡ 16 = omega arith in
+    let a : all - i - count ≡ all - (i + 16) = omega arith in
+    let d : 2 * (32 * i + 32 * count) ≡ 64 * (i + 16) = omega arith in
+    rw (← a, ← d) (h ∙ rw m))
 
 -- the turns over a window that was filled with units
 pub turns-window : (count from : ℕ) (us : List ℕ) (t : State)

@@ -2,7 +2,7 @@
 
 #![tactic(auto)]
 
-pub mod chain; // an object and those outside it, as columns
+pub mod chain; // an object and those outside it
 pub mod units; // the units of a chain's path
 pub mod hash; // their hash
 pub mod path; // the hash of an object's path

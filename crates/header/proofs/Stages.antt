@@ -16,10 +16,11 @@ use Rattle.header.specs.Parts.{strings_from, sized_texts, exports_in}
 use Rattle.header.specs.Parts.{parts_of, Says, Begun, Tabled, Listed, Small, regions_of}
 use Rattle.header.specs.PartsLaws.{sized-all, sized-none, strings_bound, place_bound}
 use Rattle.header.specs.RegionLaws.{starts}
-use Rattle.header.specs.declared.check.Sized.TheVariants.{To, Bad}
+use Rattle.std.specs.Prelude.{Some, None}
+use Rattle.std.specs.Bool.{then_some}
+use Rattle.header.specs.declared.check.Extent.{Extent}
 use Rattle.header.specs.declared.check.Parts.{Parts}
 use Rattle.header.specs.declared.check.Regions.{Regions}
-use Rattle.header.specs.declared.check.Checked.TheVariants.{Described, Malformed}
 
 -- ---- the texts
 
@@ -27,12 +28,12 @@ module _ (s : List ℕ) (front : 17 ≤ length s) (n : ℕ) (n-is : n ≡ be_at 
   count-is : n ≡ text_count s
   count-is = n-is
 
-  pub texts-bad : sized_texts 0 0 s 17 n ≡ Bad → Says s Malformed
+  pub texts-bad : sized_texts 0 0 s 17 n ≡ None → Says s None
   texts-bad e w = sized-none 0 s 17 n e (rw count-is w.texts)
 
-  pub texts-begun : n < 2 ^ 32 → be_at 4 s 0 + 4 ≡ length s → get_or s 4 0 ≡ 1 → {stop k : ℕ} → sized_texts 0 0 s 17 n ≡ To stop k → Begun s stop k
+  pub texts-begun : n < 2 ^ 32 → be_at 4 s 0 + 4 ≡ length s → get_or s 4 0 ≡ 1 → {t : Extent} → sized_texts 0 0 s 17 n ≡ Some t → Begun s t.next t.size
   unfolding exports_place
-  texts-begun few said version {stop} {k} e =
+  texts-begun few said version e =
       let (f, p, q) = sized-all 0 s 17 n e in
       record {
         front = front;
@@ -52,7 +53,7 @@ module _ (s : List ℕ) (at strings : ℕ) (b : Begun s at strings) (n : ℕ) (n
   unfolding hashes_place
   exports_end = rw (n-is, b.end_is) (omega arith)
 
-  pub exports-short : 4 ≤ length s - at → length s - at < 40 * n + 4 + 4 → Says s Malformed
+  pub exports-short : 4 ≤ length s - at → length s - at < 40 * n + 4 + 4 → Says s None
   exports-short h g w = omega (arith, exports_end, w.hashes, b.within)
 
   module _ (h : 40 * n + 4 + 4 ≤ length s - at) (m : ℕ) (m-is : m ≡ be_at 4 s (at + (40 * n + 4))) where
@@ -60,7 +61,7 @@ module _ (s : List ℕ) (at strings : ℕ) (b : Begun s at strings) (n : ℕ) (n
     unfolding imported_place
     hashes_end = rw (m-is, exports_end) (omega arith)
 
-    pub hashes-short : length s - (at + (40 * n + 4)) < 8 * m + 4 + 4 → Says s Malformed
+    pub hashes-short : length s - (at + (40 * n + 4)) < 8 * m + 4 + 4 → Says s None
     hashes-short g w = omega (arith, hashes_end, w.imported, b.within)
 
     pub tabled : 8 * m + 4 + 4 ≤ length s - (at + (40 * n + 4))
@@ -73,18 +74,18 @@ module _ (s : List ℕ) (at strings hashes stop : ℕ) (t : Tabled s at strings 
   names-are : n ≡ imported_count s
   names-are = rw (← t.stop_is) n-is
 
-  pub names-bad : sized_texts 0 4 s (stop + 4) n ≡ Bad → Says s Malformed
+  pub names-bad : sized_texts 0 4 s (stop + 4) n ≡ None → Says s None
   names-bad e w = sized-none 4 s (stop + 4) n e (rw (names-are, t.stop_is) w.names)
 
-  module _ {last size : ℕ} (e : sized_texts 0 4 s (stop + 4) n ≡ To last size) where
-    last-is : last ≡ form_end s
+  module _ {x : Extent} (e : sized_texts 0 4 s (stop + 4) n ≡ Some x) where
+    last-is : x.next ≡ form_end s
     unfolding form_end
     last-is = rw (names-are, t.stop_is) at (sized-all 4 s (stop + 4) n e).1
 
-    pub names-left : (last ≡ length s → ⊥) → Says s Malformed
+    pub names-left : (x.next ≡ length s → ⊥) → Says s None
     names-left ne w = ne (last-is ∙ w.whole)
 
-    module _ (whole : last ≡ length s) (few : n < 2 ^ 32) (texts entries keys : ℕ) (texts-are : texts ≡ be_at 4 s 13)
+    module _ (whole : x.next ≡ length s) (few : n < 2 ^ 32) (texts entries keys : ℕ) (texts-are : texts ≡ be_at 4 s 13)
         (entries-are : entries ≡ be_at 4 s at) (keys-are : keys ≡ be_at 4 s hashes) (few-entries : entries < 2 ^ 32) (few-keys : keys < 2 ^ 32) where
       abbrev made : Parts
       made = record {
@@ -96,7 +97,7 @@ module _ (s : List ℕ) (at strings hashes stop : ℕ) (t : Tabled s at strings 
         keys = keys;
         imported = stop + 4;
         names = n;
-        spelt = size;
+        spelt = x.size;
       }
 
       entries-is : entries ≡ export_count s
@@ -108,7 +109,7 @@ module _ (s : List ℕ) (at strings hashes stop : ℕ) (t : Tabled s at strings 
       texts-is : texts ≡ text_count s
       texts-is = texts-are
 
-      size_is : size ≡ strings_from 4 s (imported_place s + 4) (imported_count s)
+      size_is : x.size ≡ strings_from 4 s (imported_place s + 4) (imported_count s)
       size_is = rw (names-are, t.stop_is) at (sized-all 4 s (stop + 4) n e).2
 
       made-is : made ≡ parts_of s
@@ -146,13 +147,8 @@ module _ (s : List ℕ) (p : Parts) (l : Listed s p) where
   unfolding parts_of hashes_place imported_place
   exports-room = rw l.parts (omega (arith, l.imported))
 
-  pub name_out : (x : ℕ) → x ≡ be_at 4 s 5 → p.texts ≤ x → Says s Malformed
+  pub name_out : (x : ℕ) → x ≡ be_at 4 s 5 → p.texts ≤ x → Says s None
   name_out x e h w = omega (arith, w.name, texts-are)
-
-  pub exports-out : (b : Bool) → b ≡ named p.texts (cells (export_in s) 40 p.exports p.entries) → b ≡ false → Says s Malformed
-  exports-out b e f w =
-      let g : named p.texts (cells (export_in s) 40 p.exports p.entries) ≡ true = rw (exports-are, texts-are) w.named-all in
-      never (cc)
 
   pub small : Small p
   unfolding parts_of
@@ -166,13 +162,14 @@ module _ (s : List ℕ) (p : Parts) (l : Listed s p) where
   })
 
   module _ (g : Regions) (g-is : g ≡ regions_of p) where
-    pub size-out : longest_header < g.size → Says s Malformed
+    pub size-out : longest_header < g.size → Says s None
     size-out h w = omega (arith, w.size, (starts s).size, ap (λ (g : Regions). g.size) (g-is ∙ ap regions_of l.parts))
 
+    -- the last test
     pub said-whole : g.size ≤ longest_header → (x : ℕ) → x ≡ be_at 4 s 5 → x < p.texts
-        → (b : Bool) → b ≡ named p.texts (cells (export_in s) 40 p.exports p.entries) → b ≡ true → Says s (Described p)
+        → (b : Bool) → b ≡ named p.texts (cells (export_in s) 40 p.exports p.entries) → Says s (then_some b p)
     unfolding parts_of hashes_place imported_place
-    said-whole h x e n b f t = (
+    said-whole h x e n true f = (
       l.parts,
       record {
         front = l.front;
@@ -185,7 +182,10 @@ module _ (s : List ℕ) (p : Parts) (l : Listed s p) where
         names = l.names;
         whole = l.whole;
         name = omega (arith, texts-are);
-        named-all = rw (exports-are, texts-are) at (sym f ∙ t);
+        named-all = rw (exports-are, texts-are) at (sym f);
         size = omega (arith, (starts s).size, ap (λ (g : Regions). g.size) (g-is ∙ ap regions_of l.parts));
       },
     )
+    said-whole h x e n false f = λ w.
+        let g : named p.texts (cells (export_in s) 40 p.exports p.entries) ≡ true = rw (exports-are, texts-are) w.named-all in
+        never (cc)

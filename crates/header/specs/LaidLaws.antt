@@ -1,12 +1,11 @@
 -- Bytes written at a place of a buffer; headers and strings of texts, written text by text. Assumes nothing.
-use Rattle.std.specs.Prelude.{◌≡◌, refl, true, List, [], ◌∷◌, ◌++◌, ℕ, ◌+◌, ◌*◌, ◌-◌, ◌≤◌, ◌<◌, length, take, drop, set}
-use Rattle.std.proofs.Common.{sym, ◌∙◌, ap, append_assoc, append-nil, add-one, arith, length-append, length-drop, take-append-drop, take_at, drop_at, drop-drop, length-take-le}
-use Rattle.std.proofs.lemmas.List.Edits.{sets-eq}
+use Rattle.std.specs.Prelude.{◌≡◌, refl, true, List, [], ◌∷◌, ◌++◌, ℕ, ◌+◌, ◌*◌, ◌-◌, ◌≤◌, ◌<◌, length, take, drop}
+use Rattle.std.proofs.Common.{sym, ◌∙◌, ap, append_assoc, append-nil, arith, length-append, length-drop, take-append-drop, take_at, drop_at, drop-drop, length-take-le}
 use Rattle.base.specs.Find.{flat}
 use Rattle.base.specs.FindLaws.{length-each}
 use Rattle.base.specs.LoopLaws.{flat_append}
 use Rattle.base.specs.Output.{over, Wrote}
-use Rattle.base.specs.OutputLaws.{wrote_as, wrote-length, wrote-rest, wrote-taken, drop-over}
+use Rattle.base.specs.OutputLaws.{wrote_as, wrote-rest, wrote-taken, drop-over}
 use Rattle.description.specs.BatchFront.{length-head}
 use Rattle.written.specs.BatchBytes.{head_bytes, string_bytes}
 use Rattle.header.specs.Places.{text_at, next_text, texts_from}
@@ -34,18 +33,17 @@ laid-rest o {b} {p} n {m} h v =
     let e : length (take n o ++ b) ≡ n + length b = length-append (take n o) b ∙ ap (λ (k : ℕ). k + length b) (length-take-le n o h) in
     w.is ∙ ap (λ (k : ℕ). take n o ++ b ++ drop k o) e
 
--- two bytes were stored
-laid-two : (o : List ℕ) (at x y : ℕ) → at + 2 ≤ length o → set (set o at x) (at + 1) y ≡ laid o at (x ∷ y ∷ [])
+-- a was copied to the part `out[at..at + k]`
+laid-copy : (o a x : List ℕ) (at k : ℕ) → x ≡ a → k ≡ length a → take at o ++ (x ++ drop k (drop at o)) ≡ laid o at a
 unfolding laid
-laid-two o at x y h = rw (add-one at) (sets-eq (x ∷ y ∷ []) o at h)
+laid-copy o a x at k e l = rw (e, l, drop-drop (length a) at o) (sym (append_assoc (take at o) a (drop (at + length a) o)))
 
--- first b, then two bytes before it
-pub laid_both : (o : List ℕ) {b p : List ℕ} (n : ℕ) {m : ℕ} → n ≤ length o → Wrote (take (length o - n) (drop n o)) b p m → (at : ℕ) → at + 2 ≤ n
-    → {a : List ℕ} {x y : ℕ} → a ≡ x ∷ y ∷ [] → set (set (take n o ++ (p ++ drop (length o - n) (drop n o))) at x) (at + 1) y ≡ laid (laid o n b) at a
-laid_both o {b} {p} n h v at l {a} {x} {y} e =
-    let now = take n o ++ (p ++ drop (length o - n) (drop n o)) in
-    let k : length now ≡ length o = wrote-length (wrote-rest (wrote-same o n h) v) in
-    rw e (laid-two now at x y (omega arith) ∙ ap (λ (z : List ℕ). laid z at (x ∷ y ∷ [])) (laid-rest o n h v))
+-- first b, then a
+pub laid_both : (o : List ℕ) {b p : List ℕ} (n : ℕ) {m : ℕ} → n ≤ length o → Wrote (take (length o - n) (drop n o)) b p m → (at k : ℕ) {a x : List ℕ}
+    → x ≡ a → k ≡ length a
+    → let now = take n o ++ (p ++ drop (length o - n) (drop n o)) in take at now ++ (x ++ drop k (drop at now)) ≡ laid (laid o n b) at a
+laid_both o {b} {p} n h v at k {a} {x} e l =
+    laid-copy (take n o ++ (p ++ drop (length o - n) (drop n o))) a x at k e l ∙ ap (λ (z : List ℕ). laid z at a) (laid-rest o n h v)
 
 -- behind what was written
 wrote-laid : {s a o : List ℕ} {n : ℕ} → Wrote s a o n → (b : List ℕ) → n + length b ≤ length s → Wrote s (a ++ b) (laid o n b) (n + length b)

@@ -3,14 +3,14 @@
 -- ==== Definitions: by position
 pub mod Places
 pub mod Parts
-pub mod Swapped
+pub mod Pieces
 -- ==== Laws and lemmas: by position, loops over texts, sizes
 pub mod Told
-pub mod SwappedLaws
 pub mod PlaceLaws
 pub mod FormPlaces
 pub mod TextLoops
 pub mod PartsLaws
+pub mod PiecesLaws
 pub mod RegionLaws
 pub mod WritingLaws
 pub mod LaidLaws

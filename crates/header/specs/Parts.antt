@@ -1,5 +1,5 @@
 -- A description's parts by position, for code: where each starts, when the whole is one that can be written, and the code's answers. Assumes nothing.
-use Rattle.std.specs.Prelude.{◌≡◌, Bool, true, cond, ◌&&◌, List, [], ◌∷◌, ◌++◌, ℕ, zero, suc, ◌+◌, ◌*◌, ◌/◌, ◌%◌, ◌^◌, ◌≤◌, ◌<◌, leb, eqb, length, take, drop, get_or, replicate}
+use Rattle.std.specs.Prelude.{◌≡◌, Bool, true, cond, ◌&&◌, List, [], ◌∷◌, ◌++◌, ℕ, zero, suc, ◌+◌, ◌*◌, ◌/◌, ◌^◌, ◌≤◌, ◌<◌, leb, eqb, Option, Some, None, length, take, drop, get_or, replicate}
 use Rattle.base.specs.Choose.{pick}
 use Rattle.base.specs.Find.{flat}
 use Rattle.base.specs.Number.{be_at}
@@ -11,12 +11,9 @@ use Rattle.zen.specs.Zen.{named}
 use Rattle.zen.specs.declared.tables.Export.{Export}
 use Rattle.header.specs.Places.{text_at, next_text, text_well, text_place, texts_from, export_in}
 use Rattle.header.specs.Places.{text_count, exports_place, export_count, hashes_place, hash_count, imported_place, imported_count, form_end, description_at}
-use Rattle.header.specs.declared.check.Sized.{Sized}
-use Rattle.header.specs.declared.check.Sized.TheVariants.{To, Bad}
+use Rattle.header.specs.declared.check.Extent.{Extent}
 use Rattle.header.specs.declared.check.Parts.{Parts}
 use Rattle.header.specs.declared.check.Regions.{Regions}
-use Rattle.header.specs.declared.check.Checked.{Checked}
-use Rattle.header.specs.declared.check.Checked.TheVariants.{Described, Malformed}
 
 -- ---- texts
 
@@ -36,12 +33,16 @@ strings_from more s at n = length (flat string_bytes (texts_from more s at n))
 abbrev pub string_size : ℕ → Bool → ℕ
 string_size units latin = cond latin units (2 * units)
 
-unfoldable pub sized_text : ℕ → List ℕ → ℕ → Sized
-sized_text more s at = pick (text_fits more s at) (To (next_text more s at) (length (string_bytes (text_at s at)))) Bad
+-- where some texts end, and how many bytes their strings take
+abbrev pub extent : ℕ → ℕ → Extent
+extent next size = record { next = next; size = size }
+
+unfoldable pub sized_text : ℕ → List ℕ → ℕ → Option Extent
+sized_text more s at = pick (text_fits more s at) (Some (extent (next_text more s at) (length (string_bytes (text_at s at))))) None
 
 -- where some size went before
-unfoldable pub sized_texts : ℕ → ℕ → List ℕ → ℕ → ℕ → Sized
-sized_texts size more s at n = pick (texts_fit more s at n) (To (text_place more s at n) (size + strings_from more s at n)) Bad
+unfoldable pub sized_texts : ℕ → ℕ → List ℕ → ℕ → ℕ → Option Extent
+sized_texts size more s at n = pick (texts_fit more s at n) (Some (extent (text_place more s at n) (size + strings_from more s at n))) None
 
 -- ---- the whole
 
@@ -79,9 +80,9 @@ parts_of s = record {
 }
 
 -- the check's answer
-abbrev pub Says : List ℕ → Checked → Type 0
-Says s (Described p) = (p ≡ parts_of s) × Whole s
-Says s Malformed = Whole s → ⊥
+abbrev pub Says : List ℕ → Option Parts → Type 0
+Says s (Some p) = (p ≡ parts_of s) × Whole s
+Says s None = Whole s → ⊥
 
 -- how far it came: to the texts' end; to the hashes' end; to the end
 pub record Begun (s : List ℕ) («end» strings : ℕ) : Type 0 where
@@ -157,9 +158,6 @@ pub record TextIn (more : ℕ) (s : List ℕ) (at : ℕ) : Type 0 where
 -- how many units a string of so many bytes has
 abbrev pub string_units : ℕ → Bool → ℕ
 string_units size latin = cond latin size (size / 2)
-
-abbrev pub head_high : ℕ → Bool → ℕ
-head_high units latin = (cond latin 0 0x8000 + units) / 256 % 256
 
 -- a buffer in which some bytes were written at a place
 unfoldable pub laid : List ℕ → ℕ → List ℕ → List ℕ

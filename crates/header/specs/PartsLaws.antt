@@ -1,7 +1,9 @@
 -- Laws of a description's texts by position: one that can be written, or not; one text more. Assumes nothing.
-use Rattle.std.specs.Prelude.{◌≡◌, Bool, cond, ◌&&◌, List, eqb, take, drop}
+use Rattle.std.specs.Prelude.{◌≡◌, Bool, cond, ◌&&◌, List, eqb, ltb, Option, Some, None, MatchBool, take, drop, get_or}
+use Rattle.std.specs.List.{AllWithin, HoldsAt, range_with_len}
+use Rattle.std.proofs.lemmas.List.FromFn.{length-range_with_len, get_or-range_with_len}
 use Rattle.std.proofs.Math.Path.{refl}
-use Rattle.std.proofs.Common.{sym, ◌∙◌, ap, mul-suc, length-append}
+use Rattle.std.proofs.Common.{sym, ◌∙◌, ap, zero-add, mul-suc, length-append}
 use Rattle.std.proofs.Math.Bool.{true, false, and-eq-true_iff}
 use Prim.Native.Nat.{ℕ, zero, suc, ◌+◌, ◌*◌, ◌-◌, ◌≤◌, ◌<◌}
 use native.Mathlib.Omega.{arith}
@@ -17,7 +19,6 @@ use Rattle.text.specs.Utf16.{is_well, encode16, utf16le}
 use Rattle.text.specs.Utf8.{from_utf8}
 use Rattle.text.specs.UnitBytesLaws.{unit_bytes-length}
 use Rattle.decode.specs.declared.measure.Measured.{Measured}
-use Rattle.decode.specs.declared.measure.Measured.TheVariants.{Text, NoText}
 use Rattle.decode.specs.Measure.{text_of, fits_latin1, measured}
 use Rattle.decode.specs.MeasureLaws.{Said}
 use Rattle.decode.proofs.MeasureLaws.{measured-text, measured-none, latin-units, latin-length, wide-length}
@@ -26,8 +27,8 @@ use Rattle.written.specs.HeaderBytes.{longest_name}
 use Rattle.zen.specs.Zen.{named}
 use Rattle.header.specs.Places.{utf8_at, text_at, next_text, text_well, text_place, texts_from, export_in}
 use Rattle.header.specs.TextLoops.{texts-next, place-next}
-use Rattle.header.specs.Parts.{text_fits, texts_fit, strings_from, string_size, sized_text, sized_texts, batch_of}
-use Rattle.header.specs.declared.check.Sized.TheVariants.{To, Bad}
+use Rattle.header.specs.Parts.{text_fits, texts_fit, strings_from, string_size, extent, sized_text, sized_texts, batch_of}
+use Rattle.header.specs.declared.check.Extent.{Extent}
 
 -- ---- a string's size
 
@@ -84,12 +85,12 @@ module _ (more : ℕ) (s : List ℕ) (at : ℕ) where
 
   -- what the code's tests say
   module _ (inside : at ≤ length s) where
-    pub text-short : length s - at < 4 → Bad ≡ sized_text more s at
+    pub text-short : length s - at < 4 → None ≡ sized_text more s at
     unfolding sized_text text_fits text_well
     text-short h = rw (lt-leb (at + 4) (length s) (omega arith))
 
     module _ (there : 4 ≤ length s - at) (n : ℕ) (e : n ≡ be_at 4 s at) where
-      pub text-long : length s - at - 4 < n + more → Bad ≡ sized_text more s at
+      pub text-long : length s - at - 4 < n + more → None ≡ sized_text more s at
       unfolding sized_text text_fits text_well
       text-long h = rw (le-leb (at + 4) (length s) (omega arith), lt-leb (next_text more s at) (length s) (omega arith))
 
@@ -97,14 +98,14 @@ module _ (more : ℕ) (s : List ℕ) (at : ℕ) where
       part-is : take (at + 4 + n - (at + 4)) (drop (at + 4) s) ≡ utf8_at s at
       part-is = let k : at + 4 + n - (at + 4) ≡ n = omega arith in rw (k, e)
 
-      module _ (room : n + more ≤ length s - at - 4) (x : Measured) (is : x ≡ measured (from_utf8 (take (at + 4 + n - (at + 4)) (drop (at + 4) s)))) where
+      module _ (room : n + more ≤ length s - at - 4) (x : Option Measured) (is : x ≡ measured (from_utf8 (take (at + 4 + n - (at + 4)) (drop (at + 4) s)))) where
         fits_next : next_text more s at ≤ length s
         fits_next = omega arith
 
         measured-is : measured (from_utf8 (utf8_at s at)) ≡ x
         measured-is = rw (← part-is) (sym is)
 
-        pub text-ill : x ≡ NoText → Bad ≡ sized_text more s at
+        pub text-ill : x ≡ None → None ≡ sized_text more s at
         unfolding sized_text text_fits text_well
         text-ill m =
             rw (
@@ -113,11 +114,11 @@ module _ (more : ℕ) (s : List ℕ) (at : ℕ) where
               measured-none (utf8_at s at) (measured-is ∙ m),
             )
 
-        module _ (units : ℕ) (latin : Bool) (m : x ≡ Text units latin) where
-          said : Said (utf8_at s at) units latin
-          said = measured-text (utf8_at s at) (measured-is ∙ m)
+        module _ (m : Measured) (m-is : x ≡ Some m) where
+          said : Said (utf8_at s at) m.units m.latin
+          said = measured-text (utf8_at s at) (measured-is ∙ m-is)
 
-          pub text-units : longest_name < units → Bad ≡ sized_text more s at
+          pub text-units : longest_name < m.units → None ≡ sized_text more s at
           unfolding sized_text text_fits text_well
           text-units h =
               rw (
@@ -127,27 +128,33 @@ module _ (more : ℕ) (s : List ℕ) (at : ℕ) where
                 lt-leb (length (encode16 (text_at s at))) longest_name (omega (arith, said.units)),
               )
 
-          pub text_fits_lem : units ≤ longest_name → (k : ℕ) → k ≡ string_size units latin → To (at + 4 + n + more) k ≡ sized_text more s at
+          pub text_fits_lem : m.units ≤ longest_name → (k : ℕ) → k ≡ string_size m.units m.latin → Some (extent (at + 4 + n + more) k) ≡ sized_text more s at
           unfolding sized_text
           text_fits_lem h k q =
               let f = fits-yes (record { there = omega arith; next = fits_next; well = said.is-utf8; units = omega (arith, said.units) }) in
               let p : at + 4 + n + more ≡ next_text more s at = omega (arith, next-is more s at) in
               rw (f, p, q, string_size_lem said)
 
-  pub sized-to : {next k : ℕ} → sized_text more s at ≡ To next k → Fitting more s at × (next ≡ next_text more s at) × (k ≡ length (string_bytes (text_at s at)))
+  pub sized-to : {t : Extent} → sized_text more s at ≡ Some t → Fitting more s at × (t.next ≡ next_text more s at) × (t.size ≡ length (string_bytes (text_at s at)))
   unfolding sized_text
-  sized-to {next} {k} e = go (text_fits more s at) refl e
+  sized-to {t} e = go (text_fits more s at) refl e
     where
-      go : (b : Bool) → text_fits more s at ≡ b → pick b (To (next_text more s at) (length (string_bytes (text_at s at)))) Bad ≡ To next k
-          → Fitting more s at × (next ≡ next_text more s at) × (k ≡ length (string_bytes (text_at s at)))
-      go true f e = (fits_by f, cc, cc)
+      here : Extent
+      here = extent (next_text more s at) (length (string_bytes (text_at s at)))
+
+      go : (b : Bool) → text_fits more s at ≡ b → pick b (Some here) None ≡ Some t
+          → Fitting more s at × (t.next ≡ next_text more s at) × (t.size ≡ length (string_bytes (text_at s at)))
+      go true f e = let q : here ≡ t = cc in (fits_by f, sym (ap (λ (t : Extent). t.next) q), sym (ap (λ (t : Extent). t.size) q))
       go false f e = never (cc)
 
-  pub sized-bad : sized_text more s at ≡ Bad → text_fits more s at ≡ false
+  pub sized-bad : sized_text more s at ≡ None → text_fits more s at ≡ false
   unfolding sized_text
   sized-bad e = go (text_fits more s at) refl e
     where
-      go : (b : Bool) → text_fits more s at ≡ b → pick b (To (next_text more s at) (length (string_bytes (text_at s at)))) Bad ≡ Bad → b ≡ false
+      here : Extent
+      here = extent (next_text more s at) (length (string_bytes (text_at s at)))
+
+      go : (b : Bool) → text_fits more s at ≡ b → pick b (Some here) None ≡ None → b ≡ false
       go true f e = never (cc)
       go false f e = refl
 
@@ -198,42 +205,48 @@ module _ (more : ℕ) (s : List ℕ) where
 
   -- what a turn of the code's loop says
   module _ (size at n : ℕ) where
-    pub turn-none : n ≤ 0 → To at size ≡ sized_texts size more s at n
+    pub turn-none : n ≤ 0 → Some (extent at size) ≡ sized_texts size more s at n
     unfolding sized_texts texts_fit text_place strings_from texts_from
     turn-none h = go n h
       where
         go : (n : ℕ) → n ≤ 0
-            → To at size ≡ pick (texts_fit more s at n) (To (text_place more s at n) (size + length (flat string_bytes (texts_from more s at n)))) Bad
+            → Some (extent at size) ≡ pick (texts_fit more s at n) (Some (extent (text_place more s at n) (size + length (flat string_bytes (texts_from more s at n))))) None
         go zero h = let e : size + 0 ≡ size = omega arith in rw e
         go (suc n) h = absurd (omega arith)
 
     module _ (h : 0 < n) where
-      pub turn-bad : sized_text more s at ≡ Bad → Bad ≡ sized_texts size more s at n
+      pub turn-bad : sized_text more s at ≡ None → None ≡ sized_texts size more s at n
       unfolding sized_texts
       turn-bad e = rw (fit-more at n h, sized-bad more s at e)
 
-      pub turn_more : {next k : ℕ} → sized_text more s at ≡ To next k → sized_texts (size + k) more s next (n - 1) ≡ sized_texts size more s at n
+      pub turn_more : {t : Extent} → sized_text more s at ≡ Some t → sized_texts (size + t.size) more s t.next (n - 1) ≡ sized_texts size more s at n
       unfolding sized_texts
-      turn_more {next} {k} e =
+      turn_more {t} e =
           let (f, p, q) = sized-to more s at e in
           let a : size + length (string_bytes (text_at s at)) + strings_from more s (next_text more s at) (n - 1) ≡ size + strings_from more s at n =
           omega (arith, strings-more at n h) in
           rw (fit-more at n h, fits-yes more s at f, place-next more s n at h, p, q, a)
 
   -- what the loop's answer says
-  pub sized-all : (at n : ℕ) {stop k : ℕ} → sized_texts 0 more s at n ≡ To stop k
-      → (texts_fit more s at n ≡ true) × (stop ≡ text_place more s at n) × (k ≡ strings_from more s at n)
+  pub sized-all : (at n : ℕ) {t : Extent} → sized_texts 0 more s at n ≡ Some t
+      → (texts_fit more s at n ≡ true) × (t.next ≡ text_place more s at n) × (t.size ≡ strings_from more s at n)
   unfolding sized_texts
-  sized-all at n {stop} {k} e = go (texts_fit more s at n) refl e
+  sized-all at n {t} e = go (texts_fit more s at n) refl e
     where
-      go : (b : Bool) → texts_fit more s at n ≡ b → pick b (To (text_place more s at n) (0 + strings_from more s at n)) Bad ≡ To stop k
-          → (b ≡ true) × (stop ≡ text_place more s at n) × (k ≡ strings_from more s at n)
-      go true f e = (refl, cc, let z : 0 + strings_from more s at n ≡ k = cc in omega arith)
+      all : Extent
+      all = extent (text_place more s at n) (0 + strings_from more s at n)
+
+      go : (b : Bool) → texts_fit more s at n ≡ b → pick b (Some all) None ≡ Some t
+          → (b ≡ true) × (t.next ≡ text_place more s at n) × (t.size ≡ strings_from more s at n)
+      go true f e =
+          let q : all ≡ t = cc in
+          let z : 0 + strings_from more s at n ≡ t.size = ap (λ (t : Extent). t.size) q in
+          (refl, sym (ap (λ (t : Extent). t.next) q), omega arith)
       go false f e = never (cc)
 
-  pub sized-none : (at n : ℕ) → sized_texts 0 more s at n ≡ Bad → texts_fit more s at n ≡ true → ⊥
+  pub sized-none : (at n : ℕ) → sized_texts 0 more s at n ≡ None → texts_fit more s at n ≡ true → ⊥
   unfolding sized_texts
-  sized-none at n e f = let g : To (text_place more s at n) (0 + strings_from more s at n) ≡ Bad = rw f at e in never (cc)
+  sized-none at n e f = let g : Some (extent (text_place more s at n) (0 + strings_from more s at n)) ≡ None = rw f at e in never (cc)
 
 -- ---- exports, by their text numbers
 
@@ -252,6 +265,40 @@ module _ (s : List ℕ) (count : ℕ) where
   unfolding export_in
   named_fail at zero x l e g = absurd (omega arith)
   named_fail at (suc k) x l e g = rw (← e, le-ltb x count g)
+
+  named-each : (k at : ℕ) → ((i : ℕ) → i < k → be_at 4 s (at + 40 * i) < count) → named count (cells (export_in s) 40 at k) ≡ true
+  unfolding export_in
+  named-each zero at f = refl
+  named-each (suc k) at f =
+      let first : at + 40 * 0 ≡ at = omega arith in
+      rw (lt-ltb (be_at 4 s at) count (rw first at (f 0 (omega arith))))
+      (named-each k (at + 40) (λ i h. let e : at + 40 * suc i ≡ at + 40 + 40 * i = omega arith in rw e at (f (suc i) (omega arith))))
+
+  named-one : (k at i : ℕ) → i < k → count ≤ be_at 4 s (at + 40 * i) → named count (cells (export_in s) 40 at k) ≡ false
+  unfolding export_in
+  named-one zero at i h g = absurd (omega arith)
+  named-one (suc k) at zero h g = let first : at + 40 * 0 ≡ at = omega arith in rw (le-ltb (be_at 4 s at) count (rw first at g))
+  named-one (suc k) at (suc i) h g =
+      let e : at + 40 * suc i ≡ at + 40 + 40 * i = omega arith in
+      rw (named-one k (at + 40) i (omega arith) (rw e at g)) (and-false (ltb (be_at 4 s at) count))
+    where
+      and-false : (b : Bool) → (b && false) ≡ false
+      and-false true = refl
+      and-false false = refl
+
+  -- what the code's chain says: each is within the list, or one is not
+  pub all-named : (at k : ℕ) (r : Bool)
+      → MatchBool r (AllWithin (λ i. be_at 4 s (at + 40 * i) < count) (range_with_len 0 k) 0 (length (range_with_len 0 k)))
+      ((i : ℕ) × (i < length (range_with_len 0 k)) × HoldsAt (λ i. count ≤ be_at 4 s (at + 40 * i)) (range_with_len 0 k) i)
+      → r ≡ named count (cells (export_in s) 40 at k)
+  all-named at k true m =
+      sym (named-each k at (λ i h.
+      let e : get_or (range_with_len 0 k) i 0 ≡ i = get_or-range_with_len 0 k i 0 h ∙ zero-add i in
+      rw e at (m i 0 (omega arith) (omega (arith, length-range_with_len 0 k)))))
+  all-named at k false (i, h, m) =
+      let l : i < k = omega (arith, length-range_with_len 0 k) in
+      let e : get_or (range_with_len 0 k) i 0 ≡ i = get_or-range_with_len 0 k i 0 l ∙ zero-add i in
+      sym (named-one k at i l (rw e at (m 0)))
 
 -- ---- sizes
 

@@ -1,12 +1,11 @@
 -- Laws of what is written, in the parts that the code writes. Assumes nothing.
 use Rattle.std.specs.Prelude.{◌≡◌, Bool, true, false, cond, ℕ, zero, suc, ◌+◌, ◌*◌, ◌-◌, ◌/◌, ◌%◌, ◌^◌, ◌≤◌, ◌<◌, replicate}
 use Rattle.std.proofs.Math.Path.{refl, sym, ap}
-use Rattle.std.proofs.Common.{◌∙◌, div-one, add-one, arith}
+use Rattle.std.proofs.Common.{◌∙◌, add-one, arith}
 use mathlib.Core.List.{List, [], ◌∷◌, ◌++◌, append_assoc, append-nil}
 use Rattle.std.proofs.Math.ListN.{length}
 use Rattle.base.specs.Find.{flat}
 use Rattle.base.specs.Number.{be_at, be_bytes, le_bytes}
-use Rattle.base.specs.ReadingRows.{cells}
 use Rattle.base.specs.Output.{Wrote}
 use Rattle.base.specs.OutputLaws.{wrote_as}
 use Rattle.text.specs.Affix.{all_ascii}
@@ -19,8 +18,9 @@ use Rattle.decode.proofs.PlainLaws.{plain-text, plain-measured}
 use Rattle.written.specs.BatchBytes.{le4, le8, head_bytes, string_bytes, some_bytes, batch_bytes}
 use Rattle.written.specs.HeaderBytes.{Description, export_bytes, imported_bytes, header_size, offsets_of, summary_bytes, content_bytes}
 use Rattle.header.specs.Places.{text_end, next_text, texts_from, export_in, imported_at, imported_from, imported_place, imported_count, description_at}
+use Rattle.base.specs.ReadingRows.{cells}
 use Rattle.header.specs.TextLoops.{texts-count, imported_texts_lem, imported-next, imported-none, cells-next, cells-none}
-use Rattle.header.specs.Parts.{parts_of, regions_of, string_size, string_units, head_high, front_bytes, names_bytes, summary_words, tables_bytes, strings_from}
+use Rattle.header.specs.Parts.{parts_of, regions_of, string_size, string_units, front_bytes, names_bytes, summary_words, tables_bytes, strings_from}
 use Rattle.header.specs.PartsLaws.{string_size_lem}
 use Rattle.header.specs.RegionLaws.{number_bytes, starts}
 use Rattle.header.specs.declared.check.Regions.{Regions}
@@ -43,17 +43,9 @@ each_none f e = rw e
 
 -- ---- a name's header
 
-low_byte : (n : ℕ) (latin : Bool) → (cond latin 0 0x8000 + n) % 256 ≡ n % 256
-low_byte n true = omega arith
-low_byte n false = omega arith
-
-two_bytes : (x : ℕ) → be_bytes 2 x ≡ x / 256 % 256 ∷ x % 256 ∷ []
-unfolding be_bytes
-two_bytes x = rw (div-one x)
-
-pub head-is : {u : List ℕ} {n : ℕ} {latin : Bool} → Said u n latin → head_bytes (text_of u) ≡ head_high n latin ∷ n % 256 ∷ []
+pub head-is : {u : List ℕ} {n : ℕ} {latin : Bool} → Said u n latin → head_bytes (text_of u) ≡ be_bytes 2 (cond latin 0 0x8000 + n)
 unfolding head_bytes
-head-is {u} {n} {latin} m = rw (m.fits, m.units, two_bytes (cond latin 0 0x8000 + n), low_byte n latin)
+head-is m = rw (m.fits, m.units)
 
 -- ---- an export: nine numbers of 8 bytes
 
@@ -186,11 +178,11 @@ units-back : (n : ℕ) (latin : Bool) → string_units (string_size n latin) lat
 units-back n true = refl
 units-back n false = omega arith
 
-pub string_said : (u : List ℕ) (size units : ℕ) (latin : Bool) → is_well (from_utf8 u) ≡ true → size ≡ length (string_bytes (text_of u))
-    → latin ≡ fits_latin1 (text_of u) → units ≡ string_units size latin → Said u units latin
-string_said u size units latin w e l q =
+pub string_said : (u : List ℕ) (size : ℕ) (latin : Bool) → is_well (from_utf8 u) ≡ true → size ≡ length (string_bytes (text_of u))
+    → latin ≡ fits_latin1 (text_of u) → Said u (string_units size latin) latin
+string_said u size latin w e l =
     let m : Said u (length (encode16 (text_of u))) latin = record { is-utf8 = w; units = refl; fits = sym l } in
-    record { is-utf8 = w; units = sym (q ∙ rw (e, string_size_lem m) (units-back (length (encode16 (text_of u))) latin)); fits = sym l }
+    record { is-utf8 = w; units = sym (rw (e, string_size_lem m) (units-back (length (encode16 (text_of u))) latin)); fits = sym l }
 
 -- ---- a turn of a loop over imported names, over records of one size
 

@@ -1,83 +1,120 @@
 // The header written from a checked description, and the call (27, 28).
 ghost use Rattle.std.specs.Prelude.{◌≡◌, ◌≤◌, length};
+ghost use Rattle.base.specs.Answer.{refusal};
 ghost use Rattle.base.specs.Find.{flat};
 ghost use Rattle.base.specs.Number.{le_bytes};
 ghost use Rattle.base.specs.Output.{Wrote};
+ghost use Rattle.base.specs.Refusal.{number};
 ghost use Rattle.written.specs.HeaderBytes.{imported_bytes, content_bytes, header_of};
 ghost use Rattle.meaning.specs.Call.{number_of, buffer_after};
 ghost use Rattle.header.specs.Places.{description_at};
 ghost use Rattle.header.specs.Parts.{Whole, parts_of, regions_of, summary_words, tables_bytes};
 ghost use Rattle.description.specs.Call.{header_answer};
 
-use super::check::{Checked, Parts, Regions, check, regions_of};
-use super::little::{put_le64, put_words};
-use super::names::put_batch;
+use super::check::{Parts, Regions, check, regions_of};
+use super::little::{put_le32, put_le64};
+use super::names::Texts;
+use super::pieces::put_pieces;
 use super::tables::{put_exports, put_hashes, put_numbers};
-use base::answer::refuse;
 use base::number::be32;
+use base::refusal::{Refusal, Refused};
 
-// The summary: thirteen numbers of 4 bytes.
-fn put_summary(out: &mut [u8], s: &[u8], g: Regions) -> usize
-    requires { Whole s.now × (g ≡ regions_of (parts_of s.now)) × (52 ≤ length out.old) }
-    ensures { Wrote out.old (flat (le_bytes 4) (summary_words s.now g)) out.new result }
-{
-    let hashes = g.hashes as u32;
-    let exports = g.exports as u32;
-    let imported = g.imported as u32;
-    let numbers = [
-        0,
-        g.size as u32,
-        be32(s, 5),
-        be32(s, 9),
-        0,
-        0,
-        hashes,
-        exports,
-        exports,
-        imported,
-        imported,
-        imported,
-        imported,
-    ];
-    put_words(out, &numbers)
+// A description that was checked: its bytes, its parts, and the regions of its header.
+#[derive(Clone, Copy)]
+struct Plan<'a> {
+    s: &'a [u8],
+    parts: Parts,
+    regions: Regions,
+    ghost whole: { Whole s.now },
+    ghost parts_are: { parts ≡ parts_of s.now },
+    ghost regions_are: { regions ≡ regions_of (parts_of s.now) },
 }
 
-// The bulk size, which is 0, hashes and exports.
-fn put_tables(out: &mut [u8], s: &[u8], p: Parts) -> usize
-    requires { Whole s.now × (p ≡ parts_of s.now) × (length (tables_bytes (description_at s.now)) ≤ length out.old) }
-    ensures { Wrote out.old (tables_bytes (description_at s.now)) out.new result }
-{
-    let a = put_le64(out, 0);
-    let b = a + put_hashes(&mut out[a..], s, p.hashes, p.keys);
-    b + put_exports(&mut out[b..], s, p.exports, p.entries)
+impl Plan<'_> {
+    // The summary: thirteen numbers of 4 bytes.
+    fn put_summary(&self, out: &mut [u8]) -> usize
+        requires { 52 ≤ length out.old }
+        ensures { Wrote out.old (flat (le_bytes 4) (summary_words self.now.s.now self.now.regions)) out.new result }
+    {
+        let g = self.regions;
+        let hashes = g.hashes as u32;
+        let exports = g.exports as u32;
+        let imported = g.imported as u32;
+        let numbers = [
+            0,
+            g.size as u32,
+            be32(self.s, 5),
+            be32(self.s, 9),
+            0,
+            0,
+            hashes,
+            exports,
+            exports,
+            imported,
+            imported,
+            imported,
+            imported,
+        ];
+        put_pieces(out, numbers.len(), |out, i| put_le32(out, numbers[i]))
+    }
+
+    // The bulk size, which is 0, hashes and exports.
+    fn put_tables(&self, out: &mut [u8]) -> usize
+        requires { length (tables_bytes (description_at self.now.s.now)) ≤ length out.old }
+        ensures { Wrote out.old (tables_bytes (description_at self.now.s.now)) out.new result }
+    {
+        let p = self.parts;
+        let a = put_le64(out, 0);
+        let b = a + put_hashes(&mut out[a..], self.s, p.hashes, p.keys);
+        b + put_exports(&mut out[b..], self.s, p.exports, p.entries)
+    }
+
+    // The imported names: a batch, then their numbers.
+    fn put_imported(&self, out: &mut [u8]) -> usize
+        requires { length (imported_bytes (description_at self.now.s.now).imported) ≤ length out.old }
+        ensures { Wrote out.old (imported_bytes (description_at self.now.s.now).imported) out.new result }
+    {
+        let names = Texts {
+            s: self.s,
+            from: self.parts.imported,
+            count: self.parts.names,
+            more: 4,
+        };
+        let a = names.put_batch(out, self.parts.spelt);
+        a + put_numbers(&mut out[a..], names)
+    }
+
+    // What follows the summary.
+    fn put_content(&self, out: &mut [u8]) -> usize
+        requires { length (content_bytes (description_at self.now.s.now)) ≤ length out.old }
+        ensures { Wrote out.old (content_bytes (description_at self.now.s.now)) out.new result }
+    {
+        let texts = Texts {
+            s: self.s,
+            from: 17,
+            count: self.parts.texts,
+            more: 0,
+        };
+        let a = texts.put_batch(out, self.parts.strings);
+        let b = a + self.put_tables(&mut out[a..]);
+        b + self.put_imported(&mut out[b..])
+    }
+
+    // The header.
+    fn put_header(&self, out: &mut [u8]) -> usize
+        requires { length (header_of (description_at self.now.s.now)) ≤ length out.old }
+        ensures { Wrote out.old (header_of (description_at self.now.s.now)) out.new result }
+    {
+        let a = self.put_summary(out);
+        a + self.put_content(&mut out[a..])
+    }
 }
 
-// The imported names: a batch, then their numbers.
-fn put_imported(out: &mut [u8], s: &[u8], p: Parts) -> usize
-    requires { Whole s.now × (p ≡ parts_of s.now) × (length (imported_bytes (description_at s.now).imported) ≤ length out.old) }
-    ensures { Wrote out.old (imported_bytes (description_at s.now).imported) out.new result }
+// The number of a refusal of the description or its buffer: no block is in it.
+fn refused(why: Refusal) -> u64
+    ensures { result ≡ refusal (number why) 0 }
 {
-    let a = put_batch(out, s, p.imported, p.names, 4, p.spelt);
-    a + put_numbers(&mut out[a..], s, p.imported, p.names)
-}
-
-// What follows the summary.
-fn put_content(out: &mut [u8], s: &[u8], p: Parts) -> usize
-    requires { Whole s.now × (p ≡ parts_of s.now) × (length (content_bytes (description_at s.now)) ≤ length out.old) }
-    ensures { Wrote out.old (content_bytes (description_at s.now)) out.new result }
-{
-    let a = put_batch(out, s, 17, p.texts, 0, p.strings);
-    let b = a + put_tables(&mut out[a..], s, p);
-    b + put_imported(&mut out[b..], s, p)
-}
-
-// The header.
-fn put_header(out: &mut [u8], s: &[u8], p: Parts, g: Regions) -> usize
-    requires { Whole s.now × (p ≡ parts_of s.now) × (g ≡ regions_of (parts_of s.now)) × (length (header_of (description_at s.now)) ≤ length out.old) }
-    ensures { Wrote out.old (header_of (description_at s.now)) out.new result }
-{
-    let a = put_summary(out, s, g);
-    a + put_content(&mut out[a..], s, p)
+    Refused { why, block: 0 }.number()
 }
 
 // The call: nothing is written before both questions are asked.
@@ -85,14 +122,16 @@ pub fn class_header(description: &[u8], header: &mut [u8]) -> u64
     ensures { (result ≡ number_of (header_answer description.now (length header.old)))
         × (header.new ≡ buffer_after (header_answer description.now (length header.old)) header.old) }
 {
-    match check(description) {
-        Checked::Described(p) => {
-            let g = regions_of(p);
-            if header.len() < g.size {
-                return refuse(28, 0);
-            }
-            put_header(header, description, p, g) as u64
-        }
-        Checked::Malformed => refuse(27, 0),
+    let Some(parts) = check(description) else {
+        return refused(Refusal::Malformed);
+    };
+    let plan = Plan {
+        s: description,
+        parts,
+        regions: regions_of(parts),
+    };
+    if header.len() < plan.regions.size {
+        return refused(Refusal::HeaderRoom);
     }
+    plan.put_header(header) as u64
 }

@@ -3,6 +3,7 @@
 #![tactic(auto)]
 
 pub mod little; // numbers written little-endian
+pub mod pieces; // pieces written one behind another
 pub mod check; // the description checked, and where its parts are
 pub mod names; // a batch of names written
 pub mod tables; // hashes, exports and numbers of imported names written

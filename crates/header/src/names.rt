@@ -1,7 +1,8 @@
 // A batch of names, written to the front of a lent buffer from the texts of a description. A function returns how many bytes it wrote where it says
 // nothing else.
-ghost use Rattle.std.specs.Prelude.{◌≡◌, true, ◌++◌, ◌+◌, ◌*◌, ◌^◌, ◌≤◌, ◌<◌, length, take, replicate};
+ghost use Rattle.std.specs.Prelude.{◌≡◌, true, cond, ◌++◌, ◌+◌, ◌*◌, ◌^◌, ◌≤◌, ◌<◌, length, take, replicate};
 ghost use Rattle.base.specs.Find.{flat};
+ghost use Rattle.base.specs.Number.{be_bytes};
 ghost use Rattle.base.specs.Output.{Wrote};
 ghost use Rattle.text.specs.Utf16.{is_well, encode16};
 ghost use Rattle.text.specs.Utf8.{from_utf8};
@@ -9,7 +10,7 @@ ghost use Rattle.decode.specs.Measure.{text_of, fits_latin1};
 ghost use Rattle.written.specs.BatchBytes.{string_bytes, head_bytes, batch_bytes};
 ghost use Rattle.written.specs.HeaderBytes.{longest_name};
 ghost use Rattle.header.specs.Places.{utf8_at, text_at, text_end, next_text, texts_from};
-ghost use Rattle.header.specs.Parts.{texts_fit, strings_from, TextIn, string_units, head_high, laid, names_bytes, front_bytes};
+ghost use Rattle.header.specs.Parts.{texts_fit, strings_from, TextIn, string_units, laid, names_bytes, front_bytes};
 
 use super::check::size_at;
 use super::little::{put_le32, put_le64};
@@ -22,12 +23,8 @@ fn put_zeros(out: &mut [u8], n: usize) -> usize
     requires { n ≤ length out.old }
     ensures { Wrote out.old (replicate n 0) out.new result }
 {
-    let mut i = 0;
-    while i < n {
-        out[i] = 0;
-        i += 1;
-    }
-    i
+    out[..n].fill(0);
+    n
 }
 
 // A string written: how many bytes it takes, and whether it is Latin-1.
@@ -59,25 +56,28 @@ fn put_string(out: &mut [u8], s: &[u8], to: usize) -> Put
     Put { size, latin: false }
 }
 
-// How many units a string of so many bytes has.
-fn string_units(size: usize, latin: bool) -> usize
-    ensures { result ≡ string_units size latin }
-{
-    if latin {
-        return size;
+impl Put {
+    // How many units it has.
+    fn units(self) -> usize
+        ensures { result ≡ string_units self.size self.latin }
+    {
+        if self.latin {
+            return self.size;
+        }
+        self.size / 2
     }
-    size / 2
-}
 
-// The first byte of a name's header: bit 7 where it is UTF-16LE, then how many units it has.
-fn head_high(units: usize, latin: bool) -> u8
-    requires { units < 2 ^ 32 }
-    ensures { result ≡ head_high units latin }
-{
-    if latin {
-        return (units / 256 % 256) as u8;
+    // The name's header, big-endian: bit 15 where it is UTF-16LE, and how many units it has.
+    fn head(self) -> [u8; 2]
+        requires { string_units self.size self.latin < 2 ^ 15 }
+        ensures { result ≡ be_bytes 2 (cond self.latin 0 0x8000 + string_units self.size self.latin) }
+    {
+        let units = self.units() as u16;
+        if self.latin {
+            return units.to_be_bytes();
+        }
+        (0x8000 + units).to_be_bytes()
     }
-    ((0x8000 + units) / 256 % 256) as u8
 }
 
 // The text at a place: its header goes to one place, its string to another behind it. Returns how many bytes the string takes.
@@ -90,9 +90,7 @@ fn put_text(out: &mut [u8], head: usize, n: usize, s: &[u8], at: usize) -> usize
     let start = at + 4;
     let size = size_at(s, at);
     let p = put_string(&mut out[n..], &s[start..], size);
-    let units = string_units(p.size, p.latin);
-    out[head] = head_high(units, p.latin);
-    out[head + 1] = (units % 256) as u8;
+    out[head..head + 2].copy_from_slice(&p.head());
     p.size
 }
 
@@ -104,34 +102,7 @@ pub fn next_text(s: &[u8], at: usize, more: usize) -> usize
     at + 4 + size_at(s, at) + more
 }
 
-// The headers of so many texts from a place on, and behind them their strings.
-fn put_texts(out: &mut [u8], s: &[u8], from: usize, count: usize, more: usize) -> usize
-    requires { (texts_fit more s.now from count ≡ true)
-        × (length (flat head_bytes (texts_from more s.now from count) ++ flat string_bytes (texts_from more s.now from count)) ≤ length out.old) }
-    ensures { Wrote out.old (flat head_bytes (texts_from more s.now from count)
-        ++ flat string_bytes (texts_from more s.now from count)) out.new result }
-{
-    let mut n = 2 * count;
-    let mut at = from;
-    let mut i = 0;
-    while i < count {
-        n += put_text(out, 2 * i, n, s, at);
-        at = next_text(s, at, more);
-        i += 1;
-    }
-    n
-}
-
-// Hash bytes, which are zero, headers and strings.
-fn put_names(out: &mut [u8], s: &[u8], from: usize, count: usize, more: usize) -> usize
-    requires { (texts_fit more s.now from count ≡ true) × (count < 2 ^ 32) × (length (names_bytes (texts_from more s.now from count)) ≤ length out.old) }
-    ensures { Wrote out.old (names_bytes (texts_from more s.now from count)) out.new result }
-{
-    let a = put_zeros(out, 8 * count);
-    a + put_texts(&mut out[a..], s, from, count, more)
-}
-
-// What stands before them: how many there are, how many bytes their strings take, the version of the hashes.
+// What stands before a batch's names: how many there are, how many bytes their strings take, the version of the hashes.
 fn put_front(out: &mut [u8], count: u32, strings: u32) -> usize
     requires { 16 ≤ length out.old }
     ensures { Wrote out.old (front_bytes count strings) out.new result }
@@ -141,22 +112,52 @@ fn put_front(out: &mut [u8], count: u32, strings: u32) -> usize
     b + put_le64(&mut out[b..], 0xC1640000)
 }
 
-// The batch of so many texts from a place on, whose strings take so many bytes.
-pub fn put_batch(
-    out: &mut [u8],
-    s: &[u8],
-    from: usize,
-    count: usize,
-    more: usize,
-    strings: usize,
-) -> usize
-    requires { (texts_fit more s.now from count ≡ true) × (count < 2 ^ 32) × (strings < 2 ^ 32) × (strings ≡ strings_from more s.now from count)
-        × (length (batch_bytes (texts_from more s.now from count)) ≤ length out.old) }
-    ensures { Wrote out.old (batch_bytes (texts_from more s.now from count)) out.new result }
-{
-    if count == 0 {
-        return put_le32(out, 0);
+// Texts that can be written, one behind another: the bytes that they stand in, where the first one starts, how many there are, and how many bytes
+// stand behind each.
+#[derive(Clone, Copy)]
+pub struct Texts<'a> {
+    pub s: &'a [u8],
+    pub from: usize,
+    pub count: usize,
+    pub more: usize,
+    pub ghost fit: { texts_fit more s.now from count ≡ true },
+}
+
+impl Texts<'_> {
+    // Their headers, and behind them their strings.
+    fn put_texts(self, out: &mut [u8]) -> usize
+        requires { let ts = texts_from self.more self.s.now self.from self.count in length (flat head_bytes ts ++ flat string_bytes ts) ≤ length out.old }
+        ensures { let ts = texts_from self.entry.more self.entry.s.now self.entry.from self.entry.count in
+            Wrote out.old (flat head_bytes ts ++ flat string_bytes ts) out.new result }
+    {
+        let mut n = 2 * self.count;
+        let mut at = self.from;
+        for i in 0..self.count {
+            n += put_text(out, 2 * i, n, self.s, at);
+            at = next_text(self.s, at, self.more);
+        }
+        n
     }
-    let a = put_front(out, count as u32, strings as u32);
-    a + put_names(&mut out[a..], s, from, count, more)
+
+    // Hash bytes, which are zero, headers and strings.
+    fn put_names(self, out: &mut [u8]) -> usize
+        requires { (self.count < 2 ^ 32) × (length (names_bytes (texts_from self.more self.s.now self.from self.count)) ≤ length out.old) }
+        ensures { Wrote out.old (names_bytes (texts_from self.entry.more self.entry.s.now self.entry.from self.entry.count)) out.new result }
+    {
+        let a = put_zeros(out, 8 * self.count);
+        a + self.put_texts(&mut out[a..])
+    }
+
+    // The batch, whose strings take so many bytes.
+    pub fn put_batch(self, out: &mut [u8], strings: usize) -> usize
+        requires { (self.count < 2 ^ 32) × (strings < 2 ^ 32) × (strings ≡ strings_from self.more self.s.now self.from self.count)
+            × (length (batch_bytes (texts_from self.more self.s.now self.from self.count)) ≤ length out.old) }
+        ensures { Wrote out.old (batch_bytes (texts_from self.entry.more self.entry.s.now self.entry.from self.entry.count)) out.new result }
+    {
+        if self.count == 0 {
+            return put_le32(out, 0);
+        }
+        let a = put_front(out, self.count as u32, strings as u32);
+        a + self.put_names(&mut out[a..])
+    }
 }

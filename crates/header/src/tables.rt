@@ -1,16 +1,16 @@
 // Hashes, exports and the numbers of imported names, written to the front of a lent buffer. Each function returns how many bytes it wrote.
-ghost use Rattle.std.specs.Prelude.{◌≡◌, true, ◌+◌, ◌*◌, ◌≤◌, length};
+ghost use Rattle.std.specs.Prelude.{◌≡◌, ◌+◌, ◌*◌, ◌≤◌, length};
 ghost use Rattle.base.specs.Find.{flat};
 ghost use Rattle.base.specs.Number.{be_at, le_bytes};
 ghost use Rattle.base.specs.Output.{Wrote};
 ghost use Rattle.base.specs.ReadingRows.{cells};
 ghost use Rattle.written.specs.HeaderBytes.{export_bytes};
 ghost use Rattle.header.specs.Places.{imported_from, export_in};
-ghost use Rattle.header.specs.Parts.{texts_fit};
 ghost use Rattle.header.specs.RegionLaws.{number_bytes};
 
-use super::little::{put_le32, put_le64, put_longs};
-use super::names::next_text;
+use super::little::{put_le32, put_le64};
+use super::names::{Texts, next_text};
+use super::pieces::put_pieces;
 use base::number::{be32, be64};
 
 // So many hashes from a place on.
@@ -18,15 +18,7 @@ pub fn put_hashes(out: &mut [u8], s: &[u8], from: usize, count: usize) -> usize
     requires { (from + 8 * count ≤ length s.now) × (length (flat (le_bytes 8) (cells (be_at 8 s.now) 8 from count)) ≤ length out.old) }
     ensures { Wrote out.old (flat (le_bytes 8) (cells (be_at 8 s.now) 8 from count)) out.new result }
 {
-    let mut n = 0;
-    let mut at = from;
-    let mut left = count;
-    while 0 < left {
-        n += put_le64(&mut out[n..], be64(s, at));
-        at += 8;
-        left -= 1;
-    }
-    n
+    put_pieces(out, count, |out, i| put_le64(out, be64(s, from + 8 * i)))
 }
 
 // The export at a place: of its nine numbers of 8 bytes, the third is the name.
@@ -37,7 +29,7 @@ fn put_export(out: &mut [u8], s: &[u8], at: usize) -> usize
     let numbers = [
         0,
         0,
-        be32(s, at) as u64 + be32(s, at + 4) as u64 * 4294967296,
+        u64::from(be32(s, at)) + u64::from(be32(s, at + 4)) * 4294967296,
         be64(s, at + 8),
         be64(s, at + 16),
         be64(s, at + 24),
@@ -45,7 +37,7 @@ fn put_export(out: &mut [u8], s: &[u8], at: usize) -> usize
         be64(s, at + 32),
         0,
     ];
-    put_longs(out, &numbers)
+    put_pieces(out, numbers.len(), |out, i| put_le64(out, numbers[i]))
 }
 
 // So many exports from a place on.
@@ -53,30 +45,20 @@ pub fn put_exports(out: &mut [u8], s: &[u8], from: usize, count: usize) -> usize
     requires { (from + 40 * count ≤ length s.now) × (length (flat export_bytes (cells (export_in s.now) 40 from count)) ≤ length out.old) }
     ensures { Wrote out.old (flat export_bytes (cells (export_in s.now) 40 from count)) out.new result }
 {
-    let mut n = 0;
-    let mut at = from;
-    let mut left = count;
-    while 0 < left {
-        n += put_export(&mut out[n..], s, at);
-        at += 40;
-        left -= 1;
-    }
-    n
+    put_pieces(out, count, |out, i| put_export(out, s, from + 40 * i))
 }
 
-// The numbers of so many imported names from a place on, each behind its text.
-pub fn put_numbers(out: &mut [u8], s: &[u8], from: usize, count: usize) -> usize
-    requires { (texts_fit 4 s.now from count ≡ true) × (length (flat number_bytes (imported_from s.now from count)) ≤ length out.old) }
-    ensures { Wrote out.old (flat number_bytes (imported_from s.now from count)) out.new result }
+// The numbers of imported names, each behind its text.
+pub fn put_numbers(out: &mut [u8], names: Texts) -> usize
+    requires { (names.more ≡ 4) × (length (flat number_bytes (imported_from names.s.now names.from names.count)) ≤ length out.old) }
+    ensures { Wrote out.old (flat number_bytes (imported_from names.entry.s.now names.entry.from names.entry.count)) out.new result }
 {
     let mut n = 0;
-    let mut at = from;
-    let mut left = count;
-    while 0 < left {
-        let end = next_text(s, at, 0);
-        n += put_le32(&mut out[n..], be32(s, end));
+    let mut at = names.from;
+    for _ in 0..names.count {
+        let end = next_text(names.s, at, 0);
+        n += put_le32(&mut out[n..], be32(names.s, end));
         at = end + 4;
-        left -= 1;
     }
     n
 }

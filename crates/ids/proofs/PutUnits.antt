@@ -1,39 +1,23 @@
 -- Lemmas for putting n units into a buffer: one after the other, and over what was tried there. Assumes nothing.
-use mathlib.Core.Path.{◌≡◌, refl, sym}
+use mathlib.Core.Path.{◌≡◌, sym}
 use mathlib.Core.List.{List, ◌++◌}
 use Prim.Native.Nat.{ℕ, ◌+◌, ◌-◌, ◌*◌, ◌/◌, ◌%◌, ◌≤◌, ◌<◌}
 use native.Mathlib.Omega.{arith}
-use lib.ListN.{length, set, get_or, take, drop, length-set, take-append-drop}
+use lib.ListN.{length, set, get_or, take, drop, take-append-drop}
 use lib.Seq.{length-take-le}
 use Rattle.base.specs.Output.{over, Wrote}
-use Rattle.base.specs.OutputLaws.{wrote_none, wrote_as, wrote_count, wrote-length}
+use Rattle.base.specs.OutputLaws.{wrote_as, wrote_count, wrote-length}
 use Rattle.text.specs.PlainLaws.{wrote-over}
 use Rattle.text.specs.Utf16.{unit_bytes}
 use Rattle.ids.proofs.NameUnits.{window-two, wrote-unit, wrote-two}
 
 -- ---- n units of us from a place on, one after the other
 
--- after i of them: the place in the buffer, and what its front has
-pub record Put (us : List ℕ) (from n : ℕ) (old now : List ℕ) (at i : ℕ) : Type 0 where
-  pub most : i ≤ n
-  pub place : at ≡ 2 * i
-  pub wrote : Wrote old (unit_bytes (take i (drop from us))) now at
-  pub size : length now ≡ length old
-
-pub put-none : {us s : List ℕ} {from n : ℕ} → Put us from n s s 0 0
-put-none {s = s} = record { most = omega arith; place = refl; wrote = wrote_none s; size = refl }
-
-pub put_next : {us s o : List ℕ} {from n at i v : ℕ} → Put us from n s o at i → i < n → n ≤ length us - from → 2 * n ≤ length s → v ≡ get_or us (from + i) 0
-    → Put us from n s (set (set o at (v % 256)) (at + 1) (v / 256)) (at + 2) (i + 1)
-put_next {us} {s} {o} {from} {n} {at} {i} p h k l e = record {
-  most = omega arith;
-  place = omega arith;
-  wrote = wrote-unit us from i e p.wrote (omega arith) (omega arith);
-  size = simp length-set p.size;
-}
-
-pub put_all : {us s o : List ℕ} {from n at i : ℕ} → Put us from n s o at i → ¬ (i < n) → Wrote s (unit_bytes (take n (drop from us))) o (2 * n)
-put_all {n = n} {i = i} p h = let e : n ≡ i = omega arith in rw e (wrote_count p.wrote p.place)
+-- one more behind i of them
+pub put_next : {s o : List ℕ} (us : List ℕ) (from i : ℕ) {v : ℕ} → Wrote s (unit_bytes (take i (drop from us))) o (2 * i) → from + i < length us
+    → 2 * (i + 1) ≤ length s → v ≡ get_or us (from + i) 0
+    → Wrote s (unit_bytes (take (i + 1) (drop from us))) (set (set o (2 * i) (v % 256)) (2 * i + 1) (v / 256)) (2 * (i + 1))
+put_next us from i w h l e = wrote_count (wrote-unit us from i e w h (omega arith)) (omega arith)
 
 -- ---- writing over what was tried
 

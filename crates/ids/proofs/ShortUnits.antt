@@ -1,16 +1,16 @@
 -- Lemmas for the id of a short name: units of one-byte text, words of units, and the hash of few units by these. Assumes nothing.
 use mathlib.Core.Path.{◌≡◌, refl, sym, ◌∙◌, ap}
-use mathlib.Core.List.{List, [], ◌∷◌, ◌++◌}
+use mathlib.Core.List.{List, [], ◌∷◌, ◌++◌, map}
 use Prim.Native.Nat.{ℕ, zero, suc, ◌+◌, ◌*◌, ◌-◌, ◌/◌, ◌%◌, ◌^◌, ◌≤◌, ◌<◌}
 use native.Mathlib.Nat.{zero-add}
 use native.Mathlib.Numerals.{add-one}
 use native.Mathlib.Omega.{arith}
-use lib.ListN.{length, set, get_or, take, drop, replicate, length-append, take-append-drop, get_or-append}
-use lib.Seq.{length-take-le, get_or-append-add, get_or-take, get_or-drop}
+use lib.ListN.{length, set, get_or, take, drop, length-append, length-take, length-drop, take-append-drop, get_or-append}
+use lib.Seq.{length-take-le, get_or-append-add}
 use Rattle.base.specs.Number.{le_at}
-use Rattle.base.specs.NumberLaws.{Bytes, le_at-part, le_at-add}
+use Rattle.base.specs.NumberLaws.{Bytes, le_at-add}
 use Rattle.base.specs.Output.{over, Wrote}
-use Rattle.base.specs.OutputLaws.{wrote_count}
+use Rattle.base.specs.OutputLaws.{wrote_as, wrote_count}
 use Rattle.text.specs.Utf16.{unit_bytes}
 use Rattle.text.specs.Utf16Cases.{Words}
 use Rattle.lower.specs.Lower.{lower, lowered}
@@ -18,7 +18,7 @@ use Rattle.lower.proofs.LowerLaws.{lower-single}
 use Rattle.city.specs.City.{k2, hash_bytes, hash_halves, hash_two, hash_four, city_hash64}
 use Rattle.city.specs.CityLaws.{none_is, bytes-is, halves-is, two_is, four_is}
 use Rattle.ids.specs.LowerLaws.{lowered-at, lowered-length}
-use Rattle.text.specs.UnitBytesLaws.{twice, unit_bytes-length, unit_bytes-take}
+use Rattle.text.specs.UnitBytesLaws.{twice, unit_bytes-length}
 use Rattle.ids.proofs.NameUnits.{wrote-unit}
 
 -- ---- units of one-byte text
@@ -67,16 +67,6 @@ lowered-words (c ∷ part) b (suc i) = lowered-words part (λ j. b (suc j)) i
 pub name-words : (part suffix : List ℕ) → Bytes part → Bytes suffix → Words (lowered part ++ suffix)
 name-words part suffix a b = words_append (lowered part) suffix (lowered-words part a) (λ i. omega (arith, b i))
 
-pub zeros-words : (n : ℕ) → Words (replicate n 0)
-zeros-words zero i = omega arith
-zeros-words (suc n) zero = omega arith
-zeros-words (suc n) (suc i) = zeros-words n i
-
--- where they were written over others
-pub over-words : {s a o : List ℕ} {n : ℕ} → Wrote s a o n → Words s → Words a → Words o
-unfolding over
-over-words {s} {a} w h k = rw w.is (words_append a (drop (length a) s) k (λ i. rw (get_or-drop (length a) s i 0) (h (length a + i))))
-
 -- ---- words of units
 
 -- the unit at i, and what stands behind it
@@ -97,27 +87,11 @@ module _ (us : List ℕ) (i : ℕ) where
       rw (add-one i)
       (omega (arith, word-step 2 us i (omega arith), word-step 0 us (suc i) (omega arith), no_word (unit_bytes us) (2 * suc (suc i))))
 
-  pub word_of : i + 4 ≤ length us
-      → le_at 8 (unit_bytes us) (2 * i) ≡ get_or us i 0 + get_or us (i + 1) 0 * 2 ^ 16 + get_or us (i + 2) 0 * 2 ^ 32 + get_or us (i + 3) 0 * 2 ^ 48
-  word_of h =
-      let b : i + 2 ≡ suc (suc i) = omega arith in
-      let c : i + 3 ≡ suc (suc (suc i)) = omega arith in
-      rw (add-one i, b, c)
-      (omega (
-        arith,
-        word-step 6 us i (omega arith),
-        word-step 4 us (suc i) (omega arith),
-        word-step 2 us (suc (suc i)) (omega arith),
-        word-step 0 us (suc (suc (suc i))) (omega arith),
-        no_word (unit_bytes us) (2 * suc (suc (suc (suc i)))),
-      ))
-
   -- a word is two half words
-  pub word-halves : (j k : ℕ) → j ≡ i + 2 → k ≡ 2 * i → i + 4 ≤ length us
-      → le_at 8 (unit_bytes us) k ≡ le_at 4 (unit_bytes us) (2 * i) + le_at 4 (unit_bytes us) (2 * j) * 2 ^ 32
-  word-halves j k e f h =
+  pub word-halves : i + 4 ≤ length us → le_at 8 (unit_bytes us) (2 * i) ≡ le_at 4 (unit_bytes us) (2 * i) + le_at 4 (unit_bytes us) (2 * (i + 2)) * 2 ^ 32
+  word-halves h =
       let d : 2 * (i + 2) ≡ 2 * i + 4 = omega arith in
-      rw (e, f, d) (omega (arith, le_at-add 4 4 (unit_bytes us) (2 * i) (omega (arith, unit_bytes-length us))))
+      rw d (omega (arith, le_at-add 4 4 (unit_bytes us) (2 * i) (omega (arith, unit_bytes-length us))))
 
 -- ---- the hash of n units
 
@@ -143,48 +117,54 @@ module _ (us : List ℕ) (n : ℕ) (h : n ≡ length us) where
       halves-is (unit_bytes us) (2 * n) size (omega arith) (omega arith) ∙ rw e
 
   pub units-two : 4 ≤ n → n ≤ 8
-      → city_hash64 (unit_bytes us)
-      ≡ hash_two (2 * n) (le_at 4 (unit_bytes us) 0 + le_at 4 (unit_bytes us) 4 * 2 ^ 32) (le_at 4 (unit_bytes us) (2 * (n - 4)) + le_at 4 (unit_bytes us) (2 * (n - 2)) * 2 ^ 32)
+      → city_hash64 (unit_bytes us) ≡ hash_two (2 * n) (le_at 8 (unit_bytes us) 0) (le_at 8 (unit_bytes us) (2 * (n - 4)))
   units-two a b =
-      two_is (unit_bytes us) (2 * n) size (omega arith) (omega arith)
-      ∙ rw (word-halves us 0 2 0 refl refl (omega arith), word-halves us (n - 4) (n - 2) (2 * n - 8) (omega arith) (omega arith) (omega arith))
-
--- ---- the hash of the first n of some units
-
-module _ (us : List ℕ) (n : ℕ) (h : n ≤ length us) where
-  size-first : length (unit_bytes (take n us)) ≡ 2 * n
-  size-first = unit_bytes-length (take n us) ∙ ap (λ (k : ℕ). 2 * k) (length-take-le n us h)
-
-  -- a number that stands in their bytes
-  front : (k i j : ℕ) → j ≡ 2 * i → 2 * i + k ≤ 2 * n → le_at k (unit_bytes (take n us)) j ≡ le_at k (unit_bytes us) (2 * i)
-  front k i j e l = rw (e, unit_bytes-take n us) (le_at-part k 0 (2 * n) (unit_bytes us) (2 * i) l ∙ ap (le_at k (unit_bytes us)) (zero-add (2 * i)))
-
-  pub first-none : n ≡ 0 → city_hash64 (unit_bytes (take n us)) ≡ k2
-  first-none e = units-none (take n us) n (sym (length-take-le n us h)) e
-
-  pub first_one : n ≡ 1 → city_hash64 (unit_bytes (take n us)) ≡ hash_bytes 2 (get_or us 0 0 % 256) (get_or us 0 0 / 256) (get_or us 0 0 / 256)
-  first_one e = units-one (take n us) n (sym (length-take-le n us h)) e ∙ rw (get_or-take n us 0 0 (omega arith))
-
-  pub first_halves : 2 ≤ n → n < 4
-      → city_hash64 (unit_bytes (take n us)) ≡ hash_halves (2 * n) (le_at 4 (unit_bytes us) 0) (le_at 4 (unit_bytes us) (2 * (n - 2)))
-  first_halves a b =
-      units-halves (take n us) n (sym (length-take-le n us h)) a b
-      ∙ rw (front 4 0 0 refl (omega arith), front 4 (n - 2) (2 * (n - 2)) refl (omega arith))
-
-  pub first_two : 4 ≤ n → n ≤ 8
-      → city_hash64 (unit_bytes (take n us)) ≡ hash_two (2 * n) (le_at 8 (unit_bytes us) 0) (le_at 8 (unit_bytes us) (2 * (n - 4)))
-  first_two a b =
-      two_is (unit_bytes (take n us)) (2 * n) size-first (omega arith) (omega arith)
-      ∙ rw (front 8 0 0 refl (omega arith), front 8 (n - 4) (2 * n - 8) (omega arith) (omega arith))
+      let e : 2 * n - 8 ≡ 2 * (n - 4) = omega arith in
+      two_is (unit_bytes us) (2 * n) size (omega arith) (omega arith) ∙ rw e
 
   pub units-four : 8 < n → n ≤ 16
-      → city_hash64 (unit_bytes (take n us))
+      → city_hash64 (unit_bytes us)
       ≡ hash_four (2 * n) (le_at 8 (unit_bytes us) 0) (le_at 8 (unit_bytes us) 8) (le_at 8 (unit_bytes us) (2 * (n - 4))) (le_at 8 (unit_bytes us) (2 * (n - 8)))
   units-four a b =
-      four_is (unit_bytes (take n us)) (2 * n) size-first (omega arith) (omega arith)
-      ∙ rw (
-        front 8 0 0 refl (omega arith),
-        front 8 4 8 refl (omega arith),
-        front 8 (n - 4) (2 * n - 8) (omega arith) (omega arith),
-        front 8 (n - 8) (2 * n - 16) (omega arith) (omega arith),
-      )
+      let e : 2 * n - 8 ≡ 2 * (n - 4) = omega arith in
+      let f : 2 * n - 16 ≡ 2 * (n - 8) = omega arith in
+      four_is (unit_bytes us) (2 * n) size (omega arith) (omega arith) ∙ rw (e, f)
+
+-- ---- bytes lowered one by one
+
+pub lowered-map : (part : List ℕ) → map lower part ≡ lowered part
+lowered-map [] = refl
+lowered-map (c ∷ part) = ap (λ (s : List ℕ). lower c ∷ s) (lowered-map part)
+
+pub map-same : (s : List ℕ) → map (λ (b : ℕ). b) s ≡ s
+map-same [] = refl
+map-same (c ∷ s) = ap (λ (t : List ℕ). c ∷ t) (map-same s)
+
+-- those from a place on
+lowered-take : (n : ℕ) (s : List ℕ) → lowered (take n s) ≡ take n (lowered s)
+lowered-take zero s = refl
+lowered-take (suc n) [] = refl
+lowered-take (suc n) (c ∷ s) = ap (λ (t : List ℕ). lower c ∷ t) (lowered-take n s)
+
+lowered-drop : (n : ℕ) (s : List ℕ) → lowered (drop n s) ≡ drop n (lowered s)
+lowered-drop zero s = refl
+lowered-drop (suc n) [] = refl
+lowered-drop (suc n) (c ∷ s) = lowered-drop n s
+
+pub lowered-part : (from n : ℕ) (s : List ℕ) → lowered (take n (drop from s)) ≡ take n (drop from (lowered s))
+lowered-part from n s = lowered-take n (drop from s) ∙ ap (take n) (lowered-drop from s)
+
+-- what is written of a part of some bytes
+pub wrote-part : {s o : List ℕ} (part : List ℕ) (from n k : ℕ) → k ≡ n → from + n ≤ length part
+    → Wrote s (unit_bytes (lowered (take k (drop from part)))) o (2 * length (take k (drop from part)))
+    → Wrote s (unit_bytes (take n (drop from (lowered part)))) o (2 * n)
+wrote-part part from n k e h w =
+    wrote_count (wrote_as (rw e at w) (ap unit_bytes (lowered-part from n part)))
+    (ap (λ (m : ℕ). 2 * m) (simp (length-take, length-drop) (omega arith)))
+
+-- the same of bytes that stay
+pub wrote-plain : {s o : List ℕ} (part : List ℕ) (from n k : ℕ) → k ≡ n → from + n ≤ length part
+    → Wrote s (unit_bytes (map (λ (b : ℕ). b) (take k (drop from part)))) o (2 * length (take k (drop from part)))
+    → Wrote s (unit_bytes (take n (drop from part))) o (2 * n)
+wrote-plain part from n k e h w =
+    wrote_count (rw (map-same, e) at w) (ap (λ (m : ℕ). 2 * m) (simp (length-take, length-drop) (omega arith)))

@@ -1,14 +1,14 @@
 -- Lemmas for wide text lowered by script: that its units are those of the lowered text where they pass the test of the script. Assumes nothing.
 use mathlib.Core.Path.{◌≡◌, refl, sym, ◌∙◌, ap}
-use mathlib.Core.Bool.{Bool, true, false, cond, ◌&&◌, and-eq-true_iff}
+use mathlib.Core.Bool.{Bool, true, and-eq-true_iff}
 use mathlib.Core.List.{List, [], ◌∷◌, ◌++◌, map}
 use mathlib.Core.Logic.{inr, by_cases}
-use Prim.Native.Nat.{ℕ, zero, suc, ◌+◌, ◌-◌, ◌*◌, ◌/◌, ◌%◌, ◌≤◌, ◌<◌}
+use Prim.Native.Nat.{ℕ, zero, suc, ◌+◌, ◌*◌, ◌≤◌, ◌<◌}
 use native.Mathlib.Decide.{dec_lt}
 use native.Mathlib.Numerals.{add-one}
 use native.Mathlib.Omega.{arith}
 use lib.Bits.{bit_or, or_add_and, and_le_l, and_le_r}
-use lib.ListN.{length, set, get_or, take, drop, length-map, length-take, length-drop, get_or-map}
+use lib.ListN.{length, get_or, take, drop, length-map, length-take, length-drop, get_or-map}
 use lib.Seq.{take-suc, get_or-take, get_or-drop, ext_get_or}
 use Rattle.lower.specs.Ascii.{lower_ascii}
 use Rattle.lower.specs.Lower.{lowered}
@@ -23,10 +23,11 @@ use Rattle.base.specs.OutputLaws.{wrote-taken}
 use Rattle.text.specs.Utf16.{is_well, encode16, unit_bytes}
 use Rattle.text.specs.Name.{decoded, base}
 use Rattle.text.specs.Units.{units_of}
+use Rattle.text.specs.UnitsLaws.{units_of-words}
 use Rattle.ids.specs.LoweredUnits.{lowered_unit, all_are, bits_from}
 use Rattle.ids.specs.LowerLaws.{below-lowered, single-lowered, high-lowered, low-lowered}
 use Rattle.ids.proofs.NameUnits.{part_length, place}
-use Rattle.ids.proofs.PutUnits.{Put, put-none, put_next, put_all, wrote-within}
+use Rattle.ids.proofs.PutUnits.{wrote-within}
 
 -- a lowered unit is one
 pub lowered-word : (b u : ℕ) → u < 65536 → lowered_unit b u < 65536
@@ -39,24 +40,14 @@ lowered-word b u h =
     (λ (k : u < 0xE000). rw (low-lowered b u (omega arith, k)) (omega arith))
     (λ (k : ¬ (u < 0xE000)). rw (single-lowered b u (inr (omega arith))) (lower-single u h))))
 
--- whether the table is asked, by the answer of the rules
-pub asked : (t : Bool) {v r : ℕ} → r ≡ cond t 0x110000 v → v < 65536 → 0xFFFF < r → t ≡ true
-asked true e h l = refl
-asked false e h l = absurd (omega arith)
+-- so is each of a lowered text
+pub lowered-fits : (part : List ℕ) (b : Bytes part) (w : is_well (decoded true part) ≡ true) (i : ℕ) → i < length (units_of true part)
+    → get_or (encode16 (lowered (base true part))) i 0 < 65536
+lowered-fits part b w i h =
+    let us : List ℕ = units_of true part in
+    rw (place true part b w i h).0 (lowered-word (get_or (0 ∷ us) i 0) (get_or us i 0) (units_of-words true part b i))
 
 -- ---- a test of each unit
-
-last : (t : ℕ → Bool) (us : List ℕ) (u : ℕ) → all_are t (us ++ u ∷ []) ≡ (all_are t us && t u)
-last t [] u = go (t u)
-  where
-    go : (b : Bool) → (b && true) ≡ b
-    go true = refl
-    go false = refl
-last t (v ∷ us) u = rw (last t us u) (go (t v) (all_are t us) (t u))
-  where
-    go : (a b c : Bool) → (a && (b && c)) ≡ ((a && b) && c)
-    go true b c = refl
-    go false b c = refl
 
 -- what it says of each
 pub each : (t : ℕ → Bool) (us : List ℕ) (i : ℕ) → i < length us → all_are t us ≡ true → t (get_or us i 0) ≡ true
@@ -66,7 +57,7 @@ each t (u ∷ us) (suc i) h e = each t us i (omega arith) ((and-eq-true_iff (t u
 
 -- ---- the bits of units
 
-bits-last : (b : ℕ) (us : List ℕ) (u : ℕ) → bits_from b (us ++ u ∷ []) ≡ bit_or (bits_from b us) u
+pub bits-last : (b : ℕ) (us : List ℕ) (u : ℕ) → bits_from b (us ++ u ∷ []) ≡ bit_or (bits_from b us) u
 bits-last b [] u = refl
 bits-last b (v ∷ us) u = bits-last (bit_or b v) us u
 
@@ -83,13 +74,10 @@ bits-ascii b (u ∷ us) h =
 
 -- ---- one unit more
 module _ (us : List ℕ) (from i : ℕ) (h : from + i < length us) where
-  more : take (i + 1) (drop from us) ≡ take i (drop from us) ++ get_or us (from + i) 0 ∷ []
+  pub more : take (i + 1) (drop from us) ≡ take i (drop from us) ++ get_or us (from + i) 0 ∷ []
   more =
       let k : i < length (drop from us) = simp length-drop (omega arith) in
       rw (add-one i, take-suc (drop from us) i 0 k, get_or-drop from us i 0)
-
-  pub are-next : (t : ℕ → Bool) (all : Bool) → all ≡ all_are t (take i (drop from us)) → (all && t (get_or us (from + i) 0)) ≡ all_are t (take (i + 1) (drop from us))
-  are-next t all e = rw (more, last t (take i (drop from us)) (get_or us (from + i) 0), e)
 
   pub bits-next : (bits : ℕ) → bits ≡ bits_from 0 (take i (drop from us)) → bit_or bits (get_or us (from + i) 0) ≡ bits_from 0 (take (i + 1) (drop from us))
   bits-next bits e = rw (more, bits-last 0 (take i (drop from us)) (get_or us (from + i) 0), e)
@@ -102,26 +90,6 @@ mapped-length f us = length-map us f
 module _ {t : ℕ → Bool} {f : ℕ → ℕ} (s : LowersBy t f) where
   pub mapped_at : (us : List ℕ) (i : ℕ) → get_or (map f us) i 0 ≡ f (get_or us i 0)
   mapped_at us i = rw s.none at (get_or-map f us i 0)
-
-  -- units lowered by the script put one after the other, and the test of all of them
-  pub record Passed (us : List ℕ) (from n : ℕ) (old now : List ℕ) (all : Bool) (at i : ℕ) : Type 0 where
-    pub put : Put (map f us) from n old now at i
-    pub are : all ≡ all_are t (take i (drop from us))
-
-  pub passed_none : {us s : List ℕ} {from n : ℕ} → Passed us from n s s true 0 0
-  passed_none = record { put = put-none; are = refl }
-
-  pub passed-next : {us s o : List ℕ} {all b : Bool} {from n at i u v : ℕ} → Passed us from n s o all at i → i < n → n ≤ length us - from → 2 * n ≤ length s
-      → u ≡ get_or us (from + i) 0 → v ≡ f u → b ≡ t u
-      → Passed us from n s (set (set o at (v % 256)) (at + 1) (v / 256)) (all && b) (at + 2) (i + 1)
-  passed-next {us} {all = all} {from = from} {i = i} p h k l e g y = record {
-    put = put_next p.put h (omega (arith, mapped-length f us)) l (g ∙ ap f e ∙ sym (mapped_at us (from + i)));
-    are = rw (y, e) (are-next us from i (omega arith) t all p.are);
-  }
-
-  pub passed-all : {us s o : List ℕ} {all : Bool} {from n at i : ℕ} → Passed us from n s o all at i → ¬ (i < n)
-      → (all ≡ all_are t (take n (drop from us))) × Wrote s (unit_bytes (take n (drop from (map f us)))) o (2 * n)
-  passed-all {n = n} {i = i} p h = let e : i ≡ n = omega (arith, p.put.most) in (rw e at p.are, put_all p.put h)
 
   module _ (part : List ℕ) (b : Bytes part) (w : is_well (decoded true part) ≡ true) where
     -- n units that pass the test
@@ -140,16 +108,11 @@ module _ {t : ℕ → Bool} {f : ℕ → ℕ} (s : LowersBy t f) where
         rw (get_or-take n (drop from (map f us)) i 0 l, get_or-take n (drop from vs) i 0 l, get_or-drop from (map f us) i 0, get_or-drop from vs i 0)
         (mapped_at us (from + i) ∙ sym ((place true part b w (from + i) j).0 ∙ below-lowered (get_or (0 ∷ us) (from + i) 0) (get_or us (from + i) 0) q.1 ∙ q.0)))
 
-    -- m of n units tried as units of the script: all are the text's where the test says so, else none counts
-    pub turned : (from m n : ℕ) {all : Bool} {r : ℕ} {s x q o : List ℕ} → m ≤ n → all ≡ all_are t (take m (drop from (units_of true part))) → r ≡ cond all m 0
+    -- m of n units tried as units of the script: all are the text's where the test says so
+    pub turned : (from m : ℕ) {n : ℕ} {s x q o : List ℕ} → m ≤ n → true ≡ all_are t (take m (drop from (units_of true part)))
         → Wrote s x q (2 * n) → Wrote q (unit_bytes (take m (drop from (map f (units_of true part))))) o (2 * m)
-        → (r ≤ n) × (take (2 * r) o ≡ unit_bytes (take r (drop from (encode16 (lowered (base true part)))))) × Wrote s (take (2 * n) o) o (2 * n)
-    turned from m n {all} {r} {o = o} h a e v u = ((go all a e).0, (go all a e).1, wrote-within v u (omega arith))
-      where
-        go : (b : Bool) → b ≡ all_are t (take m (drop from (units_of true part))) → r ≡ cond b m 0
-            → (r ≤ n) × (take (2 * r) o ≡ unit_bytes (take r (drop from (encode16 (lowered (base true part))))))
-        go true d z = (omega arith, rw z (wrote-taken u ∙ ap unit_bytes (window from m (sym d))))
-        go false d z = (omega arith, rw z)
+        → (m ≤ n) × (take (2 * m) o ≡ unit_bytes (take m (drop from (encode16 (lowered (base true part)))))) × Wrote s (take (2 * n) o) o (2 * n)
+    turned from m h a v u = (h, wrote-taken u ∙ ap unit_bytes (window from m (sym a)), wrote-within v u (omega arith))
 
 -- units whose bits are those of ASCII
 pub ascii-taken : (part : List ℕ) (b : Bytes part) (w : is_well (decoded true part) ≡ true) (from n : ℕ) {r : ℕ} {s o : List ℕ} {k : ℕ}

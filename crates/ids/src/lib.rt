@@ -3,6 +3,7 @@
 #![tactic(auto)]
 
 pub mod lowered; // the units of a lowered text
+pub mod script; // scripts that are lowered with no branch
 pub mod wide; // the same of wide text, many a turn
 pub mod short; // the id of a short name of one-byte text
 pub mod ascii; // the id of a short name of wide text that is ASCII

@@ -1,2 +1,4 @@
 pub mod AsciiLaws
 pub mod LowerLaws
+pub mod Searched
+pub mod Within

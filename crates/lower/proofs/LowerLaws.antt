@@ -5,9 +5,9 @@ use Rattle.std.proofs.Math.Bool.{and-eq-true_iff}
 use Rattle.std.proofs.Math.Logic.{by_cases}
 use Rattle.std.proofs.Math.Decide.{dec_lt}
 use Rattle.lower.specs.Table.{pairs}
-use Rattle.lower.specs.Lower.{second_of, lower, flat}
+use Rattle.lower.specs.Lower.{second_of, lower}
 use Rattle.lower.specs.SearchLaws.{second-every}
-use Rattle.lower.specs.TableLaws.{no_first, is_first, no_second-first, alike, pairs-alike}
+use Rattle.lower.specs.TableLaws.{count, no_first, is_first, no_second-first, alike, pairs-alike}
 pub use Rattle.lower.specs.LowerLaws.{Alike}
 
 pub lower-is : (c : ℕ) → lower c ≡ second_of c pairs
@@ -15,9 +15,8 @@ unfolding lower
 lower-is c = refl
 
 -- the table as the code has it
-pub table-length : length (flat pairs) ≡ 2974
-unfolding flat pairs
-table-length = refl
+pub table-length : length pairs ≡ 1487
+table-length = count
 
 -- ---- once is enough
 
@@ -39,7 +38,8 @@ lower-lower c = rw (lower-is c, lower-is (second_of c pairs)) (go (second-every 
     go (inl e) = ap (λ (x : ℕ). second_of x pairs) e
     go (inr e) = not_first (second_of c pairs) pairs e
 
-or_cases : (x y : Bool) → (x || y) ≡ true → (x ≡ true) ⊎ (y ≡ true)
+-- which half of a test holds
+pub or_cases : (x y : Bool) → (x || y) ≡ true → (x ≡ true) ⊎ (y ≡ true)
 or_cases true y e = inl refl
 or_cases false y e = inr e
 

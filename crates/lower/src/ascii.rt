@@ -6,7 +6,6 @@ ghost use Rattle.lower.specs.Ascii.{lower_ascii};
 pub fn lower_ascii(c: u32) -> u32
     ensures { result ≡ lower_ascii c }
 {
-    let from_a = 65 <= c;
-    let to_z = c <= 90;
-    c + 32 * ((from_a as u32) * (to_z as u32))
+    let is_capital = (65..=90).contains(&c);
+    c + 32 * u32::from(is_capital)
 }

@@ -1,24 +1,16 @@
 // Lowering by the table.
 ghost use Rattle.std.specs.Prelude.{◌≡◌};
-ghost use Rattle.lower.specs.Table.{pairs};
-ghost use Rattle.lower.specs.Lower.{lower, flat};
+ghost use Rattle.lower.specs.Lower.{lower};
 
-// The lower-case form of a character, by binary search for the last pair whose first is at most the character.
-pub fn lower_in(table: &[u32], c: u32) -> u32
-    requires { table.now ≡ flat pairs }
+use super::table::table;
+
+// The lower-case form of a character: the second of the pair whose first it is, or itself.
+pub fn lower_in(c: u32) -> u32
     ensures { result ≡ lower c }
 {
-    let mut at: usize = 0;
-    let mut n = table.len() / 2;
-    while 1 < n {
-        let half = n / 2;
-        if table[2 * (at + half)] <= c {
-            at += half;
-        }
-        n -= half;
+    let pairs = table();
+    match pairs.binary_search_by_key(&c, |&(first, _)| first) {
+        Ok(at) => pairs[at].1,
+        Err(_) => c,
     }
-    if table[2 * at] == c {
-        return table[2 * at + 1];
-    }
-    c
 }

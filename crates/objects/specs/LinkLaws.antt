@@ -1,5 +1,5 @@
 -- Laws of linking the objects of an accepted block. Assumes nothing.
-use Rattle.std.specs.Prelude.{◌≡◌, List, ℕ, ◌+◌, ◌*◌, ◌/◌, ◌^◌, ◌<◌, length}
+use Rattle.std.specs.Prelude.{◌≡◌, List, ℕ, ◌+◌, ◌*◌, ◌/◌, ◌^◌, ◌<◌, length, Ok}
 use Rattle.std.proofs.Common.{◌∙◌, arith}
 use Rattle.std.proofs.Math.Path.{ap}
 use Rattle.std.proofs.Math.Logic.{by_cases}
@@ -10,7 +10,6 @@ use Rattle.scriptblock.specs.Script.{Objects, script}
 use Rattle.scriptblock.specs.ScriptAnswers.{entry_at, script_answer}
 use Rattle.scriptblock.proofs.ScriptAccepted.{script-parts, accepted-objects, answer_of}
 use Rattle.scriptblock.specs.declared.script.Layout.{Layout}
-use Rattle.scriptblock.specs.declared.script.Script.TheVariants.{Accepted}
 use Rattle.table.specs.Words.{stored}
 use Rattle.table.specs.Table.{record_at, Table}
 use Rattle.table.specs.TableLaws.{holds-table}
@@ -26,7 +25,7 @@ count-is t = omega (arith, t.entered.size)
 pub all-table : {b : List ℕ} {o : Objects} {w : List ℕ} → AllIn b o w → Table (length w / 48) 44 w
 all-table t = rw (count-is t) (holds-table t.entered.keys)
 
-module _ (b : List ℕ) (l : Layout) (accepted : script_answer (run script 0 b) ≡ Accepted l) where
+module _ (b : List ℕ) (l : Layout) (accepted : script_answer (run script 0 b) ≡ Ok l) where
   same_layout : (o : Objects) → run script 0 b ≡ gives o → o.layout ≡ l
   same_layout o read = let e = answer_of read in cc
 

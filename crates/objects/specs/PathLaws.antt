@@ -1,6 +1,6 @@
 -- Laws of the path over links, as code follows them, and of the class test. Assumes nothing.
 use Rattle.std.specs.Prelude.{◌≡◌, refl, Bool, true, false, ◌&&◌, List, [], eqb, length, get_or}
-use Rattle.std.proofs.Common.{◌∙◌, add-one}
+use Rattle.std.proofs.Common.{sym, ◌∙◌, add-one}
 use Rattle.std.proofs.Math.Path.{ap}
 use Rattle.std.proofs.Math.Option.{Option, none, some}
 use Prim.Native.Nat.{ℕ, zero, suc, ◌+◌, ◌-◌, ◌*◌, ◌/◌, ◌%◌, ◌≤◌, ◌<◌}
@@ -54,7 +54,7 @@ module _ (left : ℕ) (o : Objects) (i : ℕ) where
       known-added name none = refl
       known-added name (some p) = refl
 
-      -- so it is known where k is 1; where k is more, its outer's is
+      -- so it is known where k is 1
       pub known_end : k < 2 → eqb k 1 ≡ is_known (path_no left o i)
       known_end m = go k refl m
         where
@@ -63,6 +63,7 @@ module _ (left : ℕ) (o : Objects) (i : ℕ) where
           go (suc zero) z m = rw (path-top z)
           go (suc (suc n)) z m = absurd (omega arith)
 
+      -- where k is more, it is known where its outer's is
       pub known_up : 2 ≤ k → is_known (path_no left o i) ≡ is_known (path_no (left - 1) o (k - 2))
       known_up m = rw (path-up m) (known-added (object_name o (entry_no o i)) (path_no (left - 1) o (k - 2)))
 
@@ -82,8 +83,8 @@ module _ {b : List ℕ} {o : Objects} {w : List ℕ} (t : ObjectsIn b o w) where
   pub link-inside : {k : ℕ} (outer : ℕ) → k ≡ link_of o outer → 2 ≤ k → 48 * (k - 2) < length w
   link-inside outer q m = omega (arith, link-le o outer, entries-length t.all, t.all.entered.size)
 
-  pub number-inside : {k : ℕ} (g : ℕ) → k ≡ number_of o.entries g → 0 < k → 48 * (k - 1) < length w
-  number-inside g q m = omega (arith, number-le o.entries g, entries-length t.all, t.all.entered.size)
+  pub number-inside : {i : ℕ} (g : ℕ) → suc i ≡ number_of o.entries g → 48 * i < length w
+  number-inside g q = omega (arith, number-le o.entries g, entries-length t.all, t.all.entered.size)
 
   module _ (i : ℕ) (h : 48 * i < length w) {at : ℕ} (place : at ≡ record_at (length w / 48) 44 i) where
     here : at ≡ record_at o.layout.count 44 i
@@ -135,12 +136,12 @@ module _ {b : List ℕ} {o : Objects} {w : List ℕ} (t : ObjectsIn b o w) where
   pub class-none : (limit g : ℕ) → number_of o.entries g ≡ 0 → names_class (path_of limit o g) ≡ false
   class-none limit g q = rw (path-missing limit o g q)
 
-  pub class_no_lem : (limit g i : ℕ) → number_of o.entries g ≡ i + 1
+  pub class_no_lem : (limit g i : ℕ) → number_of o.entries g ≡ suc i
       → names_class (path_of limit o g) ≡ is_known (path_no limit o i) && ends_with (object_name o (entry_no o i)) class_end
   class_no_lem limit g i q =
-      let e : (entry_no o i).global ≡ g = number_at o.entries g i (q ∙ add-one i) in
+      let e : (entry_no o i).global ≡ g = number_at o.entries g i q in
       let m = member o.entries i (omega (arith, number-le o.entries g)) in
-      rw (← path-found limit o good g i q) (class-test o limit g (entry_no o i) (rw e at (object-member o good (entry_no o i) m)))
+      rw (← path-found limit o good g i (q ∙ sym (add-one i))) (class-test o limit g (entry_no o i) (rw e at (object-member o good (entry_no o i) m)))
 
 pub and-true : (x : Bool) {y : Bool} → y ≡ true → (x && y) ≡ x
 and-true true e = e

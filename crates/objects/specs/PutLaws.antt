@@ -1,5 +1,5 @@
 -- Laws of the path that is written by recursion: what the columns of an object say of its path, and the path of its outer. Assumes nothing.
-use Rattle.std.specs.Prelude.{◌≡◌, List, ◌++◌, ℕ, ◌+◌, ◌-◌, ◌*◌, ◌≤◌, ◌<◌, length, take, drop}
+use Rattle.std.specs.Prelude.{◌≡◌, List, ◌++◌, ℕ, suc, ◌+◌, ◌-◌, ◌*◌, ◌≤◌, ◌<◌, length, take, drop, Option, None}
 use Rattle.std.proofs.Common.{sym, ◌∙◌, ap, subst, arith}
 use Rattle.std.proofs.Math.Option.{none, some}
 use Rattle.base.specs.NumberLaws.{Bytes}
@@ -14,11 +14,10 @@ use Rattle.objects.specs.Numbers.{entry_no, link_of, path_no}
 use Rattle.objects.specs.Work.{ObjectsIn, Linked, object_no, place_of, Stands}
 use Rattle.objects.specs.WorkLaws.{name_no}
 use Rattle.objects.specs.PathLaws.{path-lost, path-top, path-up, inside-count, link-inside, place-holds, place_no_lem, number_no_lem, outer_no}
-use Rattle.objects.specs.Told.{path_bytes, Written}
+use Rattle.objects.specs.Told.{known, path_bytes, Written}
 use Rattle.objects.specs.ToldLaws.{path-deep, bytes-grow, written-lost, known_is, written-wrote, written-room, written-more}
 use Rattle.objects.specs.declared.object.Object.{Object}
 use Rattle.objects.specs.declared.path.Path.{Path as Told}
-use Rattle.objects.specs.declared.path.Path.TheVariants.{Known, Unknown}
 
 -- the rendered name, by the columns
 abbrev pub name_of : List ℕ → Object → List ℕ
@@ -30,6 +29,13 @@ pub record OuterRead (w : List ℕ) (u v : Object) (limit : ℕ) : Type 0 where
   pub there : u.outer ≡ 0 → ⊥
   pub more : u.outer ≡ 1 → ⊥
   pub is : (c : List ℕ) (p : Objects) → ObjectsIn c p w → v ≡ object_no c p (u.outer - 2)
+
+-- so it is where the outer leads to object i, whose columns were read
+pub outer-read : (u : Object) {w : List ℕ} {v : Object} {limit i : ℕ} → (limit ≡ 0 → ⊥) → suc (suc i) ≡ u.outer
+    → ((c : List ℕ) (p : Objects) → ObjectsIn c p w → v ≡ object_no c p i) → OuterRead w u v limit
+outer-read u {w} {v} {limit} {i} more e is =
+    let k : u.outer - 2 ≡ i = omega arith in
+    record { some = more; there = λ z. omega arith; more = λ z. omega arith; is = rw k is }
 
 -- that outer is the outermost object, and the buffer has room for the path of u
 pub record TwoRoom (b : List ℕ) (u v : Object) (limit : ℕ) (out : List ℕ) : Type 0 where
@@ -86,28 +92,28 @@ module _ {b : List ℕ} {o : Objects} {w : List ℕ} {i : ℕ} {u : Object} (st 
     up_room = omega (arith, both, bytes-grow (name_of b u) (path_no (limit - 1) o (u.outer - 2)))
 
     -- its outer's path was written
-    module _ {p : List ℕ} {r : Told}
+    module _ {p : List ℕ} {r : Option Told}
         (above : (q : Objects) (j : ℕ) → Stands b q w j v → length (path_bytes (path_no (limit - 1) q j)) ≤ length s → Written (path_no (limit - 1) q j) s p r) where
       there : Written (path_no (limit - 1) o (u.outer - 2)) s p r
       there = above o (u.outer - 2) up-stands up_room
 
-      pub up-lost : r ≡ Unknown → Written (path_no limit o i) s p Unknown
+      pub up-lost : r ≡ None → Written (path_no limit o i) s p None
       up-lost z = written-lost (name_of b u) there z up
 
-      module _ (at depth : ℕ) (known : r ≡ Known at depth) where
+      module _ (at depth : ℕ) (is : r ≡ known at depth) where
         pub up-wrote : Wrote s (path_bytes (path_no (limit - 1) o (u.outer - 2))) p at
-        up-wrote = written-wrote at depth (name_of b u) there known both
+        up-wrote = written-wrote at depth (name_of b u) there is both
 
         -- it has an object, and fewer than the limit
         pub up-deep : (0 < depth) × (depth < limit)
         up-deep =
-            let (q, e, l, d) = known_is at depth (name_of b u) there known both in
+            let (q, e, l, d) = known_is at depth (name_of b u) there is both in
             let z = path-deep o (limit - 1) (u.outer - 2) q e in
             (omega (arith, z.0), omega (arith, z.1, a.some))
 
         pub up_next : length (utf8 (separator depth ++ name_of b u)) ≤ length (take (length p - at) (drop at p))
-        up_next = written-room at depth (name_of b u) there known both
+        up_next = written-room at depth (name_of b u) there is both
 
         pub up_more : {q : List ℕ} {m : ℕ} → Wrote (take (length p - at) (drop at p)) (utf8 (separator depth ++ name_of b u)) q m
-            → Written (path_no limit o i) s (take at p ++ (q ++ drop (length p - at) (drop at p))) (Known (at + m) (depth + 1))
-        up_more v = written-more at depth (name_of b u) there known both up v
+            → Written (path_no limit o i) s (take at p ++ (q ++ drop (length p - at) (drop at p))) (known (at + m) (depth + 1))
+        up_more v = written-more at depth (name_of b u) there is both up v

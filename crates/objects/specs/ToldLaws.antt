@@ -1,7 +1,7 @@
 -- Laws of what is told of a path, and of its bytes: one name more. Assumes nothing.
-use Rattle.std.specs.Prelude.{◌≡◌, refl, List, [], ◌∷◌, ◌++◌, length, take, drop, set}
+use Rattle.std.specs.Prelude.{◌≡◌, refl, List, [], ◌∷◌, ◌++◌, length, take, drop, set, Option, Some, None}
 use Rattle.std.proofs.Common.{sym, ◌∙◌, ap, append_assoc, length-append}
-use Rattle.std.proofs.Math.Option.{Option, none, some}
+use Rattle.std.proofs.Math.Option.{Option as Maybe, none, some}
 use Prim.Native.Nat.{ℕ, zero, suc, ◌+◌, ◌-◌, ◌*◌, ◌/◌, ◌≤◌, ◌<◌}
 use native.Mathlib.Omega.{arith}
 use Rattle.base.specs.Never.{never}
@@ -18,17 +18,16 @@ use Rattle.objects.specs.Numbers.{entry_no, link_of, path_by, path_no}
 use Rattle.objects.specs.Work.{ObjectsIn}
 use Rattle.objects.specs.WorkLaws.{name_no}
 use Rattle.objects.specs.PathLaws.{inside-count, columns-at, path_end}
-use Rattle.objects.specs.Told.{told, path_bytes, Written}
+use Rattle.objects.specs.Told.{known, told, path_bytes, Written}
 use Rattle.objects.specs.declared.path.Path.{Path as Told}
-use Rattle.objects.specs.declared.path.Path.TheVariants.{Known, Unknown}
 
 -- ---- a path has an object, and not more than its limit
 
 module _ (o : Objects) where
-  abbrev Deep : ℕ → Option Path → Type 0
+  abbrev Deep : ℕ → Maybe Path → Type 0
   Deep n x = (p : Path) → x ≡ some p → (0 < p.depth) × (p.depth ≤ n)
 
-  deep-added : (n : ℕ) (name : List ℕ) (x : Option Path) → ((p : Path) → x ≡ some p → p.depth ≤ n) → Deep (suc n) (added name x)
+  deep-added : (n : ℕ) (name : List ℕ) (x : Maybe Path) → ((p : Path) → x ≡ some p → p.depth ≤ n) → Deep (suc n) (added name x)
   deep-added n name none f p e = none-some e
   deep-added n name (some q) f p e = let d : q.depth + 1 ≡ p.depth = cc in (omega arith, omega (arith, f q refl))
 
@@ -61,24 +60,33 @@ separator-other (suc (suc (suc d))) h n = refl
 
 -- ---- measured from the innermost object on
 
+-- what is told tells both numbers
+pub known-parts : {n d m k : ℕ} → known n d ≡ known m k → (n ≡ m) × (d ≡ k)
+known-parts {n} {d} {m} {k} e =
+    let f : record { len = n; objects = d } ≡ record { len = m; objects = k } = cc in
+    (ap (λ (t : Told). t.len) f, ap (λ (t : Told). t.objects) f)
+
 -- what is told, behind so many bytes and objects
-abbrev pub behind : ℕ → ℕ → Told → Told
-behind t d Unknown = Unknown
-behind t d (Known n k) = Known (t + n) (d + k)
+abbrev pub behind : ℕ → ℕ → Option Told → Option Told
+behind t d None = None
+behind t d (Some p) = known (t + p.len) (d + p.objects)
 
-pub behind-none : (r : Told) → r ≡ behind 0 0 r
-behind-none Unknown = refl
-behind-none (Known n k) = let x : 0 + n ≡ n = omega arith in let y : 0 + k ≡ k = omega arith in rw (x, y)
+pub behind-none : (r : Option Told) → r ≡ behind 0 0 r
+behind-none None = refl
+behind-none (Some p) = let x : 0 + p.len ≡ p.len = omega arith in let y : 0 + p.objects ≡ p.objects = omega arith in rw (x, y)
 
-behind_more : (t d n k : ℕ) (r : Told) → behind t d (behind (n + 1) k r) ≡ behind (t + n + 1) (d + k) r
-behind_more t d n k Unknown = refl
-behind_more t d n k (Known m j) = let x : t + (n + 1 + m) ≡ t + n + 1 + m = omega arith in let y : d + (k + j) ≡ d + k + j = omega arith in rw (x, y)
+behind_more : (t d n k : ℕ) (r : Option Told) → behind t d (behind (n + 1) k r) ≡ behind (t + n + 1) (d + k) r
+behind_more t d n k None = refl
+behind_more t d n k (Some p) =
+    let x : t + (n + 1 + p.len) ≡ t + n + 1 + p.len = omega arith in
+    let y : d + (k + p.objects) ≡ d + k + p.objects = omega arith in
+    rw (x, y)
 
 -- the first name, and one behind others
-told-first : (t d : ℕ) (name : List ℕ) → behind t d (told (added name (some start))) ≡ Known (t + length (utf8 name)) (d + 1)
+told-first : (t d : ℕ) (name : List ℕ) → behind t d (told (added name (some start))) ≡ known (t + length (utf8 name)) (d + 1)
 told-first t d name = refl
 
-told-added : (name : List ℕ) (x : Option Path) → ((p : Path) → x ≡ some p → 0 < p.depth) → told (added name x) ≡ behind (length (utf8 name) + 1) 1 (told x)
+told-added : (name : List ℕ) (x : Maybe Path) → ((p : Path) → x ≡ some p → 0 < p.depth) → told (added name x) ≡ behind (length (utf8 name) + 1) 1 (told x)
 told-added name none deep = refl
 told-added name (some p) deep =
     let s = separator-one p.depth (deep p refl) in
@@ -89,14 +97,14 @@ told-added name (some p) deep =
 
 -- the path of object i behind t bytes and d objects, of `limit` at most: unknown, whole, or one more behind
 module _ (o : Objects) (limit i t d at : ℕ) (so : told (path_no limit o i) ≡ behind t d (told (path_no (limit - d) o at))) where
-  pub told_end : limit ≤ d → Unknown ≡ told (path_no limit o i)
+  pub told_end : limit ≤ d → None ≡ told (path_no limit o i)
   told_end h = sym (so ∙ rw (path_end (limit - d) o at (omega arith)))
 
-  pub told-lost : path_no (limit - d) o at ≡ none → Unknown ≡ told (path_no limit o i)
+  pub told-lost : path_no (limit - d) o at ≡ none → None ≡ told (path_no limit o i)
   told-lost e = sym (so ∙ rw e)
 
   pub told-top : {n : ℕ} → n ≡ length (utf8 (object_name o (entry_no o at))) → path_no (limit - d) o at ≡ added (object_name o (entry_no o at)) (some start)
-      → Known (t + n) (d + 1) ≡ told (path_no limit o i)
+      → known (t + n) (d + 1) ≡ told (path_no limit o i)
   told-top q e = sym (so ∙ rw (e, q) (told-first t d (object_name o (entry_no o at))))
 
   pub told-up : (k : ℕ) {n : ℕ} → n ≡ length (utf8 (object_name o (entry_no o at))) → path_no (limit - d) o at ≡ added (object_name o (entry_no o at)) (path_no (limit - d - 1) o k)
@@ -114,38 +122,38 @@ module _ {b : List ℕ} {o : Objects} {w : List ℕ} (t : ObjectsIn b o w) (i : 
 
 -- ---- written from the outermost object on
 
-pub written_none : (s : List ℕ) {x : Option Path} → x ≡ none → Written x s s Unknown
+pub written_none : (s : List ℕ) {x : Maybe Path} → x ≡ none → Written x s s None
 unfolding over
 written_none s e = record { answer = rw e; buffer = rw e }
 
-pub written-first : {s o name : List ℕ} {n : ℕ} {x : Option Path} → x ≡ added name (some start) → Wrote s (utf8 name) o n → Written x s o (Known n 1)
-written-first e w = record { answer = rw e (ap (λ (k : ℕ). Known k 1) w.size); buffer = rw e w.is }
+pub written-first : {s o name : List ℕ} {n : ℕ} {x : Maybe Path} → x ≡ added name (some start) → Wrote s (utf8 name) o n → Written x s o (known n 1)
+written-first e w = record { answer = rw e (ap (λ (k : ℕ). known k 1) w.size); buffer = rw e w.is }
 
 -- a path with a name behind it has as many bytes or more
-pub bytes-grow : (name : List ℕ) (x : Option Path) → length (path_bytes x) ≤ length (path_bytes (added name x))
+pub bytes-grow : (name : List ℕ) (x : Maybe Path) → length (path_bytes x) ≤ length (path_bytes (added name x))
 bytes-grow name none = omega arith
 bytes-grow name (some p) = rw (utf8_append (p.text ++ separator p.depth) name, utf8_append p.text (separator p.depth)) (simp length-append (omega arith))
 
-pub written-lost : (name : List ℕ) {s o : List ℕ} {x y : Option Path} {r : Told} → Written y s o r → r ≡ Unknown → x ≡ added name y → Written x s o Unknown
+pub written-lost : (name : List ℕ) {s o : List ℕ} {x y : Maybe Path} {r : Option Told} → Written y s o r → r ≡ None → x ≡ added name y → Written x s o None
 unfolding over
 written-lost name {s} {o} {x} {y} {r} w u e = go y w.buffer (sym w.answer ∙ u) e
   where
-    go : (y : Option Path) → o ≡ over s (path_bytes y) → told y ≡ Unknown → x ≡ added name y → Written x s o Unknown
+    go : (y : Maybe Path) → o ≡ over s (path_bytes y) → told y ≡ None → x ≡ added name y → Written x s o None
     go none q z e = record { answer = rw e; buffer = rw e q }
     go (some p) q z e = never (cc)
 
 -- the path y is there, of `at` bytes and `depth` objects, and the path x, which has a name more, fits
-module _ {s o : List ℕ} {y : Option Path} {r : Told} (at depth : ℕ) (name : List ℕ) (w : Written y s o r) (known : r ≡ Known at depth)
+module _ {s o : List ℕ} {y : Maybe Path} {r : Option Told} (at depth : ℕ) (name : List ℕ) (w : Written y s o r) (so : r ≡ known at depth)
     (room : length (path_bytes (added name y)) ≤ length s) where
-  told_y : told y ≡ Known at depth
-  told_y = sym w.answer ∙ known
+  told_y : told y ≡ known at depth
+  told_y = sym w.answer ∙ so
 
   pub known_is : (p : Path) × (y ≡ some p) × (length (utf8 p.text) ≡ at) × (p.depth ≡ depth)
   known_is = go y told_y
     where
-      go : (y : Option Path) → told y ≡ Known at depth → (p : Path) × (y ≡ some p) × (length (utf8 p.text) ≡ at) × (p.depth ≡ depth)
+      go : (y : Maybe Path) → told y ≡ known at depth → (p : Path) × (y ≡ some p) × (length (utf8 p.text) ≡ at) × (p.depth ≡ depth)
       go none e = never (cc)
-      go (some p) e = (p, refl, cc, cc)
+      go (some p) e = let f = known-parts e in (p, refl, f.0, f.1)
 
   joined : path_bytes (added name y) ≡ path_bytes y ++ utf8 (separator depth ++ name)
   joined =
@@ -161,13 +169,13 @@ module _ {s o : List ℕ} {y : Option Path} {r : Told} (at depth : ℕ) (name : 
   pub written-room : length (utf8 (separator depth ++ name)) ≤ length (take (length o - at) (drop at o))
   written-room = next-room s (path_bytes y) (utf8 (separator depth ++ name)) o at written-wrote (rw (← joined) room)
 
-  pub written-more : {p : List ℕ} {m : ℕ} {x : Option Path} → x ≡ added name y → Wrote (take (length o - at) (drop at o)) (utf8 (separator depth ++ name)) p m
-      → Written x s (take at o ++ (p ++ drop (length o - at) (drop at o))) (Known (at + m) (depth + 1))
+  pub written-more : {p : List ℕ} {m : ℕ} {x : Maybe Path} → x ≡ added name y → Wrote (take (length o - at) (drop at o)) (utf8 (separator depth ++ name)) p m
+      → Written x s (take at o ++ (p ++ drop (length o - at) (drop at o))) (known (at + m) (depth + 1))
   written-more {p} {m} {x} e v =
       let t = wrote_as (wrote-rest written-wrote v) (sym joined) in
       record { answer = rw e (more t.size); buffer = rw e t.is }
     where
-      more : at + m ≡ length (path_bytes (added name y)) → Known (at + m) (depth + 1) ≡ told (added name y)
+      more : at + m ≡ length (path_bytes (added name y)) → known (at + m) (depth + 1) ≡ told (added name y)
       more z = let (q, e, l, d) = known_is in let u = rw e at z in rw (e, u, d)
 
 -- a name behind others: its separator, of one byte, and its bytes

@@ -2,7 +2,7 @@
 -- object i. Its key is 0 and the object's global index; bytes 24 to 43 are: where its outer leads (24), its name's start in the block
 -- (28), twice the name's size, and 1 if it is UTF-16 (32), its instance number (36), the length of its rendered name in UTF-8 (40).
 -- Assumes nothing.
-use Rattle.std.specs.Prelude.{◌≡◌, Bool, true, false, List, ℕ, ◌+◌, ◌*◌, ◌/◌, ◌%◌, ◌<◌, eqb, length}
+use Rattle.std.specs.Prelude.{◌≡◌, Bool, true, false, List, ℕ, suc, ◌+◌, ◌*◌, ◌/◌, ◌%◌, ◌<◌, eqb, length}
 use Rattle.base.specs.Number.{le_at}
 use Rattle.base.specs.Reading.{gives, run}
 use Rattle.text.specs.Utf8.{utf8}
@@ -18,6 +18,8 @@ use Rattle.table.specs.Words.{stored}
 use Rattle.table.specs.Table.{record_at, Holds}
 use Rattle.objects.specs.Numbers.{entry_no, link_of}
 use Rattle.objects.specs.declared.object.Object.{Object}
+use Rattle.objects.specs.declared.object.Outer.{Outer}
+use Rattle.objects.specs.declared.object.Outer.TheVariants.{Missing, Nothing, Object as OuterObject}
 
 -- the halves of a key: the second is asked first, and tells all
 abbrev pub first_of : ℕ → ℕ
@@ -75,6 +77,12 @@ pub record Linked (w : List ℕ) : Type 0 where
 pub record LinkedOf (b w : List ℕ) : Type 0 where
   pub objects : Objects
   pub holds : ObjectsIn b objects w
+
+-- where an outer leads, by its number in the buffer: as `link_of` says
+abbrev pub outer_number : Outer → ℕ
+outer_number Missing = 0
+outer_number Nothing = 1
+outer_number (OuterObject i) = suc (suc i)
 
 -- object i by its columns
 unfoldable pub object_no : List ℕ → Objects → ℕ → Object

@@ -9,7 +9,7 @@ ghost use Rattle.objects.specs.Numbers.{entry_no, path_no};
 ghost use Rattle.objects.specs.Work.{ObjectsIn, Linked, LinkedOf};
 
 use super::link::find;
-use super::object::{object_at, place_of};
+use super::object::{Outer, object_at, place_of};
 use batch::texts::place_ends_with;
 use table::entries::record_at;
 use table::words::get32;
@@ -21,14 +21,12 @@ pub fn known(w: &[u8], i: usize, limit: usize) -> bool
 {
     let n = w.len() / 48;
     let mut at = i;
-    let mut left = limit;
-    while 0 < left {
-        let k = get32(w, record_at(n, 44, at) + 24);
-        if k < 2 {
-            return k == 1;
+    for _ in 0..limit {
+        match Outer::of(get32(w, record_at(n, 44, at) + 24)) {
+            Outer::Missing => return false,
+            Outer::Nothing => return true,
+            Outer::Object(k) => at = k,
         }
-        at = k - 2;
-        left -= 1;
     }
     false
 }
@@ -39,10 +37,7 @@ fn ends_in_class(b: &[u8], w: &[u8], i: usize) -> bool
     ensures { (o : Objects) → ObjectsIn b.now o w.now → result ≡ ends_with (object_name o (entry_no o i)) class_end }
 {
     let u = object_at(w, i);
-    if u.number != 0 {
-        return false;
-    }
-    place_ends_with(b, place_of(u), b"Class")
+    u.number == 0 && place_ends_with(b, place_of(u), b"Class")
 }
 
 // Whether the path of the object with a global index is known and names a class.
@@ -50,12 +45,8 @@ pub fn is_class(b: &[u8], w: &[u8], index: u64, limit: usize) -> bool
     requires { LinkedOf b.now w.now }
     ensures { (o : Objects) → ObjectsIn b.now o w.now → result ≡ names_class (path_of limit o index) }
 {
-    let k = find(w, index);
-    if k == 0 {
+    let Some(i) = find(w, index) else {
         return false;
-    }
-    if ends_in_class(b, w, k - 1) {
-        return known(w, k - 1, limit);
-    }
-    false
+    };
+    ends_in_class(b, w, i) && known(w, i, limit)
 }

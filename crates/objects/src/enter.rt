@@ -1,18 +1,19 @@
 // Objects entered into the table as they come.
-ghost use Rattle.std.specs.Prelude.{◌≡◌, ◌+◌, ◌*◌, ◌^◌, ◌≤◌, ◌<◌, length};
+ghost use Rattle.std.specs.Prelude.{◌≡◌, ◌+◌, ◌*◌, ◌^◌, ◌≤◌, ◌<◌, length, Ok, OnOk};
+ghost use Rattle.base.specs.Refusal.{fault};
 ghost use Rattle.text.specs.Utf8.{utf8};
 ghost use Rattle.batch.specs.Holds.{name_at};
 ghost use Rattle.batch.specs.Notes.{Noted};
 ghost use Rattle.batch.specs.Places.{place_at, Held};
 ghost use Rattle.scriptblock.specs.ScriptAnswers.{opened, fault_at};
-ghost use Rattle.scriptblock.specs.declared.script.Opened.TheVariants.{Open};
 ghost use Rattle.objects.specs.Work.{packed, described, Entered};
 
+use base::refusal::Refusal;
 use batch::names::Names;
 use batch::notes::{NOTES, place_at};
 use batch::places::Place;
 use batch::texts::place_len;
-use scriptblock::script::{Entry, Layout, entry_fault, entry_in};
+use scriptblock::script::{Entry, Layout, check_entry, entry_in};
 use table::entries::{add, clear, record_at};
 use table::words::set32;
 
@@ -21,10 +22,7 @@ pub fn packed(p: Place) -> usize
     requires { p.size < 65536 }
     ensures { result ≡ packed p }
 {
-    if p.wide {
-        return 2 * p.size + 1;
-    }
-    2 * p.size
+    2 * p.size + usize::from(p.wide)
 }
 
 // Fills in the record at a place.
@@ -49,28 +47,22 @@ fn put_object(b: &[u8], n: Names, notes: &[u32; NOTES], w: &mut [u8], at: usize,
     describe(w, at, p, e.number, len);
 }
 
-// Enters the objects: the first question that one fails (10, 11, 12), or 0.
-pub fn enter(b: &[u8], l: Layout, notes: &[u32; NOTES], w: &mut [u8]) -> u8
-    requires b_value { (opened b.now ≡ Open l) × Noted b.now l.names notes.now }
+// Enters the objects, unless one fails a question: 10, 11 or 12.
+pub fn enter(b: &[u8], l: Layout, notes: &[u32; NOTES], w: &mut [u8]) -> Result<(), Refusal>
+    requires b_value { (opened b.now ≡ Ok l) × Noted b.now l.names notes.now }
     requires w_len { (length w.old ≡ 48 * l.count) × (length b.now < 2 ^ 32) }
-    ensures fault { result ≡ fault_at b.now l }
-    ensures entered { result ≡ 0 → Entered b.now l l.count w.new }
+    ensures fault { fault result ≡ fault_at b.now l }
+    ensures entered { OnOk result (Entered b.now l l.count w.new) }
 {
     let n = l.count;
     clear(w, n);
-    let mut i: usize = 0;
-    while i < n {
+    for i in 0..n {
         let e = entry_in(b, l.entries + 32 * i);
-        let fault = entry_fault(e, l.names.count);
-        if fault != 0 {
-            return fault;
-        }
-        let g = e.global;
-        if 0 < add(w, n, 44, i, 0, g) {
-            return 12;
+        check_entry(e, l.names.count)?;
+        if add(w, n, 44, i, 0, e.global).is_some() {
+            return Err(Refusal::RepeatedObject);
         }
         put_object(b, l.names, notes, w, record_at(n, 44, i), e);
-        i += 1;
     }
-    0
+    Ok(())
 }

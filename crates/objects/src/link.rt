@@ -1,51 +1,49 @@
 // Objects found by their global index, and linked to their outers.
-ghost use Rattle.std.specs.Prelude.{List, ◌≡◌, ℕ, ◌^◌, ◌<◌, length};
+ghost use Rattle.std.specs.Prelude.{List, ◌≡◌, ℕ, ◌^◌, ◌<◌, length, Ok};
+ghost use Rattle.base.specs.OneMore.{one_more};
 ghost use Rattle.base.specs.Reading.{run, gives};
 ghost use Rattle.scriptblock.specs.Script.{Objects, script};
 ghost use Rattle.scriptblock.specs.ScriptAnswers.{script_answer};
-ghost use Rattle.scriptblock.specs.declared.script.Script.TheVariants.{Accepted};
 ghost use Rattle.objects.specs.Numbers.{number_of, link_of};
 ghost use Rattle.objects.specs.Work.{Entered, AllIn, ObjectsIn, Keyed};
 
-use base::index::index_kind;
+use base::index::{Kind, index_kind};
 use base::number::le64;
 use scriptblock::script::Layout;
 use table::entries::{look_up, record_at};
 use table::words::set32;
 
-// The object with a global index: one more than its number, or 0.
-pub fn find(w: &[u8], index: u64) -> usize
+// The number of the object with a global index.
+pub fn find(w: &[u8], index: u64) -> Option<usize>
     requires { Keyed w.now }
-    ensures { (b : List ℕ) (o : Objects) → AllIn b o w.now → result ≡ number_of o.entries index }
+    ensures { (b : List ℕ) (o : Objects) → AllIn b o w.now → one_more result ≡ number_of o.entries index }
 {
     look_up(w, w.len() / 48, 44, 0, index)
 }
 
 // Where an outer leads: 0 to no object, 1 to none at all, else two more than the object's number.
+// Kept: the number as it stands in the work buffer: link only stores it, and would make it of an Outer at once.
 fn link_of(w: &[u8], outer: u64) -> usize
     requires { Keyed w.now }
     ensures { (b : List ℕ) (o : Objects) → AllIn b o w.now → result ≡ link_of o outer }
 {
-    if index_kind(outer) == 3 {
+    if index_kind(outer) == Kind::Null {
         return 1;
     }
-    let k = find(w, outer);
-    if k == 0 {
-        return 0;
+    match find(w, outer) {
+        Some(i) => i + 2,
+        None => 0,
     }
-    k + 1
 }
 
 // Links each object of an accepted block to its outer.
 pub fn link(b: &[u8], l: Layout, w: &mut [u8])
-    requires { (script_answer (run script 0 b.now) ≡ Accepted l) × Entered b.now l l.count w.old × (length b.now < 2 ^ 32) }
+    requires { (script_answer (run script 0 b.now) ≡ Ok l) × Entered b.now l l.count w.old × (length b.now < 2 ^ 32) }
     ensures { (o : Objects) → run script 0 b.now ≡ gives o → ObjectsIn b.now o w.new }
 {
     let n = l.count;
-    let mut i: usize = 0;
-    while i < n {
+    for i in 0..n {
         let k = link_of(w, le64(b, l.entries + 32 * i + 16));
         set32(w, record_at(n, 44, i) + 24, k);
-        i += 1;
     }
 }

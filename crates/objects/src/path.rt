@@ -10,42 +10,44 @@ ghost use Rattle.objects.specs.Work.{ObjectsIn, Linked, place_of, Stands};
 ghost use Rattle.objects.specs.Told.{told, path_bytes, Written, Roomy};
 ghost use Rattle.objects.specs.PutLaws.{OuterRead, TwoRoom};
 
-use super::object::{Object, object_at, place_of};
+use super::object::{Object, Outer, object_at, place_of};
 use batch::texts::put_place;
 use table::entries::record_at;
 use table::words::get32;
 
 // A path: how many bytes, of how many objects.
-#[derive(Clone, Copy)]
-pub enum Path {
-    Known(usize, usize),
-    Unknown,
+#[derive(Clone, Copy, PartialEq, Eq)]
+pub struct Path {
+    pub len: usize,
+    pub objects: usize,
 }
 
-// The path of object i, of at most `limit` objects, measured.
-pub fn path_len(w: &[u8], i: usize, limit: usize) -> Path
+// The path of object i, of at most `limit` objects, measured; None where it is unknown.
+pub fn path_len(w: &[u8], i: usize, limit: usize) -> Option<Path>
     requires { Linked w.now × (48 * i < length w.now) × (limit < 2 ^ 32) }
     ensures { (b : List ℕ) (o : Objects) → ObjectsIn b o w.now → result ≡ told (path_no limit o i) }
 {
     let n = w.len() / 48;
-    let mut total: usize = 0;
+    let mut len: usize = 0;
     let mut at = i;
-    let mut depth: usize = 0;
-    while depth < limit {
+    for depth in 0..limit {
         let record = record_at(n, 44, at);
-        total += get32(w, record + 40);
-        depth += 1;
-        let k = get32(w, record + 24);
-        if k == 0 {
-            return Path::Unknown;
+        len += get32(w, record + 40);
+        match Outer::of(get32(w, record + 24)) {
+            Outer::Missing => return None,
+            Outer::Nothing => {
+                return Some(Path {
+                    len,
+                    objects: depth + 1,
+                });
+            }
+            Outer::Object(k) => {
+                len += 1;
+                at = k;
+            }
         }
-        if k == 1 {
-            return Path::Known(total, depth);
-        }
-        total += 1;
-        at = k - 2;
     }
-    Path::Unknown
+    None
 }
 
 // The name of an object.
@@ -61,10 +63,7 @@ fn separator_of(depth: usize) -> u8
     requires { 0 < depth }
     ensures { result ∷ [] ≡ separator depth }
 {
-    if depth == 2 {
-        return b':';
-    }
-    b'.'
+    if depth == 2 { b':' } else { b'.' }
 }
 
 // The name of an object that stands behind so many others, with its separator.
@@ -79,45 +78,48 @@ fn put_next(out: &mut [u8], b: &[u8], u: Object, depth: usize) -> usize
 }
 
 // The path of an object whose outer, with the columns v, is the outermost object.
-fn put_two(out: &mut [u8], b: &[u8], u: Object, v: Object, limit: usize) -> Path
+fn put_two(out: &mut [u8], b: &[u8], u: Object, v: Object, limit: usize) -> Option<Path>
     requires { TwoRoom b.now u v limit out.old }
     ensures { (o : Objects) (w : List ℕ) (i : ℕ) → Stands b.now o w i u → OuterRead w u v limit
         → length (path_bytes (path_no limit o i)) ≤ length out.old → Written (path_no limit o i) out.old out.new result }
 {
     if limit == 1 {
-        return Path::Unknown;
+        return None;
     }
     let at = put_name(out, b, v);
     let n = put_next(&mut out[at..], b, u, 1);
-    Path::Known(at + n, 2)
+    Some(Path {
+        len: at + n,
+        objects: 2,
+    })
 }
 
 // The path of an object, from the innermost object on: each name is written after its outer's path. Nothing is written where it is unknown.
-pub fn put_path(out: &mut [u8], b: &[u8], w: &[u8], u: Object, limit: usize) -> Path
+pub fn put_path(out: &mut [u8], b: &[u8], w: &[u8], u: Object, limit: usize) -> Option<Path>
     requires { Roomy b.now w.now u limit out.old }
     ensures { (o : Objects) (i : ℕ) → Stands b.now o w.now i u → length (path_bytes (path_no limit o i)) ≤ length out.old
         → Written (path_no limit o i) out.old out.new result }
 {
     if limit == 0 {
-        return Path::Unknown;
+        return None;
     }
-    let outer = u.outer;
-    if outer == 0 {
-        return Path::Unknown;
-    }
-    if outer == 1 {
-        return Path::Known(put_name(out, b, u), 1);
-    }
-    let v = object_at(w, outer - 2);
-    if v.outer == 1 {
-        return put_two(out, b, u, v, limit);
-    }
-    let above = put_path(out, b, w, v, limit - 1);
-    match above {
-        Path::Unknown => Path::Unknown,
-        Path::Known(at, depth) => {
-            let n = put_next(&mut out[at..], b, u, depth);
-            Path::Known(at + n, depth + 1)
+    match Outer::of(u.outer) {
+        Outer::Missing => None,
+        Outer::Nothing => {
+            let len = put_name(out, b, u);
+            Some(Path { len, objects: 1 })
+        }
+        Outer::Object(i) => {
+            let v = object_at(w, i);
+            if Outer::of(v.outer) == Outer::Nothing {
+                return put_two(out, b, u, v, limit);
+            }
+            let above = put_path(out, b, w, v, limit - 1)?;
+            let n = put_next(&mut out[above.len..], b, u, above.objects);
+            Some(Path {
+                len: above.len + n,
+                objects: above.objects + 1,
+            })
         }
     }
 }

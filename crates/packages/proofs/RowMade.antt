@@ -1,8 +1,9 @@
 -- A row as code makes it, from the places of the names of an export and of its outer. Assumes nothing.
-use mathlib.Core.Path.{◌≡◌, refl, sym, ◌∙◌}
+use Rattle.std.specs.Prelude.{Option as Maybe, Some, None}
+use mathlib.Core.Path.{◌≡◌, sym, ◌∙◌}
 use mathlib.Core.Bool.{Bool, true, false}
 use mathlib.Core.List.{List}
-use mathlib.Core.Option.{Option, none, some}
+use mathlib.Core.Option.{some}
 use Prim.Native.Nat.{ℕ, ◌<◌}
 use Rattle.batch.specs.Places.{place_at}
 use Rattle.batch.specs.declared.places.Place.{Place}
@@ -10,21 +11,21 @@ use Rattle.zen.specs.declared.tables.Export.{Export}
 use Rattle.meaning.specs.Scan.{outer_of}
 use Rattle.packages.specs.Package.{read_in, PackageIn}
 use Rattle.packages.specs.PackageLaws.{export-named}
-use Rattle.packages.specs.Row.{export_no, is_local, name_in, row_with, row_in}
+use Rattle.packages.specs.Row.{export_no, is_local, row_in, outer_start}
 use Rattle.packages.specs.RowLaws.{outer-some, outer-none}
 use Rattle.packages.specs.declared.package.Parts.{Parts}
+use Rattle.packages.specs.declared.rows.Candidate.{Candidate}
 use Rattle.packages.specs.declared.rows.Row.{Row}
 
-module _ (b : List ℕ) (p : Parts) (a : PackageIn b p) (i k : ℕ) (e : Export) (own : Place) (q : e ≡ export_no b i) (d : own ≡ place_at b p.names e.index)
-    (l : Bool) (g : l ≡ is_local p e.outer) where
+module _ (b : List ℕ) (p : Parts) (a : PackageIn b p) (i : ℕ) (k : Maybe Candidate) (e : Export) (own : Place) (q : e ≡ export_no b i)
+    (d : own ≡ place_at b p.names e.index) (l : Bool) (g : l ≡ is_local p e.outer) where
   pub alone : l ≡ false
-      → ◌≡◌ {A = Row} (record { kind = k; own = record { place = own; number = e.number }; nested = false; outer = record { place = own; number = e.number }; class = e.class })
-      (row_in b p k i)
+      → ◌≡◌ {A = Row} (record { kind = k; own = record { place = own; number = e.number }; outer = None; class = e.class }) (row_in b p k i)
   unfolding row_in
   alone z = rw (← q, outer-none a e (sym g ∙ z), d)
 
   pub nested : (u : Export) (above : Place) → l ≡ true → u ≡ export_no b e.outer → above ≡ place_at b p.names u.index
-      → ◌≡◌ {A = Row} (record { kind = k; own = record { place = own; number = e.number }; nested = true; outer = record { place = above; number = u.number }; class = e.class })
+      → ◌≡◌ {A = Row} (record { kind = k; own = record { place = own; number = e.number }; outer = Some (record { place = above; number = u.number }); class = e.class })
       (row_in b p k i)
   unfolding row_in
   nested u above z m n = rw (← q, (outer-some a e (sym g ∙ z)).1, ← m, d, n)
@@ -36,19 +37,15 @@ pub named : (b : List ℕ) (p : Parts) → PackageIn b p → (i : ℕ) (e : Expo
 named b p a i e q h = rw q (export-named a i h)
 
 -- where the names of a row start
-own_with : (b : List ℕ) (p : Parts) (k : ℕ) (e : Export) (o : Option Export) → (row_with b p k e o).own ≡ name_in b p e
-own_with b p k e none = refl
-own_with b p k e (some u) = refl
-
-pub own-start : (b : List ℕ) (p : Parts) (i k : ℕ) (e : Export) (own : ℕ) → e ≡ export_no b i → own ≡ (row_in b p k i).own.place.start
+pub own-start : (b : List ℕ) (p : Parts) (i : ℕ) (k : Maybe Candidate) (e : Export) (own : ℕ) → e ≡ export_no b i → own ≡ (row_in b p k i).own.place.start
     → own ≡ (place_at b p.names e.index).start
 unfolding row_in
-own-start b p i k e own q h = rw q (h ∙ rw (own_with b p k (export_no b i) (outer_of (read_in b) (export_no b i))))
+own-start b p i k e own q h = rw q h
 
-pub outer_start : (b : List ℕ) (p : Parts) → PackageIn b p → (i k : ℕ) (e : Export) (l : Bool) (u : Export) (outer : ℕ) → e ≡ export_no b i
-    → l ≡ is_local p e.outer → l ≡ true → u ≡ export_no b e.outer → outer ≡ (row_in b p k i).outer.place.start
+pub above-start : (b : List ℕ) (p : Parts) → PackageIn b p → (i : ℕ) (k : Maybe Candidate) (e : Export) (l : Bool) (u : Export) (outer : ℕ) → e ≡ export_no b i
+    → l ≡ is_local p e.outer → l ≡ true → u ≡ export_no b e.outer → outer ≡ outer_start (row_in b p k i)
     → outer ≡ (place_at b p.names u.index).start
 unfolding row_in
-outer_start b p a i k e l u outer q g z m h =
+above-start b p a i k e l u outer q g z m h =
     let w : outer_of (read_in b) (export_no b i) ≡ some u = rw (← q, m) (outer-some a e (sym g ∙ z)).1 in
     h ∙ rw w

@@ -1,10 +1,9 @@
 -- A class's path from the places of its names (document 01: "its path is package name, `.`, [outer rendered, `:`,] rendered"). Assumes nothing.
-use Rattle.std.specs.Prelude.{◌≡◌, Bool, List, [], ◌++◌, ℕ, ◌<◌, get_or}
+use Rattle.std.specs.Prelude.{◌≡◌, Bool, List, [], ◌++◌, ℕ, ◌<◌, get_or, Option as Maybe, Some, None}
 use Rattle.std.proofs.Math.Path.{refl}
 use Rattle.std.proofs.Common.{sym, append_assoc, append-nil}
 use Rattle.std.proofs.Math.Bool.{true, false}
 use Rattle.text.specs.Affix.{all_ascii}
-use Rattle.base.specs.Choose.{pick}
 use Rattle.base.specs.Literal.{quoted}
 use Rattle.base.specs.NumberLaws.{Bytes}
 use Rattle.text.specs.Utf8.{utf8}
@@ -18,13 +17,15 @@ use Rattle.packages.specs.Row.{export_no, is_local, name_in, home_in, row_in, ba
 use Rattle.packages.specs.RowLaws.{outer-some, outer-none}
 use Rattle.packages.specs.declared.names.Name.{Name}
 use Rattle.packages.specs.declared.package.Parts.{Parts}
+use Rattle.packages.specs.declared.rows.Candidate.{Candidate}
 use Rattle.packages.specs.declared.rows.Row.{Row}
 
+abbrev path_with : List ℕ → Name → Name → Maybe Name → List ℕ
+path_with b home own (Some u) = (utf8 (whole_at b home) ++ (quoted "." ++ utf8 (whole_at b u))) ++ (quoted ":" ++ utf8 (whole_at b own))
+path_with b home own None = utf8 (whole_at b home) ++ (quoted "." ++ utf8 (whole_at b own))
+
 unfoldable pub path_bytes : List ℕ → Name → Row → List ℕ
-path_bytes b home w =
-    pick w.nested
-    ((utf8 (whole_at b home) ++ (quoted "." ++ utf8 (whole_at b w.outer))) ++ (quoted ":" ++ utf8 (whole_at b w.own)))
-    (utf8 (whole_at b home) ++ (quoted "." ++ utf8 (whole_at b w.own)))
+path_bytes b home w = path_with b home w.own w.outer
 
 -- ---- the package's name
 
@@ -52,7 +53,7 @@ module _ {b : List ℕ} {p : Parts} (a : PackageIn b p) (y : Bytes b) (i : ℕ) 
   own_is : whole_at b (name_in b p (export_no b i)) ≡ export_name (read_in b) (export_no b i)
   own_is = rw (name-holds a y (export_no b i).index (export-named a i l)).text
 
-  pub path-is : (k : ℕ) → path_bytes b home (row_in b p k i) ≡ utf8 (class_path (read_in b) (export_no b i))
+  pub path-is : (k : Maybe Candidate) → path_bytes b home (row_in b p k i) ≡ utf8 (class_path (read_in b) (export_no b i))
   unfolding path_bytes row_in class_path
   path-is k = go (is_local p (export_no b i).outer) refl
     where

@@ -1,6 +1,6 @@
 -- The framing by position: where the packages of a corpus are (document 01: "per package an 8-byte id, a 4-byte length and bytes"), and the
 -- code's answer as a function of what the framing gives. Assumes nothing.
-use Rattle.std.specs.Prelude.{Bool, cond, ◌&&◌, List, [], ◌∷◌, ℕ, zero, suc, ◌+◌, leb, length, take, drop}
+use Rattle.std.specs.Prelude.{Bool, cond, ◌&&◌, List, [], ◌∷◌, ℕ, zero, suc, ◌+◌, leb, length, take, drop, Result, Ok, Err}
 use Rattle.base.specs.House.{be_number}
 use Rattle.base.specs.Number.{be_at}
 use Rattle.base.specs.Reading.{Out, refused, gives, walk, ◌>>=◌}
@@ -8,8 +8,6 @@ use Rattle.base.specs.ReadingLaws.{out}
 use Rattle.meaning.specs.Frame.{Part, Corpus, frame_answer}
 use Rattle.meaning.specs.BytesLaws.{sized}
 use Rattle.packages.specs.declared.frame.Frame.{Frame}
-use Rattle.packages.specs.declared.frame.Framed.{Framed}
-use Rattle.packages.specs.declared.frame.Framed.TheVariants.{Whole, Broken}
 
 -- the package at a place, and where the next one starts
 unfoldable pub part_at : List ℕ → ℕ → Part
@@ -39,10 +37,10 @@ packages_end s at (suc n) = cond (inside s at) (packages_end s (next_at s at) n)
 unfoldable pub frame_of : Corpus → Frame
 frame_of c = record { «end» = 9 + length c.script; count = length c.parts }
 
-unfoldable pub framed_as : Out Corpus → Framed
-framed_as (refused q) = Broken q
-framed_as (gives c) = Whole (frame_of c)
+unfoldable pub framed_as : Out Corpus → Result Frame ℕ
+framed_as (refused q) = Err q
+framed_as (gives c) = Ok (frame_of c)
 
 -- the same behind the version
-unfoldable pub parts_answer : List ℕ → Framed
+unfoldable pub parts_answer : List ℕ → Result Frame ℕ
 parts_answer s = framed_as (frame_answer (out (walk (be_number 4 >>= sized) s 5)))

@@ -1,5 +1,5 @@
 -- Laws of the framing by position. Assumes nothing.
-use Rattle.std.specs.Prelude.{◌≡◌, Bool, ◌&&◌, List, ◌∷◌, eqb, take, drop, get_or}
+use Rattle.std.specs.Prelude.{◌≡◌, Bool, ◌&&◌, List, ◌∷◌, eqb, take, drop, get_or, Ok, Err}
 use Rattle.std.proofs.Math.Path.{refl, sym, ap}
 use Rattle.std.proofs.Common.{◌∙◌}
 use Rattle.std.proofs.Math.Bool.{true, false, cond}
@@ -22,7 +22,6 @@ use Rattle.meaning.specs.Frame.{Corpus, corpus_version, part, packages, frame, f
 use Rattle.meaning.specs.BytesLaws.{ended, sized, begun, frame_is}
 use Rattle.packages.specs.Framing.{part_at, next_at, parts_at, inside, package_end, packages_end, frame_of, framed_as, parts_answer}
 use Rattle.packages.specs.declared.frame.Frame.{Frame}
-use Rattle.packages.specs.declared.frame.Framed.TheVariants.{Whole, Broken}
 
 both : (a b : Bool) → a && b ≡ true → (a ≡ true) × (b ≡ true)
 both true b e = (refl, e)
@@ -192,15 +191,15 @@ module _ (s : List ℕ) where
       last_one false = refl
 
   -- what the code's tests say
-  pub parts-short : length s < 9 → Broken 1 ≡ parts_answer s
+  pub parts-short : length s < 9 → Err 1 ≡ parts_answer s
   unfolding parts_answer framed_as
   parts-short h = rw (rest-is, lt-leb 9 (length s) h)
 
-  pub parts-script : 9 ≤ length s → length s < 9 + size → Broken 1 ≡ parts_answer s
+  pub parts-script : 9 ≤ length s → length s < 9 + size → Err 1 ≡ parts_answer s
   unfolding parts_answer framed_as
   parts-script h g = rw (rest-is, le-leb 9 (length s) h, lt-leb (9 + size) (length s) g)
 
-  pub parts-count : 9 ≤ length s → 9 + size ≤ length s → length s < 9 + size + 4 → Broken 1 ≡ parts_answer s
+  pub parts-count : 9 ≤ length s → 9 + size ≤ length s → length s < 9 + size + 4 → Err 1 ≡ parts_answer s
   unfolding parts_answer framed_as
   parts-count h g k = rw (rest-is, le-leb 9 (length s) h, le-leb (9 + size) (length s) g, lt-leb (9 + size + 4) (length s) k)
 
@@ -212,19 +211,19 @@ module _ (s : List ℕ) where
     parts_are =
         rw (rest-is, le-leb 9 (length s) (omega arith), le-leb (9 + size) (length s) (omega arith), le-leb (9 + size + 4) (length s) h)
 
-    pub parts_whole : last ≡ length s → Whole (record { «end» = 9 + size; count = count }) ≡ parts_answer s
+    pub parts_whole : last ≡ length s → Ok (record { «end» = 9 + size; count = count }) ≡ parts_answer s
     unfolding framed_as frame_of
     parts_whole e =
         let n : length script ≡ size = length-take-le size (drop 9 s) (simp length-drop (omega arith)) in
         sym (parts_are ∙ rw (le-leb 1 last (omega arith), eq-eqb (length s - last) 0 (omega arith), n, parts-length s count (9 + size + 4)))
 
-    pub parts-broken : ¬ (last ≡ length s) → Broken 1 ≡ parts_answer s
+    pub parts-broken : ¬ (last ≡ length s) → Err 1 ≡ parts_answer s
     unfolding framed_as
     parts-broken ne = sym (parts_are ∙ go (ℕ_discrete last 0))
       where
         go : Dec (last ≡ 0)
             → framed_as (frame_answer (out (pick (leb 1 last)
-            (pick (eqb (length s - last) 0) (got (record { script = script; parts = parts_at s (9 + size + 4) count }) last) (bad 1)) (bad 3)))) ≡ Broken 1
+            (pick (eqb (length s - last) 0) (got (record { script = script; parts = parts_at s (9 + size + 4) count }) last) (bad 1)) (bad 3)))) ≡ Err 1
         go (yes z) = rw (lt-leb 1 last (omega arith))
         go (no z) =
             let b : last ≤ length s = end_bound s count (9 + size + 4) h in
@@ -262,15 +261,15 @@ module _ (s : List ℕ) where
   none zero = refl
   none (suc n) = rw (ne_eqb (suc n) 0 (λ e. omega arith))
 
-  pub frame-short : length s < 5 → Broken 1 ≡ framed_as (framed s)
+  pub frame-short : length s < 5 → Err 1 ≡ framed_as (framed s)
   unfolding framed_as
   frame-short h = sym (ap framed_as begin_is ∙ go (ℕ_discrete (length s) 4))
     where
-      go : Dec (length s ≡ 4) → framed_as (answer asked) ≡ Broken 1
+      go : Dec (length s ≡ 4) → framed_as (answer asked) ≡ Err 1
       go (yes e) = let z : length s - 4 ≡ 0 = omega arith in rw (le-leb 4 (length s) (omega arith), z, none (be_at 4 s 0))
       go (no e) = rw (lt-leb 4 (length s) (omega arith))
 
-  pub frame-wrong : 5 ≤ length s → ¬ (length s - 4 ≡ be_at 4 s 0) → Broken 1 ≡ framed_as (framed s)
+  pub frame-wrong : 5 ≤ length s → ¬ (length s - 4 ≡ be_at 4 s 0) → Err 1 ≡ framed_as (framed s)
   unfolding framed_as
   frame-wrong h ne = sym (ap framed_as begin_is ∙ rw (le-leb 4 (length s) (omega arith), ne_eqb (be_at 4 s 0) (length s - 4) (λ e. ne (sym e))))
 
@@ -280,7 +279,7 @@ module _ (s : List ℕ) where
         begin_is
         ∙ rw (le-leb 4 (length s) (omega arith), eq-eqb (be_at 4 s 0) (length s - 4) (sym e), le-leb 1 (be_at 4 s 0) (omega arith), le-leb 5 (length s) h)
 
-    pub frame-version : ¬ (get_or s 4 0 ≡ 1) → Broken 2 ≡ framed_as (framed s)
+    pub frame-version : ¬ (get_or s 4 0 ≡ 1) → Err 2 ≡ framed_as (framed s)
     unfolding framed_as
     frame-version ne = sym (ap framed_as version-is ∙ rw (be_at-one s 4, ne_eqb (get_or s 4 0) corpus_version ne))
 
@@ -333,11 +332,11 @@ module _ (s : List ℕ) where
       }
 
   -- THE WAY OUT of the code's answer
-  pub framed_at : {f : Frame} → framed_as (framed s) ≡ Whole f → (c : Corpus) × FramedAt s f c
+  pub framed_at : {f : Frame} → framed_as (framed s) ≡ Ok f → (c : Corpus) × FramedAt s f c
   unfolding framed_as frame_of
   framed_at {f} e = go (framed s) refl e
     where
-      go : (o : Out Corpus) → framed s ≡ o → framed_as o ≡ Whole f → (c : Corpus) × FramedAt s f c
+      go : (o : Out Corpus) → framed s ≡ o → framed_as o ≡ Ok f → (c : Corpus) × FramedAt s f c
       go (refused q) p e = never (cc)
       go (gives c) p e =
           let r = read_by c p in

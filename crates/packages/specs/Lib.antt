@@ -2,6 +2,7 @@
 
 -- ==== Definitions
 pub mod Framing
+pub mod Kinds
 pub mod Package
 pub mod Meaning
 pub mod RefBytes

@@ -4,7 +4,7 @@ use Rattle.base.specs.Index.{kind, import_name, import_hash}
 use Rattle.meaning.specs.Key.{Key, public}
 use Rattle.meaning.specs.Reference.{Ref, script, import, export, null, bad}
 use Rattle.packages.specs.declared.package.Parts.{Parts}
-use Rattle.packages.specs.declared.package.Words.{Words}
+use Rattle.packages.specs.declared.entries.Words.{Words}
 
 -- "class kinds 0 to 7: script found, script unresolved, import found, import unresolved, export found, export unresolved, null, bad":
 -- the kind that a reference has where it is found

@@ -1,5 +1,5 @@
 -- What holds of an accepted package by its parts: where each thing stands in the block, and that it is what was read. Assumes nothing.
-use Rattle.std.specs.Prelude.{◌≡◌, List, [], ℕ, ◌+◌, ◌*◌, ◌≤◌, ◌<◌, length, take, get_or}
+use Rattle.std.specs.Prelude.{◌≡◌, List, [], ℕ, ◌+◌, ◌*◌, ◌≤◌, ◌<◌, length, take, get_or, Ok}
 use Rattle.std.proofs.Math.Path.{sym}
 use Rattle.std.proofs.Common.{◌∙◌, ap, arith, length-take-le}
 use Rattle.base.specs.Number.{le_at}
@@ -19,7 +19,6 @@ use Rattle.zen.specs.PackageFacts.{PackageFacts}
 use Rattle.zen.proofs.PackageFacts.{read-facts}
 use Rattle.zen.specs.Zen.{Read, package_block, no_export, export_at, summary_at}
 use Rattle.zen.specs.declared.zen.Layout.{Layout}
-use Rattle.zen.specs.declared.zen.Package.TheVariants.{Accepted}
 use Rattle.packages.specs.Package.{read_in, parts_of, parts_at, PackageIn}
 use Rattle.packages.specs.Whole.{le-whole, low30-whole, export-whole, held_whole, place-whole}
 use Rattle.packages.specs.declared.package.Parts.{Parts}
@@ -29,7 +28,7 @@ pub read_in_lem : (b : List ℕ) (r : Read) → run_block package_block b ≡ gi
 unfolding read_in
 read_in_lem b r e = rw e
 
-pub accepted-by : (b : List ℕ) (r : Read) → run_block package_block b ≡ gives r → answer (run_block package_block b) ≡ Accepted r.layout
+pub accepted-by : (b : List ℕ) (r : Read) → run_block package_block b ≡ gives r → answer (run_block package_block b) ≡ Ok r.layout
 unfolding answer
 accepted-by b r e = rw e
 
@@ -39,7 +38,7 @@ unfolding parts_at parts_of
 parts_same b l r f = rw (f.exports, f.hashes, f.layout)
 
 -- THE WAY IN: what the check and `parts_of` answer
-pub package_in_lem : (b : List ℕ) (l : Layout) (p : Parts) → answer (run_block package_block b) ≡ Accepted l → p ≡ parts_at l → PackageIn b p
+pub package_in_lem : (b : List ℕ) (l : Layout) (p : Parts) → answer (run_block package_block b) ≡ Ok l → p ≡ parts_at l → PackageIn b p
 package_in_lem b l p acc e =
     let (r, q, s) = accepted-got (run_block package_block b) acc in
     let z : read_in b ≡ r = read_in_lem b r q in

@@ -1,10 +1,10 @@
 -- Laws of candidates and their rows. Assumes nothing.
-use Rattle.std.specs.Prelude.{◌≡◌, Bool, cond, ◌&&◌, List, [], ◌∷◌, ◌++◌, ℕ, zero, suc, ◌+◌, ◌*◌, ◌-◌, ◌≤◌, ◌<◌, ltb, take, drop}
+use Rattle.std.specs.Prelude.{◌≡◌, Bool, cond, ◌&&◌, List, [], ◌∷◌, ◌++◌, ℕ, zero, suc, ◌+◌, ◌*◌, ◌-◌, ◌≤◌, ◌<◌, ltb, take, drop, Option as Maybe, Some, None}
 use Rattle.std.proofs.Math.Path.{refl}
 use Rattle.std.proofs.Common.{sym, ◌∙◌, ap, arith, length-append, length-take, length-drop, length-take-le, take-take}
 use Rattle.std.proofs.Math.Bool.{true, false}
 use Rattle.std.proofs.Math.Option.{none, some}
-use borrow.Author.Tests.{ltb-true, ltb-false, eqb-true, eq-eqb, ne_eqb}
+use borrow.Author.Tests.{ltb-true, ltb-false}
 use Rattle.std.proofs.Math.Dec.{eqb}
 use Rattle.std.proofs.Math.ListN.{length}
 use Rattle.text.specs.Affix.{starts_with, ends_with, all_ascii}
@@ -25,11 +25,15 @@ use Rattle.batch.specs.declared.places.Place.{Place}
 use Rattle.zen.specs.Zen.{Read, no_export, base_of, export_name}
 use Rattle.zen.specs.declared.tables.Export.{Export}
 use Rattle.meaning.specs.Scan.{outer_of, outer_name, candidate_kind, instance_name, gen_variable, default_start}
+use Rattle.packages.specs.Kinds.{candidate_number, is_variable, variable-is}
 use Rattle.packages.specs.Package.{read_in, PackageIn}
 use Rattle.packages.specs.PackageLaws.{export_count_lem, export-named, name-holds}
 use Rattle.packages.specs.MeaningLaws.{get-there, get_none}
 use Rattle.packages.specs.Row.{export_no, is_local, row_with, row_in, base_at, whole_at, instance_base, instance_at, shorter, instance_place, names_at, RowHolds}
 use Rattle.packages.specs.declared.package.Parts.{Parts}
+use Rattle.packages.specs.declared.names.Name.{Name}
+use Rattle.packages.specs.declared.rows.Candidate.{Candidate}
+use Rattle.packages.specs.declared.rows.Candidate.TheVariants.{Variable, Subobject}
 use Rattle.packages.specs.declared.rows.Row.{Row}
 
 -- ---- the outer
@@ -125,32 +129,41 @@ module _ {b : List ℕ} {p : Parts} (a : PackageIn b p) (y : Bytes b) (i : ℕ) 
   own-holds = name-holds a y e.index (export-named a i h)
 
   -- in a package a row of any kind holds its names, where one of kind 1 has its ending
-  pub kind-holds : (k : ℕ) → (k ≡ 1 → ends_with (base_of (read_in b) e) gen_variable ≡ true) → RowHolds b (row_in b p k i)
+  pub kind-holds : (k : Maybe Candidate) → (k ≡ Some Variable → ends_with (base_of (read_in b) e) gen_variable ≡ true) → RowHolds b (row_in b p k i)
   unfolding row_in
   kind-holds k has = go (is_local p e.outer) refl
     where
-      ends : k ≡ 1 → ends_with (text_at b (place_at b p.names e.index)) gen_variable ≡ true
+      ends : k ≡ Some Variable → ends_with (text_at b (place_at b p.names e.index)) gen_variable ≡ true
       ends z = rw own-holds.text (has z)
+
+      above : {n m : Name} → Holds b n.place (base_at b n) → ◌≡◌ {A = Maybe Name} (Some n) (Some m) → Holds b m.place (base_at b m)
+      above {n} {m} d q = let z : n ≡ m = cc in rw z at d
+
+      no_outer : {m : Name} → ◌≡◌ {A = Maybe Name} None (Some m) → Holds b m.place (base_at b m)
+      no_outer q = never (cc)
 
       go : (l : Bool) → is_local p e.outer ≡ l → RowHolds b (row_with b p k e (outer_of (read_in b) e))
       go true q =
           let (g, u) = outer-some a e q in
-          rw u (record { own = holds-own own-holds; outer = holds-own (name-holds a y (export_no b e.outer).index (export-named a e.outer g)); ends = ends })
-      go false q = rw (outer-none a e q) (record { own = holds-own own-holds; outer = holds-own own-holds; ends = ends })
+          rw u (record { own = holds-own own-holds; outer = λ n z. above (holds-own (name-holds a y (export_no b e.outer).index (export-named a e.outer g))) z; ends = ends })
+      go false q = rw (outer-none a e q) (record { own = holds-own own-holds; outer = λ n z. no_outer z; ends = ends })
 
   -- so does a candidate's, and that of an export which is no candidate
-  pub row-holds : RowHolds b (row_in b p (candidate_kind (read_in b) e) i)
-  row-holds = kind-holds (candidate_kind (read_in b) e) (candidate-ends (read_in b) e)
+  pub row-holds : (k : Maybe Candidate) → candidate_number k ≡ candidate_kind (read_in b) e → RowHolds b (row_in b p k i)
+  row-holds k c = kind-holds k (λ z. candidate-ends (read_in b) e (sym c ∙ ap candidate_number z))
 
-  pub class-holds : RowHolds b (row_in b p 0 i)
-  class-holds = kind-holds 0 (λ z. absurd (omega arith))
+  pub class-holds : RowHolds b (row_in b p None i)
+  class-holds = kind-holds None (λ z. never (cc))
 
   -- and they are those of the row that document 01 has
-  pub row-names : names_at b (row_in b p (candidate_kind (read_in b) e) i)
+  pub row-names : (k : Maybe Candidate) → candidate_number k ≡ candidate_kind (read_in b) e → names_at b (row_in b p k i)
       ≡ (text_bytes (instance_name (read_in b) e) ++ text_bytes (export_name (read_in b) e)) ++ text_bytes (outer_name (read_in b) e)
   unfolding names_at row_in instance_name
-  row-names = go (is_local p e.outer) refl
+  row-names k c = go (is_local p e.outer) refl
     where
+      is_kind : is_variable k ≡ eqb (candidate_kind (read_in b) e) 1
+      is_kind = variable-is k ∙ ap (λ (n : ℕ). eqb n 1) c
+
       r : Read
       r = read_in b
 
@@ -160,13 +173,13 @@ module _ {b : List ℕ} {p : Parts} (a : PackageIn b p) (y : Bytes b) (i : ℕ) 
       instance-is true f q = rw q
       instance-is false f q = rw q
 
-      first : text_bytes (cond (eqb (candidate_kind r e) 1) (take (length (text_at b (place_at b p.names e.index)) - length gen_variable) (text_at b (place_at b p.names e.index))) (text_at b (place_at b p.names e.index)) ++ suffix e.number)
+      first : text_bytes (cond (is_variable k) (take (length (text_at b (place_at b p.names e.index)) - length gen_variable) (text_at b (place_at b p.names e.index))) (text_at b (place_at b p.names e.index)) ++ suffix e.number)
           ++ text_bytes (text_at b (place_at b p.names e.index) ++ suffix e.number)
           ≡ text_bytes (cond (eqb (candidate_kind r e) 1) (take (length (base_of r e) - length gen_variable) (base_of r e) ++ suffix e.number) (export_name r e))
           ++ text_bytes (export_name r e)
-      first = rw (instance-is (eqb (candidate_kind r e) 1) (text_at b (place_at b p.names e.index)) own-holds.text, own-holds.text)
+      first = rw (is_kind, instance-is (eqb (candidate_kind r e) 1) (text_at b (place_at b p.names e.index)) own-holds.text, own-holds.text)
 
-      go : (l : Bool) → is_local p e.outer ≡ l → names_at b (row_with b p (candidate_kind r e) e (outer_of r e))
+      go : (l : Bool) → is_local p e.outer ≡ l → names_at b (row_with b p k e (outer_of r e))
           ≡ (text_bytes (instance_name r e) ++ text_bytes (export_name r e)) ++ text_bytes (outer_name r e)
       go true q =
           let (g, u) = outer-some a e q in
@@ -181,26 +194,37 @@ cut-size t f g s e a =
     rw (e, utf8_append (f ++ g) s, utf8_append f g, utf8_append f s, utf8-ascii g a, length-append (utf8 f ++ g) (utf8 s), length-append (utf8 f) g, length-append (utf8 f) (utf8 s))
     (omega arith)
 
+-- whether a candidate is of kind 1
+pub variable-some : (k : Maybe Candidate) → is_variable k ≡ true → k ≡ Some Variable
+variable-some None q = never (cc)
+variable-some (Some Variable) q = refl
+variable-some (Some Subobject) q = never (cc)
+
+variable-other : (k : Maybe Candidate) → (k ≡ Some Variable → ⊥) → is_variable k ≡ false
+variable-other None n = refl
+variable-other (Some Variable) n = absurd (n refl)
+variable-other (Some Subobject) n = refl
+
 module _ {b : List ℕ} {w : Row} (d : RowHolds b w) where
   -- kind 1: the suffix's 13 bytes less
-  pub instance-size : w.kind ≡ 1 → length (utf8 (instance_at b w)) + 13 ≡ length (utf8 (whole_at b w.own))
+  pub instance-size : w.kind ≡ Some Variable → length (utf8 (instance_at b w)) + 13 ≡ length (utf8 (whole_at b w.own))
   instance-size k =
       let t = base_at b w.own in
-      rw (eq-eqb w.kind 1 k)
+      rw (ap is_variable k)
       (cut-size t (take (length t - length gen_variable) t) gen_variable (suffix w.own.number) (ends-true t gen_variable (d.ends k)) refl)
 
-  pub instance-whole : (w.kind ≡ 1 → ⊥) → instance_at b w ≡ whole_at b w.own
-  instance-whole k = rw (ne_eqb w.kind 1 k)
+  pub instance-whole : (w.kind ≡ Some Variable → ⊥) → instance_at b w ≡ whole_at b w.own
+  instance-whole k = rw (variable-other w.kind k)
 
-  pub instance-room : w.kind ≡ 1 → unit_size w.own.place.wide * 13 ≤ w.own.place.size
+  pub instance-room : w.kind ≡ Some Variable → unit_size w.own.place.wide * 13 ≤ w.own.place.size
   instance-room k = shorter-room b w.own.place d.own (d.ends k)
 
   -- the instance's place holds its base
   pub instance-holds : Bytes b → Holds b (instance_place w) (instance_base b w)
   unfolding instance_place
-  instance-holds y = go (eqb w.kind 1) refl
+  instance-holds y = go (is_variable w.kind) refl
     where
-      go : (t : Bool) → eqb w.kind 1 ≡ t
+      go : (t : Bool) → is_variable w.kind ≡ t
           → Holds b (cond t (shorter w.own.place) w.own.place) (cond t (take (length (base_at b w.own) - length gen_variable) (base_at b w.own)) (base_at b w.own))
-      go true e = shorter-holds b w.own.place d.own (d.ends (eqb-true w.kind 1 e)) y
+      go true e = shorter-holds b w.own.place d.own (d.ends (variable-some w.kind e)) y
       go false e = d.own

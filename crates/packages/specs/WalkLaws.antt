@@ -1,5 +1,5 @@
 -- Laws for walking over the packages of a framed corpus: that they lie inside, and what reading them one by one comes to. Assumes nothing.
-use Rattle.std.specs.Prelude.{◌≡◌, length, take, drop}
+use Rattle.std.specs.Prelude.{◌≡◌, length, take, drop, Ok}
 use Rattle.std.proofs.Math.Path.{refl, sym, ap}
 use Rattle.std.proofs.Common.{◌∙◌, add-one, length-take-le}
 use mathlib.Core.List.{List, [], ◌∷◌, ◌++◌}
@@ -15,7 +15,6 @@ use Rattle.zen.specs.Answers.{answer}
 use Rattle.zen.specs.AnswersLaws.{accepted-got}
 use Rattle.zen.specs.Zen.{Read, package_block}
 use Rattle.zen.specs.declared.zen.Layout.{Layout}
-use Rattle.zen.specs.declared.zen.Package.TheVariants.{Accepted}
 use Rattle.meaning.specs.Call.{refused_in, accepted, read_from}
 use Rattle.meaning.specs.Frame.{framed}
 use Rattle.meaning.specs.Reference.{Package}
@@ -25,7 +24,6 @@ use Rattle.packages.specs.Package.{read_in, parts_of, parts_at as layoutParts, P
 use Rattle.packages.specs.PackageLaws.{read_in_lem, accepted-by, package_in_lem}
 use Rattle.packages.specs.Walk.{block_at, package_at, Site, place_of, packages_at, Sites, AllRead}
 use Rattle.packages.specs.declared.frame.Frame.{Frame}
-use Rattle.packages.specs.declared.frame.Framed.TheVariants.{Whole}
 
 -- ---- places and packages by number
 
@@ -122,7 +120,7 @@ pub record ScriptSite (s : List ℕ) (f : Frame) : Type 0 where
   pub bytes : Bytes (take (f.«end» - 9) (drop 9 s))
   pub few : f.«end» + 4 + 12 * f.count ≤ length s
 
-module _ (s : List ℕ) {f : Frame} (e : framed_as (framed s) ≡ Whole f) where
+module _ (s : List ℕ) {f : Frame} (e : framed_as (framed s) ≡ Ok f) where
   -- where the packages end
   pub places_whole : place_of s (f.«end» + 4) f.count ≡ length s
   places_whole = let (c, k) = framed_at s e in places_end s f.count (f.«end» + 4) (omega (arith, k.whole, k.high)) ∙ k.whole
@@ -178,7 +176,7 @@ module _ {s : List ℕ} {at : ℕ} where
       go i h (yes e) = rw e last
       go i h (no e) = a.read i (omega arith)
 
-  pub all-accepted : {n : ℕ} → AllRead s at n → (l : Layout) → answer (run_block package_block (block_at s (place_of s at n))) ≡ Accepted l → AllRead s at (n + 1)
+  pub all-accepted : {n : ℕ} → AllRead s at n → (l : Layout) → answer (run_block package_block (block_at s (place_of s at n))) ≡ Ok l → AllRead s at (n + 1)
   all-accepted {n} a l q = let (r, z, w) = accepted-got (run_block package_block (block_at s (place_of s at n))) q in all_more a r z
 
   -- an accepted package as a site: what the functions of this crate ask of it
@@ -187,13 +185,13 @@ module _ {s : List ℕ} {at : ℕ} where
     site_package = record { is = a.read i h; parts = refl }
 
     -- what `layout_of` asks
-    pub site-layout : (l : Layout) × (answer (run_block package_block (block_at s (place_of s at i))) ≡ Accepted l)
+    pub site-layout : (l : Layout) × (answer (run_block package_block (block_at s (place_of s at i))) ≡ Ok l)
     site-layout =
         let b = block_at s (place_of s at i) in
         ((read_in b).layout, accepted-by b (read_in b) (a.read i h))
 
 -- what `parts_of(layout_of(b))` gives
-pub layout_package : (b : List ℕ) (l : Layout) → answer (run_block package_block b) ≡ Accepted l → PackageIn b (layoutParts l)
+pub layout_package : (b : List ℕ) (l : Layout) → answer (run_block package_block b) ≡ Ok l → PackageIn b (layoutParts l)
 layout_package b l q = package_in_lem b l (layoutParts l) q refl
 
 module _ (s : List ℕ) where

@@ -1,71 +1,64 @@
 // A package and its exports from where their names start: what is kept of a name, so that it isn't looked for again.
-ghost use Rattle.std.specs.Prelude.{◌≡◌, ◌<◌};
+ghost use Rattle.std.specs.Prelude.{◌≡◌, ◌<◌, None};
 ghost use Rattle.batch.specs.Places.{place_at};
-ghost use Rattle.packages.specs.Package.{PackageIn};
-ghost use Rattle.packages.specs.Row.{home_in, row_in};
+ghost use Rattle.packages.specs.Row.{home_in, row_in, outer_start};
 
+use super::block::Block;
 use super::names::Name;
-use super::package::{Parts, export_at};
-use super::rows::{Row, is_local};
+use super::rows::Row;
 use batch::names::read_head;
 use batch::places::Place;
 use batch::reader::u30_le;
 
-// Where name i is, whose start is known.
-pub fn place_from(b: &[u8], p: Parts, i: usize, start: usize) -> Place
-    requires { PackageIn b.now p × (i < p.names.count) × (start ≡ (place_at b.now p.names i).start) }
-    ensures { result ≡ place_at b.now p.names i }
-{
-    let d = read_head(b, p.names.headers + 2 * i);
-    Place {
-        start,
-        size: d.size,
-        wide: d.wide,
+impl<'a> Block<'a> {
+    // Where name i is, whose start is known.
+    pub fn place_from(&self, i: usize, start: usize) -> Place
+        requires { (i < self.now.parts.names.count) × (start ≡ (place_at self.now.bytes.now self.now.parts.names i).start) }
+        ensures { result ≡ place_at self.now.bytes.now self.now.parts.names i }
+    {
+        Place::at(
+            start,
+            read_head(self.bytes, self.parts.names.headers + 2 * i),
+        )
     }
-}
 
-// Export i as a row of kind 0, from where its name and its outer's start.
-pub fn row_from(b: &[u8], p: Parts, i: usize, own: usize, outer: usize) -> Row
-    requires { PackageIn b.now p × (i < p.count) × (own ≡ (row_in b.now p 0 i).own.place.start) × (outer ≡ (row_in b.now p 0 i).outer.place.start) }
-    ensures { result ≡ row_in b.now p 0 i }
-{
-    let e = export_at(b, p, i);
-    let place = place_from(b, p, e.index, own);
-    let name = Name {
-        place,
-        number: e.number,
-    };
-    if is_local(p, e.outer) {
-        let u = export_at(b, p, e.outer as usize);
-        let above = place_from(b, p, u.index, outer);
-        return Row {
-            kind: 0,
-            own: name,
-            nested: true,
-            outer: Name {
-                place: above,
-                number: u.number,
-            },
-            class: e.class,
+    // Export i as a row of no kind, from where its name and its outer's start; without an outer, its own start stands for that.
+    pub fn row_from(&self, i: usize, own: usize, outer: usize) -> Row
+        requires { (i < self.now.parts.count) × (own ≡ (row_in self.now.bytes.now self.now.parts None i).own.place.start)
+            × (outer ≡ outer_start (row_in self.now.bytes.now self.now.parts None i)) }
+        ensures { result ≡ row_in self.now.bytes.now self.now.parts None i }
+    {
+        let e = self.export(i);
+        let name = Name {
+            place: self.place_from(e.index, own),
+            number: e.number,
         };
+        let above = if self.parts.is_local(e.outer) {
+            let u = self.export(e.outer as usize);
+            Some(Name {
+                place: self.place_from(u.index, outer),
+                number: u.number,
+            })
+        } else {
+            None
+        };
+        Row {
+            kind: None,
+            own: name,
+            outer: above,
+            class: e.class,
+        }
     }
-    Row {
-        kind: 0,
-        own: name,
-        nested: false,
-        outer: name,
-        class: e.class,
-    }
-}
 
-// The package's name, from where it starts.
-pub fn home_from(b: &[u8], p: Parts, start: usize) -> Name
-    requires { PackageIn b.now p × (start ≡ (home_in b.now p).place.start) }
-    ensures { result ≡ home_in b.now p }
-{
-    let place = place_from(b, p, u30_le(b, 8), start);
-    Name {
-        place,
-        number: base::number::le32(b, 12),
+    // The package's name, from where it starts.
+    pub fn home_from(&self, start: usize) -> Name
+        requires { start ≡ (home_in self.now.bytes.now self.now.parts).place.start }
+        ensures { result ≡ home_in self.now.bytes.now self.now.parts }
+    {
+        let place = self.place_from(u30_le(self.bytes, 8), start);
+        Name {
+            place,
+            number: base::number::le32(self.bytes, 12),
+        }
     }
 }

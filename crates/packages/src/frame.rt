@@ -1,23 +1,20 @@
 // The corpus around its blocks (questions 1 and 2).
 ghost use Rattle.std.specs.Prelude.{◌≡◌, ◌+◌, ◌≤◌, ◌<◌, length};
 ghost use Rattle.base.specs.Number.{be_at};
+ghost use Rattle.base.specs.OneMore.{nonzero};
+ghost use Rattle.base.specs.Refusal.{numbered};
 ghost use Rattle.meaning.specs.Frame.{framed};
 ghost use Rattle.packages.specs.Framing.{package_end, packages_end, next_at, parts_answer, framed_as};
 ghost use Rattle.packages.specs.Walk.{block_at};
 
 use base::number::{be32, be64};
+use base::refusal::Refusal;
 
 // Where the script block ends, which starts at 9; the package count stands there, the first package behind it.
 #[derive(Clone, Copy)]
 pub struct Frame {
     pub end: usize,
     pub count: usize,
-}
-
-#[derive(Clone, Copy)]
-pub enum Framed {
-    Whole(Frame),
-    Broken(u8),
 }
 
 fn size_at(c: &[u8], at: usize) -> usize
@@ -27,76 +24,71 @@ fn size_at(c: &[u8], at: usize) -> usize
     be32(c, at) as usize
 }
 
-// Where the package at a place ends, or 0 where it doesn't lie inside.
-fn package_end(c: &[u8], at: usize) -> usize
+// Where the package at a place ends, if it lies inside.
+fn package_end(c: &[u8], at: usize) -> Option<usize>
     requires { at ≤ length c.now }
-    ensures { result ≡ package_end c.now at }
+    ensures { result ≡ nonzero (package_end c.now at) }
 {
     let left = c.len() - at;
     if left < 12 {
-        return 0;
+        return None;
     }
     let size = size_at(c, at + 8);
     if left - 12 < size {
-        return 0;
+        return None;
     }
-    at + 12 + size
+    Some(at + 12 + size)
 }
 
-// Where so many packages from a place on end, or 0.
-fn packages_end(c: &[u8], from: usize, count: usize) -> usize
+// Where so many packages from a place on end, if they lie inside.
+fn packages_end(c: &[u8], from: usize, count: usize) -> Option<usize>
     requires { (0 < from) × (from ≤ length c.now) }
-    ensures { result ≡ packages_end c.now from count }
+    ensures { result ≡ nonzero (packages_end c.now from count) }
 {
     let mut at = from;
-    let mut left = count;
-    while 0 < left {
-        at = package_end(c, at);
-        if at == 0 {
-            return 0;
-        }
-        left = left - 1;
+    for _ in 0..count {
+        at = package_end(c, at)?;
     }
-    at
+    Some(at)
 }
 
 // Behind the version: the script block and the packages.
-fn parts(c: &[u8]) -> Framed
+fn parts(c: &[u8]) -> Result<Frame, Refusal>
     requires { 5 ≤ length c.now }
-    ensures { result ≡ parts_answer c.now }
+    ensures { numbered result ≡ parts_answer c.now }
 {
     let n = c.len();
     if n < 9 {
-        return Framed::Broken(1);
+        return Err(Refusal::Framing);
     }
     let size = size_at(c, 5);
     if n - 9 < size {
-        return Framed::Broken(1);
+        return Err(Refusal::Framing);
     }
     let end = 9 + size;
     if n - end < 4 {
-        return Framed::Broken(1);
+        return Err(Refusal::Framing);
     }
     let count = size_at(c, end);
-    if packages_end(c, end + 4, count) == n {
-        return Framed::Whole(Frame { end, count });
+    if packages_end(c, end + 4, count) == Some(n) {
+        return Ok(Frame { end, count });
     }
-    Framed::Broken(1)
+    Err(Refusal::Framing)
 }
 
 // Questions 1, 2, 1.
-pub fn read_frame(c: &[u8]) -> Framed
-    ensures { result ≡ framed_as (framed c.now) }
+pub fn read_frame(c: &[u8]) -> Result<Frame, Refusal>
+    ensures { numbered result ≡ framed_as (framed c.now) }
 {
     let n = c.len();
     if n < 5 {
-        return Framed::Broken(1);
+        return Err(Refusal::Framing);
     }
     if n - 4 != size_at(c, 0) {
-        return Framed::Broken(1);
+        return Err(Refusal::Framing);
     }
     if c[4] != 1 {
-        return Framed::Broken(2);
+        return Err(Refusal::Version);
     }
     parts(c)
 }

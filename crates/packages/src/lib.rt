@@ -3,7 +3,9 @@
 #![tactic(auto)]
 
 pub mod frame; // the corpus around its blocks
-pub mod package; // an accepted package by its parts
+pub mod package; // where the parts of an accepted package are, and what an index means by them
+pub mod block; // an accepted package: its block, its parts, notes of its names
+pub mod entries; // what it holds, by number
 pub mod names; // names behind a text
 pub mod reference; // the text of a reference
 pub mod rows; // candidates, and the names of their rows

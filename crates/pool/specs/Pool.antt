@@ -1,8 +1,8 @@
 -- The texts of script objects, kept once between the classes and the rows of a resolved work buffer: 64 bytes are there for each row, and a row takes
 -- 32 of them. Row numbers stand first, by which an object that came before is found again, then texts, each with its length in front. A row keeps
 -- where the text of its object stands (20), and its size (24), 0 where it isn't kept; its mark (28) stays. Assumes nothing.
-use Rattle.std.specs.Prelude.{◌≡◌, Bool, ◌&&◌, List, ℕ, ◌+◌, ◌*◌, ◌-◌, ◌^◌, ◌≤◌, ◌<◌, eqb, length, take}
-use Rattle.std.proofs.Math.Option.{Option, some}
+use Rattle.std.specs.Prelude.{◌≡◌, List, ℕ, ◌+◌, ◌*◌, ◌-◌, ◌^◌, ◌≤◌, ◌<◌, length, take, Option, Some, None, IfSome}
+use Rattle.std.proofs.Math.Option.{Option as Maybe, some}
 use Rattle.text.specs.Name.{text_bytes}
 use Rattle.scriptblock.specs.Script.{Objects}
 use Rattle.meaning.specs.Path.{Path}
@@ -24,7 +24,7 @@ pub record Stood (b w : List ℕ) (u : Object) : Type 0 where
   pub stands : Stands b objects w number u
 
 -- the path is known, and these bytes are its text
-pub record TextOf (x : Option Path) (bytes : List ℕ) : Type 0 where
+pub record TextOf (x : Maybe Path) (bytes : List ℕ) : Type 0 where
   pub path : Path
   pub known : x ≡ some path
   pub is : bytes ≡ text_bytes path.text
@@ -57,26 +57,31 @@ pub record State (b : List ℕ) (n objects gap rows lo hi k : ℕ) (w w' : List 
   pub left : Left gap rows w w'
   pub done : Done b n objects lo hi k w'
 
--- the same columns
-abbrev pub same_columns : Object → Object → Bool
-same_columns u v = eqb u.start v.start && eqb u.outer v.outer && eqb u.size v.size && eqb u.number v.number
+-- row k is before row r and leads to the object u
+pub record Earlier (w : List ℕ) (r : ℕ) (u : Object) (k : ℕ) : Type 0 where
+  pub small : k < r
+  pub same : (led_at w (row_at w k)).object ≡ u
 
--- row k is before row r and leads to the object u, or k is r
-pub record Before (w : List ℕ) (r : ℕ) (u : Object) (k : ℕ) : Type 0 where
-  pub small : k ≤ r
-  pub same : k < r → (led_at w (row_at w k)).object ≡ u
+-- the row that was found, if any
+abbrev pub Before : List ℕ → ℕ → Object → Option ℕ → Type 0
+Before w r u found = IfSome found (Earlier w r u)
 
 -- the row at a place keeps a text
 unfoldable pub noted : ℕ → ℕ → ℕ → List ℕ → List ℕ
 noted at text size w = stored 4 (stored 4 w (at + 20) text) (at + 24) size
 
--- the text of the object u was put at `free`, before the rows, with so many bytes; with none nothing was
-pub record TextPut (b : List ℕ) (n objects rows free : ℕ) (u : Object) (w w' : List ℕ) (size : ℕ) : Type 0 where
+-- the text of the object u was put at `free`, before the rows, with so many bytes
+pub record Put (b : List ℕ) (n objects rows free : ℕ) (u : Object) (w w' : List ℕ) (size : ℕ) : Type 0 where
   pub kept : Kept free (free + size) w w'
   pub within : free + size ≤ length w - 32 * rows
-  pub small : (size ≡ 0 → ⊥) → free < 2 ^ 32
+  pub small : free < 2 ^ 32
   pub few : size ≤ 256
-  pub is : (size ≡ 0 → ⊥) → (o : Objects) (i : ℕ) → Stands b o (take (48 * n) w) i u → TextOf (path_no objects o i) (mid free size w')
+  pub is : (o : Objects) (i : ℕ) → Stands b o (take (48 * n) w) i u → TextOf (path_no objects o i) (mid free size w')
+
+-- it was, or nothing is changed
+abbrev pub TextPut : List ℕ → ℕ → ℕ → ℕ → ℕ → Object → List ℕ → List ℕ → Option ℕ → Type 0
+TextPut b n objects rows free u w w' None = w' ≡ w
+TextPut b n objects rows free u w w' (Some size) = Put b n objects rows free u w w' size
 
 -- where the gap is, and that there is room for the rows behind it
 pub record Gap (n gap slots rows r free : ℕ) (w : List ℕ) : Type 0 where

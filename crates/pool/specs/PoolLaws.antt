@@ -1,7 +1,6 @@
 -- Laws of the texts that rows keep: what a change leaves of them, one row more, and all rows. Assumes nothing.
-use Rattle.std.specs.Prelude.{◌≡◌, refl, true, ◌⊎◌, List, ℕ, zero, suc, ◌+◌, ◌-◌, ◌*◌, ◌^◌, ◌≤◌, ◌<◌, length, take, drop, get_or}
-use Rattle.std.proofs.Common.{sym, ◌∙◌, ap, subst, inl, inr, ⊎_elim, add-zero, arith, eqb-true, length-drop}
-use Rattle.std.proofs.Math.Bool.{and-eq-true_iff}
+use Rattle.std.specs.Prelude.{◌≡◌, refl, ◌⊎◌, List, ℕ, zero, suc, ◌+◌, ◌-◌, ◌*◌, ◌^◌, ◌≤◌, ◌<◌, length, take, drop, get_or}
+use Rattle.std.proofs.Common.{sym, ◌∙◌, ap, subst, inl, inr, ⊎_elim, add-zero, arith, length-drop}
 use Rattle.std.proofs.Math.Logic.{by_cases}
 use Rattle.std.proofs.Math.Decide.{dec_lt, ℕ_discrete}
 use Rattle.base.specs.Number.{le_at}
@@ -24,7 +23,7 @@ use Rattle.resolve.specs.ResolvingLaws.{kept-drop}
 use Rattle.resolve.specs.Rows.{row_at, led_at, columns_of, object_number, Tables, TargetIn, Resolved}
 use Rattle.resolve.specs.RowsLaws.{object-inside}
 use Rattle.resolve.specs.declared.rows.Led.{Led}
-use Rattle.pool.specs.Pool.{Stood, TextAt, TextIn, Left, Done, State, same_columns, Before, noted, TextPut, RowStood, Pooled}
+use Rattle.pool.specs.Pool.{Stood, TextAt, TextIn, Left, Done, State, Earlier, noted, Put, RowStood, Pooled}
 
 -- ---- what a change leaves
 
@@ -153,6 +152,12 @@ module _ {b : List ℕ} {n objects gap rows lo hi r : ℕ} {v w w' : List ℕ} {
     };
   }
 
+-- it keeps none
+pub state_empty : {b : List ℕ} {n objects gap rows lo hi r : ℕ} {v w w' : List ℕ} → State b n objects gap rows lo hi r v w
+    → w' ≡ noted (row_at w r) 0 0 w → 48 * n ≤ gap → gap ≤ hi → hi + 32 * rows ≤ length w → r < rows → State b n objects gap rows lo hi (r + 1) v w'
+state_empty t is front start room inside =
+    state-next t is front start room inside (λ ne. absurd (ne refl)) (omega arith) (λ ne. absurd (ne refl))
+
 -- ---- all rows
 
 pub state-none : (b : List ℕ) (n objects gap rows lo : ℕ) (w : List ℕ) → State b n objects gap rows lo lo 0 w w
@@ -243,28 +248,15 @@ pooled_none objects t e = record { resolved = t; texts = record { texts = λ r h
 
 -- ---- an object that came before
 
-abbrev columns : ℕ → ℕ → ℕ → ℕ → Object
-columns outer start size number = record { outer = outer; start = start; size = size; number = number }
-
-pub columns-same : (u v : Object) → same_columns u v ≡ true → u ≡ v
-columns-same u v e =
-    let (a, n) = (and-eq-true_iff _ _).0 e in
-    let (b, z) = (and-eq-true_iff _ _).0 a in
-    let (s, o) = (and-eq-true_iff _ _).0 b in
-    ap (λ (x : ℕ). columns x u.start u.size u.number) (eqb-true u.outer v.outer o)
-    ∙ ap (λ (x : ℕ). columns v.outer x u.size u.number) (eqb-true u.start v.start s)
-    ∙ ap (λ (x : ℕ). columns v.outer v.start x u.number) (eqb-true u.size v.size z)
-    ∙ ap (columns v.outer v.start v.size) (eqb-true u.number v.number n)
-
 -- its text is this row's
 pub shared : {b : List ℕ} {n objects gap rows lo hi r : ℕ} {v w : List ℕ} → State b n objects gap rows lo hi r v w → {u : Object} {m : Led} {k : ℕ}
-    → u ≡ (led_at w (row_at w r)).object → m ≡ led_at w (row_at w k) → Before w r u k → k < r → (m.size ≡ 0 → ⊥)
+    → u ≡ (led_at w (row_at w r)).object → m ≡ led_at w (row_at w k) → Earlier w r u k → (m.size ≡ 0 → ⊥)
     → TextAt b n objects lo hi w (led_at w (row_at w r)).object m.text m.size
-shared {b} {n} {objects} {gap} {rows} {lo} {hi} {r} {v} {w} t {u} {m} {k} p q e h ne =
-    let x : (led_at w (row_at w k)).object ≡ (led_at w (row_at w r)).object = e.same h ∙ p in
+shared {b} {n} {objects} {gap} {rows} {lo} {hi} {r} {v} {w} t {u} {m} {k} p q e ne =
+    let x : (led_at w (row_at w k)).object ≡ (led_at w (row_at w r)).object = e.same ∙ p in
     subst (λ (y : Object). TextAt b n objects lo hi w y m.text m.size) x
     (subst (λ (y : Led). TextAt b n objects lo hi w (led_at w (row_at w k)).object y.text y.size) (sym q)
-    ((t.done.texts k h).kept (λ z. ne (ap (λ (y : Led). y.size) q ∙ z))))
+    ((t.done.texts k e.small).kept (λ z. ne (ap (λ (y : Led). y.size) q ∙ z))))
 
 -- ---- marks stay
 
@@ -311,13 +303,20 @@ pub stood_still : {b : List ℕ} {u : Object} (n : ℕ) (w : List ℕ) {w₁ : L
     → Stood b (take (48 * n) w₁) u
 stood_still n w {w₁} {x} {y} k h s = rw (kept_wider k (48 * n) y h (omega arith)).before s
 
+-- and nothing of rows and texts is changed
+pub slot_set : {b : List ℕ} {n objects gap rows lo free r : ℕ} {v w w₁ : List ℕ} {slot : ℕ} → Kept slot (slot + 4) w w₁
+    → State b n objects gap rows lo free r v w → 48 * n ≤ gap → gap ≤ slot → slot + 4 ≤ lo → lo ≤ free → free + 32 * rows ≤ length w → r < rows
+    → State b n objects gap rows lo free r v w₁
+slot_set one t front low high start room inside =
+    state-kept t one front low (omega arith) (λ i h. inr (omega arith)) (λ i h. inr (omega arith)) (λ i h. inr (omega arith)) (inr high)
+
 -- then the text was put, and the row keeps it
 module _ {b : List ℕ} {n objects gap rows lo free r : ℕ} {v w w₁ w₂ w₃ : List ℕ} {slot size : ℕ} {u : Object} (one : Kept slot (slot + 4) w w₁)
-    (t : State b n objects gap rows lo free r v w) (two : TextPut b n objects rows free u w₁ w₂ size) (three : w₃ ≡ noted (row_at w₂ r) free size w₂)
+    (t : State b n objects gap rows lo free r v w) (two : Put b n objects rows free u w₁ w₂ size) (three : w₃ ≡ noted (row_at w₂ r) free size w₂)
     (at-u : u ≡ (led_at w (row_at w r)).object) (some : u.outer ≡ 0 → ⊥) (front : 48 * n ≤ gap) (low : gap ≤ slot) (high : slot + 4 ≤ lo) (start : lo ≤ free)
     (room : free + 32 * rows ≤ length w) (inside : r < rows) where
   first_step_lem : State b n objects gap rows lo free r v w₁
-  first_step_lem = state-kept t one front low (omega arith) (λ i h. inr (omega arith)) (λ i h. inr (omega arith)) (λ i h. inr (omega arith)) (inr high)
+  first_step_lem = slot_set one t front low high start room inside
 
   second-step : State b n objects gap rows lo (free + size) r v w₂
   second-step =
@@ -338,15 +337,15 @@ module _ {b : List ℕ} {n objects gap rows lo free r : ℕ} {v w w₁ w₂ w₃
       ∙ object-same w w₁ (row_at w r) (kept-part one (row_at w r) 20 (inr (omega arith)))
       ∙ sym at-u)
 
-  own-text : (size ≡ 0 → ⊥) → TextAt b n objects lo (free + size) w₂ (led_at w₂ (row_at w₂ r)).object free size
-  own-text ne =
+  own-text : TextAt b n objects lo (free + size) w₂ (led_at w₂ (row_at w₂ r)).object free size
+  own-text =
       let f : take (48 * n) w₂ ≡ take (48 * n) w₁ = (kept_wider two.kept (48 * n) (free + size) (omega arith) (omega arith)).before in
       subst (λ (y : Object). TextAt b n objects lo (free + size) w₂ y free size) (sym object_still)
-      (record { there = some; after = start; before = omega arith; is = λ o i st. two.is ne o i (rw f at st) })
+      (record { there = some; after = start; before = omega arith; is = λ o i st. two.is o i (rw f at st) })
 
   pub state-added : State b n objects gap rows lo (free + size) (r + 1) v w₃
   state-added =
       let s = one.size in
       let y = two.within in
       let z = two.kept.size in
-      state-next second-step three front (omega arith) (omega arith) inside two.small (omega (arith, two.few)) own-text
+      state-next second-step three front (omega arith) (omega arith) inside (λ ne. two.small) (omega (arith, two.few)) (λ ne. own-text)

@@ -5,7 +5,7 @@ ghost use Rattle.meaning.specs.Reference.{Ref};
 ghost use Rattle.meaning.specs.Scan.{Class};
 ghost use Rattle.resolve.specs.Marks.{MarksKept};
 ghost use Rattle.resolve.specs.Rows.{row_at, led_at, Resolved};
-ghost use Rattle.pool.specs.Pool.{Stood, Left, State, same_columns, Before, noted, TextPut, Gap, RowStood, Roomy, Pooled};
+ghost use Rattle.pool.specs.Pool.{Stood, Left, State, Before, noted, TextPut, Gap, RowStood, Roomy, Pooled};
 
 use super::compose::compose;
 use objects::object::Object;
@@ -14,26 +14,30 @@ use table::entries::clear;
 use table::words::{get32, set32};
 use text::plain::put_plain;
 
-// Whether two objects have the same columns.
-fn is_same(u: Object, v: Object) -> bool
-    ensures { result ≡ same_columns u v }
-{
-    (u.start == v.start) & (u.outer == v.outer) & (u.size == v.size) & (u.number == v.number)
+// What stays as it is while the rows are gone through: the script block, how many script objects it has and how many objects a path may have; where the
+// gap between classes and rows starts, how many slots stand there, each with a row's number, and how many rows come.
+#[derive(Clone, Copy)]
+struct Pooling<'a> {
+    block: &'a [u8],
+    n: usize,
+    objects: usize,
+    gap: usize,
+    slots: usize,
+    rows: usize,
+    ghost few: { objects ≤ 65 },
 }
 
-// The row before row r that the slot names, if it leads to the object u, else r. A slot that was not set yet names row 0, which is looked at as any other.
-fn before(w: &[u8], slot: usize, r: usize, u: Object) -> usize
+// The row before row r that the slot names, if it leads to the object u. A slot that was not set yet names row 0, which is looked at as any other.
+fn before(w: &[u8], slot: usize, r: usize, u: Object) -> Option<usize>
     requires { (slot + 4 ≤ length w.now) × (32 * (r + 1) ≤ length w.now) }
     ensures { Before w.now r u result }
 {
     let k = get32(w, slot);
-    if r <= k {
-        return r;
+    if k < r && object_in(w, k) == u {
+        Some(k)
+    } else {
+        None
     }
-    if is_same(object_in(w, k), u) {
-        return k;
-    }
-    r
 }
 
 // Row r keeps a text.
@@ -46,77 +50,54 @@ fn keep(w: &mut [u8], r: usize, text: usize, size: usize)
     set32(w, at + 24, size);
 }
 
-// The text of the object u from a place on, where it is short and stands before the rows: how many bytes, or 0.
-fn put_text(
-    s: &[u8],
-    w: &mut [u8],
-    n: usize,
-    rows: usize,
-    free: usize,
-    u: Object,
-    objects: usize,
-) -> usize
-    requires { Stood s.now (take (48 * n) w.old) u × (objects ≤ 65) × (48 * n ≤ free) × (free + 32 * rows ≤ length w.old) }
-    ensures { TextPut s.now n objects rows free u w.old w.new result }
+// The text of the object u from a place on, where it is short and stands before the rows: how many bytes. Else nothing is written.
+fn put_text(p: &Pooling, w: &mut [u8], free: usize, u: Object) -> Option<usize>
+    requires { Stood p.now.block.now (take (48 * p.now.n) w.old) u × (48 * p.now.n ≤ free) × (free + 32 * p.now.rows ≤ length w.old) }
+    ensures { TextPut p.now.block.now p.now.n p.now.objects p.now.rows free u w.old w.new result }
 {
-    let size = 48 * n;
-    let end = w.len() - 32 * rows;
+    let room = w.len() - 32 * p.rows - free;
     let mut text = [0u8; 256];
-    let k = compose(&mut text, s, &w[..size], u, objects);
-    if end - free < k {
-        return 0;
-    }
-    if 4294967295 < free {
-        return 0;
+    let k = compose(&mut text, p.block, &w[..48 * p.n], u, p.objects)?;
+    if room < k || free > u32::MAX as usize {
+        return None;
     }
     put_plain(&mut w[free..], &text[..k]);
-    k
+    Some(k)
 }
 
-// Row r: up to where texts then stand. Slots, each with a row's number, stand from `gap` on, and texts up to `free`.
-fn pool_row(
-    s: &[u8],
-    w: &mut [u8],
-    n: usize,
-    gap: usize,
-    slots: usize,
-    rows: usize,
-    r: usize,
-    free: usize,
-    objects: usize,
-) -> usize
-    requires { Gap n gap slots rows r free w.old × RowStood s.now n r w.old × (objects ≤ 65) }
-    ensures within { (free ≤ result) × (result + 32 * rows ≤ length w.old) }
-    ensures is { (v : List ℕ) → State s.now n objects gap rows (gap + 4 * slots) free r v w.old
-        → State s.now n objects gap rows (gap + 4 * slots) result (r + 1) v w.new }
+// Row r: up to where texts then stand, which stood up to `free`.
+fn pool_row(p: &Pooling, w: &mut [u8], r: usize, free: usize) -> usize
+    requires { Gap p.now.n p.now.gap p.now.slots p.now.rows r free w.old × RowStood p.now.block.now p.now.n r w.old }
+    ensures within { (free ≤ result) × (result + 32 * p.now.rows ≤ length w.old) }
+    ensures is { (v : List ℕ) → State p.now.block.now p.now.n p.now.objects p.now.gap p.now.rows (p.now.gap + 4 * p.now.slots) free r v w.old
+        → State p.now.block.now p.now.n p.now.objects p.now.gap p.now.rows (p.now.gap + 4 * p.now.slots) result (r + 1) v w.new }
 {
     let u = object_in(w, r);
     if u.outer == 0 {
         keep(w, r, 0, 0);
         return free;
     }
-    let slot = gap + 4 * (u.start % slots);
-    let k = before(w, slot, r, u);
-    if k < r {
+    let slot = p.gap + 4 * (u.start % p.slots);
+    if let Some(k) = before(w, slot, r, u) {
         let t = led_at(w, k);
         keep(w, r, t.text, t.size);
         return free;
     }
     set32(w, slot, r);
-    let size = put_text(s, w, n, rows, free, u, objects);
+    let Some(size) = put_text(p, w, free, u) else {
+        keep(w, r, 0, 0);
+        return free;
+    };
     keep(w, r, free, size);
     free + size
 }
 
 // How many slots there are: one for each row, but not more than twice as many as script objects, and one.
 fn slots_of(n: usize, rows: usize) -> usize
-    requires { 0 < rows }
-    ensures { (0 < result) × (result ≤ rows) }
+    requires { n < 2 ^ 62 }
+    ensures { (0 < rows → 0 < result) × (result ≤ rows) }
 {
-    if rows / 2 <= n {
-        return rows;
-    }
-    2 * n + 1
+    rows.min(2 * n + 1)
 }
 
 // Sets the slots to 0, since `before` also reads one that no row has set yet. Of a row its object is read, which resolving wrote, and where its text
@@ -125,30 +106,31 @@ fn clear_slots(w: &mut [u8], n: usize, classes: usize, rows: usize)
     requires { 64 * (n + classes + rows) ≤ length w.old }
     ensures { Left (64 * (n + classes)) rows w.old w.new }
 {
-    if rows == 0 {
-        return;
-    }
     let gap = 64 * (n + classes);
     clear(&mut w[gap..], slots_of(n, rows));
 }
 
 // The rows, one after the other, with slots that are set to 0 before.
+// Kept: (s, w, n, classes, rows, objects) come apart, as a caller has them: `pool_rows(p, w)` would ask `p.gap ≡ 64 * (p.n + classes)` for some `classes` too.
 fn pool_rows(s: &[u8], w: &mut [u8], n: usize, classes: usize, rows: usize, objects: usize)
     requires { Roomy s.now n classes rows w.old × (objects ≤ 65) }
     ensures is { (c : List ℕ) (o : Objects) (xs : List Class) (lookups : ℕ) (refs : List Ref) → Resolved c s.now o n xs lookups refs w.old
         → length xs ≡ classes → length refs ≡ rows → Pooled c s.now o n xs lookups objects refs w.new }
     ensures marks { MarksKept n rows w.old w.new }
 {
-    if rows == 0 {
-        return;
-    }
     let gap = 64 * (n + classes);
     let slots = slots_of(n, rows);
+    let p = Pooling {
+        block: s,
+        n,
+        objects,
+        gap,
+        slots,
+        rows,
+    };
     let mut free = gap + 4 * slots;
-    let mut r: usize = 0;
-    while r < rows {
-        free = pool_row(s, w, n, gap, slots, rows, r, free, objects);
-        r += 1;
+    for r in 0..rows {
+        free = pool_row(&p, w, r, free);
     }
 }
 

@@ -1,96 +1,40 @@
 // The list's cases replayed.
-ghost use Rattle.std.specs.Prelude.{◌≤◌, length, IfOk};
+ghost use Rattle.std.specs.Prelude.{◌≤◌, IfOk};
 
-use super::list::part_at;
+use super::list::{Case, split_case};
 use super::room;
-use base::number::{be32, be64};
-use check::same;
+use base::number::be32;
 use std::io;
 
 // Whether the call, with 64 lookups and 65 objects, answers so: the number, the report, and past it, or where it refuses, the buffer as it was.
-fn answers(
-    corpus: &[u8],
-    work: &mut [u8],
-    report: &mut [u8],
-    blank: &[u8],
-    answer: u64,
-    expected: &[u8],
-) -> bool {
-    if capi::class_report(corpus, 64, 65, work, report) != answer {
+fn answers(case: &Case, work: &mut [u8], report: &mut [u8]) -> bool {
+    if capi::class_report(case.corpus, 64, 65, work, report) != case.answer {
         return false;
     }
-    let n = expected.len();
+    let n = case.report.len();
     if report.len() < n {
         return false;
     }
-    if blank.len() < n {
-        return false;
-    }
-    if same(&report[..n], expected) {
-        return same(&report[n..], &blank[n..]);
-    }
-    false
+    report[..n] == case.report[..] && report[n..].iter().all(|b| *b == room::BLANK)
 }
 
-// The same with buffers of these lengths, if there is so much room. What an earlier case left in the work buffer stays there.
-fn answers_within(
-    corpus: &[u8],
-    work: &mut [u8],
-    w: u64,
-    r: u64,
-    answer: u64,
-    expected: &[u8],
-) -> bool {
-    if (work.len() as u64) < w {
+// The same with buffers of the case's lengths, if there is so much room. What an earlier case left in the work buffer stays there.
+fn answers_within(case: &Case, work: &mut [u8]) -> bool {
+    if (work.len() as u64) < case.work || (room::REPORT as u64) < case.room {
         return false;
     }
-    if 65536 < r {
-        return false;
-    }
-    let most = w as usize;
-    let length = r as usize;
-    let blank = room::report();
-    let mut report = room::report();
-    answers(
-        corpus,
-        &mut work[..most],
-        &mut report[..length],
-        &blank[..length],
-        answer,
-        expected,
-    )
+    let most = case.work as usize;
+    let length = case.room as usize;
+    let mut report = room::filled::<{ room::REPORT }>(room::BLANK);
+    answers(case, &mut work[..most], &mut report[..length])
 }
 
-// What is known of a case: where the next one starts, and whether the call answers as recorded.
-#[derive(Clone, Copy)]
-struct Step {
-    next: usize,
-    same: bool,
-}
-
-fn replay_at(list: &[u8], at: usize, work: &mut [u8]) -> Step {
-    let n = list.len();
-    let c = part_at(list, at);
-    let start = c.start;
-    let end = c.end;
-    if n - end < 24 {
-        return Step {
-            next: n,
-            same: false,
-        };
+// Whether the call answers as the first case of a list says, and the other cases. Where the list is cut short it doesn't, and there are none.
+fn replay_first<'a>(list: &'a [u8], work: &mut [u8]) -> (bool, &'a [u8]) {
+    match split_case(list) {
+        Some((case, rest)) => (answers_within(&case, work), rest),
+        None => (false, &list[list.len()..]),
     }
-    let r = part_at(list, end + 24);
-    let from = r.start;
-    let next = r.end;
-    let same = answers_within(
-        &list[start..end],
-        work,
-        be64(list, end),
-        be64(list, end + 8),
-        be64(list, end + 16),
-        &list[from..next],
-    );
-    Step { next, same }
 }
 
 // Says which case differs, and how many do: one or none.
@@ -113,18 +57,28 @@ pub struct Told {
 
 // Replays a list, with as much of the work buffer as each case wants.
 pub fn replay(rt: &HostRuntime, list: &[u8], work: &mut [u8]) -> io::Result<Told> {
-    let mut replayed: u64 = 0;
     let mut differ: u64 = 0;
     if list.len() < 4 {
-        return Ok(Told { replayed, differ });
+        return Ok(Told {
+            replayed: 0,
+            differ,
+        });
     }
-    let count = be32(list, 0) as u64;
-    let mut at: usize = 4;
-    while replayed < count && at < list.len() {
-        let step = replay_at(list, at, work);
-        differ += tell(rt, replayed, step.same)?;
-        replayed += 1;
-        at = step.next;
+    let count = u64::from(be32(list, 0));
+    let mut rest = &list[4..];
+    for case in 0..count {
+        if rest.is_empty() {
+            return Ok(Told {
+                replayed: case,
+                differ,
+            });
+        }
+        let (same, others) = replay_first(rest, work);
+        differ += tell(rt, case, same)?;
+        rest = others;
     }
-    Ok(Told { replayed, differ })
+    Ok(Told {
+        replayed: count,
+        differ,
+    })
 }

@@ -1,33 +1,38 @@
 // The recorded list taken apart: data/README.md has its layout.
-ghost use Rattle.std.specs.Prelude.{◌≤◌, length};
+use base::number::{be32, be64};
 
-use base::number::be32;
-
-// A part of the list: a corpus or a report. Where the list is cut short, nothing at its end.
+// A case: a corpus, the lengths of the work buffer and of the report buffer, the number that the call returns, and the report.
 #[derive(Clone, Copy)]
-pub struct Part {
-    pub start: usize,
-    pub end: usize,
+pub struct Case<'a> {
+    pub corpus: &'a [u8],
+    pub work: u64,
+    pub room: u64,
+    pub answer: u64,
+    pub report: &'a [u8],
 }
 
-// A 4-byte length and so many bytes.
-pub fn part_at(list: &[u8], at: usize) -> Part
-    ensures { (result.start ≤ result.end) × (result.end ≤ length list.now) }
-{
-    let n = list.len();
-    let none = Part { start: n, end: n };
-    if n < at {
-        return none;
+// A corpus or a report, which is a 4-byte length and so many bytes, and what stands behind it, unless the list is cut short.
+fn split_part<'a>(list: &'a [u8]) -> Option<(&'a [u8], &'a [u8])> {
+    if list.len() < 4 {
+        return None;
     }
-    if n - at < 4 {
-        return none;
+    let size = be32(list, 0) as usize;
+    list[4..].split_at_checked(size)
+}
+
+// The first case of a list and what stands behind it, unless the list is cut short.
+pub fn split_case<'a>(list: &'a [u8]) -> Option<(Case<'a>, &'a [u8])> {
+    let (corpus, numbers) = split_part(list)?;
+    if numbers.len() < 24 {
+        return None;
     }
-    let size = be32(list, at) as usize;
-    if n - at - 4 < size {
-        return none;
-    }
-    Part {
-        start: at + 4,
-        end: at + 4 + size,
-    }
+    let (report, rest) = split_part(&numbers[24..])?;
+    let case = Case {
+        corpus,
+        work: be64(numbers, 0),
+        room: be64(numbers, 8),
+        answer: be64(numbers, 16),
+        report,
+    };
+    Some((case, rest))
 }

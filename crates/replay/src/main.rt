@@ -16,7 +16,7 @@ mod cases; // replayed
 fn tell(rt: &HostRuntime, list: &[u8]) -> io::Result<()> {
     let sum = city::city::city_hash64(list);
     println!(rt; "list {sum:016x}")?;
-    let mut work = room::work();
+    let mut work = room::filled::<{ room::WORK }>(0);
     let t = cases::replay(rt, list, &mut work)?;
     let replayed = t.replayed;
     let differ = t.differ;
@@ -39,7 +39,7 @@ fn read_full(file: &mut File, room: &mut [u8]) -> io::Result<usize>
 }
 
 fn main(rt: HostRuntime) -> io::Result<()> {
-    let mut list = room::list();
+    let mut list = room::filled::<{ room::LIST }>(0);
     let mut file = File::open(&rt, "list.bin")?;
     let n = read_full(&mut file, &mut list)?;
     tell(&rt, &list[..n])

@@ -1,23 +1,19 @@
-// Room on the stack. The contracts give the lengths alone, which lending an array as a slice needs.
+// Room on the stack. The contract gives the length alone, which lending an array as a slice needs.
 ghost use Rattle.std.specs.Prelude.{◌≡◌, length};
 
-// For the list.
-pub fn list() -> [u8; 1048576]
-    ensures { 1048576 ≡ length result }
-{
-    [0; 1048576]
-}
+// How much there is for the list, for the work buffer of any case, and for the report of any case.
+pub const LIST: usize = 1048576;
 
-// For the work buffer of any case.
-pub fn work() -> [u8; 262144]
-    ensures { 262144 ≡ length result }
-{
-    [0; 262144]
-}
+pub const WORK: usize = 262144;
 
-// For the report of any case, of bytes that no text has.
-pub fn report() -> [u8; 65536]
-    ensures { 65536 ≡ length result }
+pub const REPORT: usize = 65536;
+
+// What the report buffer holds before the call: a byte that no text has.
+pub const BLANK: u8 = 255;
+
+// Room for N bytes.
+pub fn filled<const N: usize>(byte: u8) -> [u8; N]
+    ensures { N ≡ length result }
 {
-    [255; 65536]
+    [byte; N]
 }

@@ -1,6 +1,5 @@
 -- What the walk over the packages came to: refused, a key twice, too little work, or all is gathered. Assumes nothing.
 use mathlib.Core.Path.{◌≡◌}
-use mathlib.Core.Bool.{true, false}
 use mathlib.Core.List.{List}
 use Prim.Native.Nat.{ℕ, ◌+◌, ◌^◌, ◌<◌}
 use native.Mathlib.Omega.{arith}
@@ -20,6 +19,7 @@ use Rattle.walk.specs.Steps.{Marked}
 use Rattle.resolve.specs.Marks.{marks_in}
 use Rattle.resolve.specs.Rows.{limits_of}
 use Rattle.walk.specs.declared.walk.Census.{Census}
+use Rattle.walk.specs.declared.walk.Entering.TheVariants.{Open, Full, Repeated}
 
 -- a package is refused
 pub scanned_refused : {limit lookups : ℕ} {c : List ℕ} {f : Frame} {s : List ℕ} {n : ℕ} {w old : List ℕ} {q j r : ℕ} → Begun c f s → Linked s n w
@@ -42,18 +42,18 @@ module _ {limit : ℕ} {c : List ℕ} {f : Frame} {s : List ℕ} {n : ℕ} {t : 
 
   module _ {lookups : ℕ} {old : List ℕ} {r : ℕ} where
     -- a key stands twice
-    pub scanned_twice : (t.repeat ≡ 0 → ⊥) → r ≡ refusal 24 t.repeat → Answered (limits_of lookups limit) c (length w) old old r
-    scanned_twice h e =
-        answered-refused (refused-opened (opened-twice (limits_of lookups limit) c z.begun read z.packages (z.state.twice (omega arith)).1) e)
+    pub scanned_twice : (j : ℕ) → t.state ≡ Repeated j → r ≡ refusal 24 j → Answered (limits_of lookups limit) c (length w) old old r
+    scanned_twice j h e =
+        answered-refused (refused-opened (opened-twice (limits_of lookups limit) c z.begun read z.packages (z.state.twice j h)) e)
 
     -- there is no room for all
-    pub scanned_short : t.repeat ≡ 0 → t.open ≡ false
+    pub scanned_short : t.state ≡ Full
         → ((o : Objects) (lookups work room : ℕ) → run script 0 s ≡ gives o → work < work_needed limit o c f → Refused (limits_of lookups limit) c work room r)
         → Answered (limits_of lookups limit) c (length w) old old r
-    scanned_short h e g =
-        let short : length w < work_needed limit z.linked.objects c f = omega (arith, z.state.full e h, z.linked.count, z.size) in
+    scanned_short e g =
+        let short : length w < work_needed limit z.linked.objects c f = omega (arith, z.state.full e, z.linked.count, z.size) in
         answered-refused (g z.linked.objects lookups (length w) (length old) read short)
 
   -- all is gathered
-  pub scanned_all : t.open ≡ true → Gathered limit c f s n t w'
+  pub scanned_all : t.state ≡ Open → Gathered limit c f s n t w'
   scanned_all e = record { objects = z.linked.objects; read = read; count = z.linked.count; all = e; state = z.state; few = z.few; marked = z.marked }

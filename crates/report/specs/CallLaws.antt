@@ -1,5 +1,5 @@
 -- What the call answers once its corpus is opened, from what its steps find. Assumes nothing.
-use Rattle.std.specs.Prelude.{◌≡◌, List, ℕ, ◌+◌, ◌*◌, ◌≤◌, ◌<◌}
+use Rattle.std.specs.Prelude.{◌≡◌, List, ℕ, ◌+◌, ◌*◌, ◌≤◌, ◌<◌, Ok}
 use Rattle.std.proofs.Common.{◌∙◌}
 use Rattle.std.proofs.Math.Path.{ap}
 use native.Mathlib.Omega.{arith}
@@ -13,7 +13,6 @@ use Rattle.scriptblock.specs.ScriptAnswers.{opened as openedScript}
 use Rattle.scriptblock.specs.ScriptFacts.{ScriptFacts}
 use Rattle.scriptblock.proofs.ScriptFacts.{objects-facts}
 use Rattle.scriptblock.specs.declared.script.Layout.{Layout}
-use Rattle.scriptblock.specs.declared.script.Opened.TheVariants.{Open}
 use Rattle.meaning.specs.Bounds.{work-short, report-beyond, report-outside, report-fits}
 use Rattle.meaning.specs.Call.{refused_in, accepted, Placed, Opened, holding, opened, work_bytes, weighed, answer, number_of, buffer_after, outcome}
 use Rattle.meaning.specs.Reference.{Package}
@@ -30,7 +29,7 @@ use Rattle.resolve.specs.Rows.{limits_of}
 use Rattle.report.specs.CallSteps.{work_needed, Refused, Answered}
 
 -- less work than its objects need is less than all need
-pub work-few : (limit : ℕ) (c : List ℕ) (f : Frame) {s : List ℕ} {l k : Layout} {o : Objects} {work : ℕ} → openedScript s ≡ Open l → ScriptFacts s k o
+pub work-few : (limit : ℕ) (c : List ℕ) (f : Frame) {s : List ℕ} {l k : Layout} {o : Objects} {work : ℕ} → openedScript s ≡ Ok l → ScriptFacts s k o
     → work < 64 * l.count → work < work_needed limit o c f
 work-few limit c f {s} {l} {k} {o} q x h = let e : o.layout ≡ l = x.layout ∙ same_layout s q x.accepted in rw e (omega arith)
 

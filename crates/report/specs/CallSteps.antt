@@ -1,5 +1,5 @@
 -- What the steps of the call know of the corpus, and what they answer. Assumes nothing.
-use Rattle.std.specs.Prelude.{◌≡◌, true, List, ℕ, ◌+◌, ◌*◌, ◌^◌, ◌<◌, length}
+use Rattle.std.specs.Prelude.{◌≡◌, List, ℕ, ◌+◌, ◌*◌, ◌^◌, ◌<◌, length}
 use Rattle.base.specs.Answer.{refusal}
 use Rattle.base.specs.Reading.{gives, run}
 use Rattle.scriptblock.specs.Script.{Objects, script}
@@ -10,6 +10,7 @@ use Rattle.walk.specs.Found.{count_of, State}
 use Rattle.walk.specs.OpenSteps.{found_by}
 use Rattle.walk.specs.Steps.{Marked}
 use Rattle.walk.specs.declared.walk.Census.{Census}
+use Rattle.walk.specs.declared.walk.Entering.TheVariants.{Open}
 use Rattle.resolve.specs.Marks.{marks_in}
 
 -- "64 × (script objects + classes + candidates) bytes"
@@ -21,7 +22,7 @@ pub record Gathered (limit : ℕ) (c : List ℕ) (f : Frame) (s : List ℕ) (n :
   pub objects : Objects
   pub read : run script 0 s ≡ gives objects
   pub count : n ≡ objects.layout.count
-  pub all : t.open ≡ true
+  pub all : t.state ≡ Open
   pub state : State c s objects n (found_by limit objects c f) t w
   pub few : (t.rows < 2 ^ 32) × (t.size < 2 ^ 60)
   pub marked : Marked n (marks_in c (f.«end» + 4) f.count) t w

@@ -1,179 +1,188 @@
 // The call.
-ghost use Rattle.std.specs.Prelude.{◌≡◌, ℕ, ◌*◌, ◌≤◌, ◌<◌, length};
+ghost use Rattle.std.specs.Prelude.{◌≡◌, ℕ, ◌*◌, ◌≤◌, ◌<◌, length, Ok};
 ghost use Rattle.base.specs.Reading.{gives, run};
 ghost use Rattle.batch.specs.Notes.{note_count};
 ghost use Rattle.scriptblock.specs.Script.{Objects, script};
 ghost use Rattle.scriptblock.specs.ScriptAnswers.{opened};
 ghost use Rattle.scriptblock.specs.declared.script.Layout.{Layout};
-ghost use Rattle.scriptblock.specs.declared.script.Opened.TheVariants.{Open};
 ghost use Rattle.meaning.specs.Call.{outcome};
-ghost use Rattle.walk.specs.OpenSteps.{Begun, Packages};
-ghost use Rattle.report.specs.CallSteps.{work_needed, Gathered, Refused, Answered};
+ghost use Rattle.walk.specs.Answers.{answer_number};
+ghost use Rattle.walk.specs.OpenSteps.{Packages};
 ghost use Rattle.walk.specs.Found.{Linked};
 ghost use Rattle.resolve.specs.Rows.{limits_of};
-ghost use Rattle.scan.specs.Repeats.{NotedScript};
+ghost use Rattle.report.specs.CallSteps.{work_needed, Gathered, Refused as Refuses, Answered};
 
-use base::answer::refuse;
+use super::limits::Limits;
+use base::refusal::{Refusal, Refused};
 use batch::notes::{NOTES, note_names};
-use packages::frame::{Frame, Framed, read_frame};
 use pool::rows::pool_texts;
 use resolve::links::link_classes;
 use resolve::rows::resolve_all;
-use scan::check::{Blocks, check_packages};
+use scan::check::check_packages;
 use scan::repeats::repeat_block;
-use scriptblock::script::{Layout, Opened, Script, check_script, open_script};
+use scan::script::Script;
+use scriptblock::script::{Layout, check_script, open_script};
 use sections::section::put_report;
+use sections::source::Source;
+use walk::corpus::Corpus;
 use walk::script::enter_script;
-use walk::walk::{Census, Scanned, scan_packages};
+use walk::walk::{Census, Entering, scan_packages};
+
+// The longest report: 4 bytes of length, and as many bytes as they can say.
+const MOST: usize = 4294967299;
 
 // What is refused where the work buffer has no room for all: 24 if a class's key stands twice, else 25.
-fn refuse_short(c: &[u8], f: Frame, s: &[u8], l: Layout, notes: &[u32; NOTES], limit: usize) -> u64
-    requires { Begun c.now f s.now × Packages c.now f × NotedScript s.now l notes.now }
-    ensures { (o : Objects) (lookups work room : ℕ) → run script 0 s.now ≡ gives o → work < work_needed limit o c.now f
-        → Refused (limits_of lookups limit) c.now work room result }
+fn refuse_short(c: &Corpus, s: &Script, limit: usize) -> Result<usize, Refused>
+    requires { Packages c.now.bytes.now c.now.frame × (s.now.block.now ≡ c.now.script.now) }
+    ensures { (o : Objects) (lookups work room : ℕ) → run script 0 c.now.script.now ≡ gives o → work < work_needed limit o c.now.bytes.now c.now.frame
+        → Refuses (limits_of lookups limit) c.now.bytes.now work room (answer_number result) }
 {
-    let block = repeat_block(c, f.end + 4, f.count, s, l, notes, limit);
-    if block == 0 {
-        return refuse(25, 0);
+    if let Some(block) = repeat_block(c.bytes, c.packages(), c.frame.count, s, limit) {
+        return Err(Refused {
+            why: Refusal::RepeatedClass,
+            block,
+        });
     }
-    refuse(24, block)
+    Err(Refused {
+        why: Refusal::WorkRoom,
+        block: 0,
+    })
 }
 
 // What is refused where the work buffer has no room for the script objects, by looking at the corpus only.
-fn without_table(c: &[u8], f: Frame, s: &[u8], limit: usize) -> u64
-    requires { Begun c.now f s.now }
-    ensures { (l : Layout) (lookups work room : ℕ) → opened s.now ≡ Open l → work < 64 * l.count
-        → Refused (limits_of lookups limit) c.now work room result }
+fn without_table(c: &Corpus, limit: usize) -> Result<usize, Refused>
+    ensures { (l : Layout) (lookups work room : ℕ) → opened c.now.script.now ≡ Ok l → work < 64 * l.count
+        → Refuses (limits_of lookups limit) c.now.bytes.now work room (answer_number result) }
 {
-    match check_script(s) {
-        Script::Rejected(q) => refuse(q, 1),
-        Script::Accepted(l) => match check_packages(c, f.end + 4, f.count) {
-            Blocks::Refused(q, block) => refuse(q, block),
-            Blocks::Fine => {
-                let mut notes = [0u32; NOTES];
-                note_names(s, l.names, &mut notes);
-                refuse_short(c, f, s, l, &notes, limit)
-            }
-        },
-    }
+    let layout = check_script(c.script).map_err(|why| Refused { why, block: 1 })?;
+    check_packages(c.bytes, c.packages(), c.frame.count)?;
+    let mut notes = [0u32; NOTES];
+    note_names(c.script, layout.names, &mut notes);
+    let s = Script {
+        block: c.script,
+        layout,
+        notes: &notes,
+    };
+    refuse_short(c, &s, limit)
 }
 
 // 26 and the report, once the work buffer holds n script objects and all that the packages hold.
 fn finish(
-    c: &[u8],
-    f: Frame,
-    s: &[u8],
+    c: &Corpus,
     n: usize,
     t: Census,
     w: &mut [u8],
     report: &mut [u8],
-    lookups: usize,
-    objects: usize,
+    m: Limits,
     names: &mut [u32; NOTES],
     imported: &mut [u32; NOTES],
-) -> u64
-    requires begun { Begun c.now f s.now × Packages c.now f × Gathered objects c.now f s.now n t w.old × (objects ≤ 65) }
+) -> Result<usize, Refused>
+    requires begun { Packages c.now.bytes.now c.now.frame × Gathered m.objects c.now.bytes.now c.now.frame c.now.script.now n t w.old }
     requires names_len { (length names.old ≡ note_count) × (length imported.old ≡ note_count) }
-    ensures { Answered (limits_of lookups objects) c.now (length w.old) report.old report.new result }
+    ensures { Answered (limits_of m.lookups m.objects) c.now.bytes.now (length w.old) report.old report.new (answer_number result) }
 {
     link_classes(w, n, t.classes);
-    let size = t.size + resolve_all(w, n, t.rows, lookups, objects);
-    if 4294967299 < size {
-        return refuse(26, 0);
+    let size = t.size + resolve_all(w, n, t.rows, m.lookups, m.objects);
+    if MOST < size || report.len() < size {
+        return Err(Refused {
+            why: Refusal::ReportRoom,
+            block: 0,
+        });
     }
-    if report.len() < size {
-        return refuse(26, 0);
-    }
-    pool_texts(s, w, n, t.classes, t.rows, objects);
-    put_report(
+    pool_texts(c.script, w, n, t.classes, t.rows, m.objects);
+    let src = Source {
+        corpus: c.bytes,
+        script: c.script,
+        work: &*w,
+        objects: n,
+        limit: m.objects,
+    };
+    Ok(put_report(
         report,
-        c,
-        f.end + 4,
-        f.count,
-        s,
-        w,
-        n,
+        &src,
+        c.packages(),
+        c.frame.count,
         t.rows,
-        objects,
         names,
         imported,
-    ) as u64
+    ))
 }
 
 // The packages, 24, 25 and the rest; w has the linked script objects in front.
 fn with_objects(
-    c: &[u8],
-    f: Frame,
-    s: &[u8],
-    l: Layout,
-    notes: &[u32; NOTES],
+    c: &Corpus,
+    s: &Script,
     w: &mut [u8],
     report: &mut [u8],
-    lookups: usize,
-    objects: usize,
-) -> u64
-    requires { Begun c.now f s.now × NotedScript s.now l notes.now × Linked s.now l.count w.old × (objects ≤ 65) }
-    ensures { Answered (limits_of lookups objects) c.now (length w.old) report.old report.new result }
+    m: Limits,
+) -> Result<usize, Refused>
+    requires { (s.now.block.now ≡ c.now.script.now) × Linked c.now.script.now s.now.layout.count w.old }
+    ensures { Answered (limits_of m.lookups m.objects) c.now.bytes.now (length w.old) report.old report.new (answer_number result) }
 {
     let mut names = [0u32; NOTES];
     let mut imported = [0u32; NOTES];
-    match scan_packages(
-        c,
-        f.end + 4,
-        f.count,
-        s,
+    let t = scan_packages(
+        c.bytes,
+        c.packages(),
+        c.frame.count,
+        c.script,
         w,
-        l.count,
-        objects,
+        s.layout.count,
+        m.objects,
         &mut names,
         &mut imported,
-    ) {
-        Scanned::Refused(q, block) => refuse(q, block),
-        Scanned::All(t) => {
-            if t.repeat != 0 {
-                return refuse(24, t.repeat);
-            }
-            if t.open {
-                return finish(
-                    c,
-                    f,
-                    s,
-                    l.count,
-                    t,
-                    w,
-                    report,
-                    lookups,
-                    objects,
-                    &mut names,
-                    &mut imported,
-                );
-            }
-            refuse_short(c, f, s, l, notes, objects)
-        }
+    )?;
+    match t.state {
+        Entering::Repeated(block) => Err(Refused {
+            why: Refusal::RepeatedClass,
+            block,
+        }),
+        Entering::Open => finish(
+            c,
+            s.layout.count,
+            t,
+            w,
+            report,
+            m,
+            &mut names,
+            &mut imported,
+        ),
+        Entering::Full => refuse_short(c, s, m.objects),
     }
 }
 
 // The script block's entries and the rest, where the work buffer has room for the script objects.
 fn with_table(
-    c: &[u8],
-    f: Frame,
-    s: &[u8],
-    l: Layout,
+    c: &Corpus,
+    layout: Layout,
     w: &mut [u8],
     report: &mut [u8],
-    lookups: usize,
-    objects: usize,
-) -> u64
-    requires { Begun c.now f s.now × (opened s.now ≡ Open l) × (64 * l.count ≤ length w.old) × (objects ≤ 65) }
-    ensures { Answered (limits_of lookups objects) c.now (length w.old) report.old report.new result }
+    m: Limits,
+) -> Result<usize, Refused>
+    requires { (opened c.now.script.now ≡ Ok layout) × (64 * layout.count ≤ length w.old) }
+    ensures { Answered (limits_of m.lookups m.objects) c.now.bytes.now (length w.old) report.old report.new (answer_number result) }
 {
     let mut notes = [0u32; NOTES];
-    note_names(s, l.names, &mut notes);
-    let fault = enter_script(s, l, &notes, w);
-    if fault != 0 {
-        return refuse(fault, 1);
+    note_names(c.script, layout.names, &mut notes);
+    enter_script(c.script, layout, &notes, w).map_err(|why| Refused { why, block: 1 })?;
+    let s = Script {
+        block: c.script,
+        layout,
+        notes: &notes,
+    };
+    with_objects(c, &s, w, report, m)
+}
+
+// How much is written of the report of a corpus, or what it is refused for.
+fn answer(bytes: &[u8], w: &mut [u8], report: &mut [u8], m: Limits) -> Result<usize, Refused>
+    ensures { Answered (limits_of m.lookups m.objects) bytes.now (length w.old) report.old report.new (answer_number result) }
+{
+    let c = Corpus::framed(bytes)?;
+    let layout = open_script(c.script).map_err(|why| Refused { why, block: 1 })?;
+    if w.len() / 64 < layout.count {
+        return without_table(&c, m.objects);
     }
-    with_objects(c, f, s, l, &notes, w, report, lookups, objects)
+    with_table(&c, layout, w, report, m)
 }
 
 // What a corpus, a work buffer and a report buffer give, with so many lookups and objects.
@@ -188,20 +197,8 @@ pub fn class_report(
     ensures number { result ≡ (outcome (limits_of lookups objects) c.now w.old report.old).number }
     ensures report { report.new ≡ (outcome (limits_of lookups objects) c.now w.old report.old).report }
 {
-    match read_frame(c) {
-        Framed::Broken(q) => refuse(q, 0),
-        Framed::Whole(f) => {
-            let end = f.end;
-            let s = &c[9..end];
-            match open_script(s) {
-                Opened::Shut(q) => refuse(q, 1),
-                Opened::Open(l) => {
-                    if w.len() / 64 < l.count {
-                        return without_table(c, f, s, objects);
-                    }
-                    with_table(c, f, s, l, w, report, lookups, objects)
-                }
-            }
-        }
+    match answer(c, w, report, Limits { lookups, objects }) {
+        Ok(n) => n as u64,
+        Err(r) => r.number(),
     }
 }

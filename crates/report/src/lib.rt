@@ -2,4 +2,5 @@
 
 #![tactic(auto)]
 
+pub mod limits; // what a call is limited to
 pub mod call; // the call

@@ -95,20 +95,19 @@ module _ (xs : List Class) (o : Objects) (r : Ref) where
     object-step l i z = rw (follow-step (look xs) r e l {c = class_no xs i} (class-look xs r e ∙ rw (z, add-one i)))
 
   -- a reference that has a class: no lookup is left; one lookup more
-  pub object-stop : (k : ℕ) → k ≡ class_number xs r → (k ≡ 0 → ⊥) → (l : ℕ) → l ≡ 0 → object_number l xs o r ≡ 0
-  object-stop k q found l z = rw z (go (meant r) refl)
+  pub object-stop : (i : ℕ) → suc i ≡ class_number xs r → (l : ℕ) → l ≡ 0 → object_number l xs o r ≡ 0
+  object-stop i q l z = rw z (go (meant r) refl)
     where
       go : (x : Option Key) → meant r ≡ x → object_number 0 xs o r ≡ 0
-      go none e = absurd (found (q ∙ class_no-key xs r e))
+      go none e = absurd (omega (arith, q, class_no-key xs r e))
       go (some key) e = object-none e
 
-  pub object-next : (k : ℕ) → k ≡ class_number xs r → (k ≡ 0 → ⊥) → (l : ℕ) → 0 < l
-      → object_number l xs o r ≡ object_number (l - 1) xs o (class_no xs (k - 1)).super
-  object-next k q found l p = let z : l ≡ suc (l - 1) = omega arith in ap (λ (j : ℕ). object_number j xs o r) z ∙ go (meant r) refl
+  pub object-next : (i : ℕ) → suc i ≡ class_number xs r → (l : ℕ) → 0 < l → object_number l xs o r ≡ object_number (l - 1) xs o (class_no xs i).super
+  object-next i q l p = let z : l ≡ suc (l - 1) = omega arith in ap (λ (j : ℕ). object_number j xs o r) z ∙ go (meant r) refl
     where
-      go : (x : Option Key) → meant r ≡ x → object_number (suc (l - 1)) xs o r ≡ object_number (l - 1) xs o (class_no xs (k - 1)).super
-      go none e = absurd (found (q ∙ class_no-key xs r e))
-      go (some key) e = object-step e (l - 1) (k - 1) (sym q ∙ omega arith)
+      go : (x : Option Key) → meant r ≡ x → object_number (suc (l - 1)) xs o r ≡ object_number (l - 1) xs o (class_no xs i).super
+      go none e = absurd (omega (arith, q, class_no-key xs r e))
+      go (some key) e = object-step e (l - 1) i (sym q ∙ omega arith)
 
   object_end : (l : ℕ) → meant r ≡ none → object_number l xs o r ≡ option 0 (number_of o.entries) (ending r)
   unfolding object_number
@@ -252,8 +251,8 @@ pub seek-le : (xs : List Class) (key : Key) (k : ℕ) → k ≡ seek (λ (c : Cl
 seek-le xs key zero q = omega arith
 seek-le xs key (suc i) q = omega (arith, seek-inside xs key i (sym q ∙ omega arith))
 
-pub classes-room : {n k : ℕ} {w : List ℕ} → SomeClasses n k w → (k ≡ 0 → ⊥) → 48 * n + record_at (4 * n) 64 (k - 1) + 64 ≤ length w
-classes-room {k = k} t found = class-room t.some.holds (k - 1) (omega (arith, t.inside))
+pub classes-room : {n k i : ℕ} {w : List ℕ} → SomeClasses n k w → k ≡ suc i → 48 * n + record_at (4 * n) 64 i + 64 ≤ length w
+classes-room {i = i} t found = class-room t.some.holds i (omega (arith, t.inside))
 
 -- ---- a chain on its way: what (x, y) keep, with class k - 1 or none, leads in `left` lookups where r leads in all
 
@@ -267,15 +266,14 @@ pub onward_start : {lookups x y k : ℕ} {xs : List Class} {o : Objects} {r : Re
 onward_start {r = r} m q = record { ref = r; keeps = m; class = q; same = refl }
 
 module _ {lookups : ℕ} {xs : List Class} {o : Objects} {r : Ref} {x y k left : ℕ} (c : Onward lookups xs o r x y k left) where
-  module _ (found : k ≡ 0 → ⊥) where
+  module _ {i : ℕ} (found : k ≡ suc i) where
     -- no lookup is left
     pub onward_stop : left ≡ 0 → 0 ≡ object_number lookups xs o r
-    onward_stop z = sym (c.same ∙ object-stop xs o c.ref k c.class found left z)
+    onward_stop z = sym (c.same ∙ object-stop xs o c.ref i (sym found ∙ c.class) left z)
 
     -- one lookup more
-    pub onward_next : 0 < left → {u v j : ℕ} → Keeps xs u v (class_no xs (k - 1)).super → j ≡ class_number xs (class_no xs (k - 1)).super
-        → Onward lookups xs o r u v j (left - 1)
-    onward_next l m q = record { ref = (class_no xs (k - 1)).super; keeps = m; class = q; same = c.same ∙ object-next xs o c.ref k c.class found left l }
+    pub onward_next : 0 < left → {u v j : ℕ} → Keeps xs u v (class_no xs i).super → j ≡ class_number xs (class_no xs i).super → Onward lookups xs o r u v j (left - 1)
+    onward_next l m q = record { ref = (class_no xs i).super; keeps = m; class = q; same = c.same ∙ object-next xs o c.ref i (sym found ∙ c.class) left l }
 
   -- it ends: no class has the key; it names a script object; it leads nowhere
   module _ (z : k ≡ 0) {s b : List ℕ} {n : ℕ} {w : List ℕ} (t : Tables s b o n xs w) where

@@ -2,7 +2,7 @@
 -- key is the class's; bytes 24 to 63 are: the place of its package in the corpus (24), its number among the package's exports (28), where the
 -- package's name, its own and its outer's start in the package's block (32, 36, 40), what its super means, in words or as a link (44, 52), the
 -- length of its path in UTF-8 (60). Assumes nothing.
-use Rattle.std.specs.Prelude.{◌≡◌, List, [], ◌∷◌, ◌++◌, ℕ, ◌+◌, ◌^◌, ◌≤◌, ◌<◌, length, get_or}
+use Rattle.std.specs.Prelude.{◌≡◌, List, [], ◌∷◌, ◌++◌, ℕ, ◌+◌, ◌^◌, ◌≤◌, ◌<◌, length, get_or, None}
 use Rattle.std.proofs.Math.Option.{some}
 use Rattle.base.specs.Number.{le_at}
 use Rattle.base.specs.Reading.{gives, run_block}
@@ -15,10 +15,10 @@ use Rattle.table.specs.Words.{stored, Kept}
 use Rattle.table.specs.Table.{record_at, Holds}
 use Rattle.packages.specs.Meaning.{key_words, words_of}
 use Rattle.packages.specs.Package.{read_in, parts_of}
-use Rattle.packages.specs.Row.{export_no, home_in, row_in}
+use Rattle.packages.specs.Row.{export_no, home_in, row_in, outer_start}
 use Rattle.packages.specs.Walk.{block_at, package_at, Site}
 use Rattle.packages.specs.declared.names.Name.{Name}
-use Rattle.packages.specs.declared.package.Words.{Words}
+use Rattle.packages.specs.declared.entries.Words.{Words}
 use Rattle.packages.specs.declared.rows.Row.{Row}
 
 abbrev pub no_class : Class
@@ -36,7 +36,7 @@ abbrev pub home_of : List ℕ → Name
 home_of b = home_in b (parts_of (read_in b))
 
 abbrev pub names_of : List ℕ → ℕ → Row
-names_of b i = row_in b (parts_of (read_in b)) 0 i
+names_of b i = row_in b (parts_of (read_in b)) None i
 
 -- the record at a place describes class x, of the corpus s
 pub record ClassIn (s : List ℕ) (x : Class) (w : List ℕ) (at : ℕ) : Type 0 where
@@ -54,7 +54,7 @@ pub record ClassIn (s : List ℕ) (x : Class) (w : List ℕ) (at : ℕ) : Type 0
   pub export_in_lem : le_at 4 w (at + 28) ≡ export
   pub home_in_lem : le_at 4 w (at + 32) ≡ (home_of (block_at s place)).place.start
   pub own_in : le_at 4 w (at + 36) ≡ (names_of (block_at s place) export).own.place.start
-  pub outer_in : le_at 4 w (at + 40) ≡ (names_of (block_at s place) export).outer.place.start
+  pub outer_in : le_at 4 w (at + 40) ≡ outer_start (names_of (block_at s place) export)
   pub size_in_lem : le_at 4 w (at + 60) ≡ length (utf8 x.path)
 
 -- what the super r of a class is kept as: its two words; or, once it is linked, 2^63 and the number of the class that it means, and 0

@@ -1,5 +1,5 @@
 -- Laws of entering a class: its record says what its package's block says, and those before it stay. Assumes nothing.
-use Rattle.std.specs.Prelude.{◌≡◌, ℕ, ◌+◌, ◌-◌, ◌^◌, ◌≤◌, ◌<◌, length, get_or}
+use Rattle.std.specs.Prelude.{◌≡◌, ℕ, ◌+◌, ◌-◌, ◌^◌, ◌≤◌, ◌<◌, length, get_or, Option as Maybe, None, Some}
 use Rattle.std.proofs.Math.Path.{refl, ap}
 use Rattle.std.proofs.Common.{sym, ◌∙◌, arith, length-append}
 use mathlib.Core.List.{List, [], ◌∷◌, ◌++◌}
@@ -10,6 +10,7 @@ use Rattle.std.proofs.lemmas.List.{get_or_at}
 use Rattle.base.specs.Number.{be_at, le_at}
 use Rattle.base.specs.NumberLaws.{Bytes}
 use Rattle.text.specs.Utf8.{utf8}
+use Rattle.batch.specs.Holds.{Holds as TextHolds}
 use Rattle.meaning.specs.Key.{public}
 use Rattle.meaning.specs.Reference.{Ref, ref_in}
 use Rattle.meaning.specs.Scan.{Class, class_at}
@@ -18,13 +19,13 @@ use Rattle.packages.specs.ClassPath.{path_bytes, home-holds}
 use Rattle.packages.specs.Meaning.{key_words, words_of}
 use Rattle.packages.specs.Package.{package_in, PackageIn}
 use Rattle.packages.specs.PackageLaws.{export_count_lem, export-room}
-use Rattle.packages.specs.Row.{export_no, home_in, row_in}
+use Rattle.packages.specs.Row.{export_no, home_in, row_in, base_at, start_or, outer_start, RowHolds}
 use Rattle.packages.specs.RowLaws.{class-holds}
 use Rattle.packages.specs.Walk.{block_at, package_at, Site}
 use Rattle.packages.specs.WalkLaws.{site-small}
 use Rattle.packages.specs.declared.names.Name.{Name}
 use Rattle.packages.specs.declared.package.Parts.{Parts}
-use Rattle.packages.specs.declared.package.Words.{Words}
+use Rattle.packages.specs.declared.entries.Words.{Words}
 use Rattle.packages.specs.declared.rows.Row.{Row}
 use Rattle.table.specs.Entries.{find}
 use Rattle.table.specs.EntryLaws.{find-le, find-key}
@@ -130,6 +131,14 @@ pub class-keyed : {b s : List ℕ} {at : ℕ} (i : ℕ) {id : ℕ} {e : Export} 
 class-keyed {b} {s} {at} i z q g =
     class-key (package_at s at) i (export_no (block_at s at) i) ∙ rw (q, g, z.is)
 
+-- the outer's name starts inside, as the export's own does
+start-inside : {b : List ℕ} {w : Row} → RowHolds b w → outer_start w ≤ length b
+start-inside {b} {w} d = go w.outer d.outer
+  where
+    go : (x : Maybe Name) → ((u : Name) → x ≡ Some u → TextHolds b u.place (base_at b u)) → start_or w.own.place.start x ≤ length b
+    go None f = omega (arith, d.own.inside)
+    go (Some u) f = omega (arith, (f u refl).inside)
+
 module _ {b : List ℕ} {p : Parts} (a : PackageIn b p) (y : Bytes b) (i : ℕ) (l : i < p.count) {s : List ℕ} {at : ℕ} (z : Site s at b) where
   super-meant : words_of (ref_in (package_in (be_at 8 s at) b) (export_no b i).parent) ≡ words_of (class_from s at i).super
   unfolding class_at
@@ -140,7 +149,7 @@ module _ {b : List ℕ} {p : Parts} (a : PackageIn b p) (y : Bytes b) (i : ℕ) 
 
   -- what the code finds of it: so a record that was filled in with that describes it
   module _ {id : ℕ} {e : Export} (q : id ≡ be_at 8 s at) (g : e ≡ export_no b i) (h : (export_no b i).hash ≡ 0 → ⊥)
-      {home : Name} {row : Row} {m : Words} {len : ℕ} (hm : home ≡ home_in b p) (rm : row ≡ row_in b p 0 i)
+      {home : Name} {row : Row} {m : Words} {len : ℕ} (hm : home ≡ home_in b p) (rm : row ≡ row_in b p None i)
       (mm : m ≡ words_of (ref_in (package_in id b) e.parent)) (lo : m.lo < 2 ^ 64) (hi : m.hi < 2 ^ 64)
       (ln : len ≡ length (path_bytes b home row)) (short : len ≤ 393269) where
     length-is : len ≡ length (utf8 (class_from s at i).path)
@@ -149,7 +158,7 @@ module _ {b : List ℕ} {p : Parts} (a : PackageIn b p) (y : Bytes b) (i : ℕ) 
     super-is : m ≡ words_of (class_from s at i).super
     super-is = mm ∙ rw (q, g) super-meant
 
-    small : (at < 2 ^ 32) × (i < 2 ^ 32) × (home.place.start < 2 ^ 32) × (row.own.place.start < 2 ^ 32) × (row.outer.place.start < 2 ^ 32)
+    small : (at < 2 ^ 32) × (i < 2 ^ 32) × (home.place.start < 2 ^ 32) × (row.own.place.start < 2 ^ 32) × (outer_start row < 2 ^ 32)
     small =
         let (f, k, x, v) = site-small z in
         let d = class-holds a y i l in (
@@ -157,18 +166,18 @@ module _ {b : List ℕ} {p : Parts} (a : PackageIn b p) (y : Bytes b) (i : ℕ) 
           omega (arith, export-room a i l),
           rw hm (omega (arith, (home-holds a y).inside)),
           rw rm (omega (arith, d.own.inside)),
-          rw rm (omega (arith, d.outer.inside)),
+          rw rm (omega (arith, start-inside d)),
         )
 
     abbrev columns : List Cell
-    columns = cells at i home.place.start row.own.place.start row.outer.place.start m len
+    columns = cells at i home.place.start row.own.place.start (outer_start row) m len
 
     abbrev pub new : ℕ → List ℕ → List ℕ
-    new r w = described r at i home.place.start row.own.place.start row.outer.place.start m len w
+    new r w = described r at i home.place.start row.own.place.start (outer_start row) m len w
 
     column-read : (r : ℕ) (w : List ℕ) → r + 64 ≤ length w → (j : ℕ) → j < 8 → (get_or columns j no_cell).value < 256 ^ (get_or columns j no_cell).width
         → le_at (get_or columns j no_cell).width (new r w) (r + (get_or columns j no_cell).from) ≡ (get_or columns j no_cell).value
-    column-read r w room = described-read at i home.place.start row.own.place.start row.outer.place.start m len r w room
+    column-read r w room = described-read at i home.place.start row.own.place.start (outer_start row) m len r w room
 
     class-described : (r : ℕ) (w : List ℕ) → r + 64 ≤ length w → ClassIn s (class_from s at i) (new r w) r
     class-described r w room = record {
@@ -184,7 +193,7 @@ module _ {b : List ℕ} {p : Parts} (a : PackageIn b p) (y : Bytes b) (i : ℕ) 
       export_in_lem = column-read r w room 1 (omega arith) small.1;
       home_in_lem = column-read r w room 2 (omega arith) small.2 ∙ ap (λ (x : Name). x.place.start) (hm ∙ block-home a z);
       own_in = column-read r w room 3 (omega arith) small.3 ∙ ap (λ (x : Row). x.own.place.start) (rm ∙ block-names a z i);
-      outer_in = column-read r w room 4 (omega arith) small.4 ∙ ap (λ (x : Row). x.outer.place.start) (rm ∙ block-names a z i);
+      outer_in = column-read r w room 4 (omega arith) small.4 ∙ ap outer_start (rm ∙ block-names a z i);
       size_in_lem = column-read r w room 7 (omega arith) (omega arith) ∙ length-is;
     }
 
@@ -201,7 +210,7 @@ module _ {b : List ℕ} {p : Parts} (a : PackageIn b p) (y : Bytes b) (i : ℕ) 
         let room : record_at n 64 k + 64 ≤ length v = omega (arith, d.room, (added-kept d).size) in
         rw (u, f)
         (classes-more k xs (class_from s at i) c t (class-keyed i z q g) (rw g h) d
-        (described-kept at i home.place.start row.own.place.start row.outer.place.start m len (record_at n 64 k) v room)
+        (described-kept at i home.place.start row.own.place.start (outer_start row) m len (record_at n 64 k) v room)
         (class-described (record_at n 64 k) v room) (lo-described (record_at n 64 k) v room) (hi-described (record_at n 64 k) v room))
 
 -- one of those before it has its key, where that was found

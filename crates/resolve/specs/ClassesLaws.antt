@@ -1,6 +1,6 @@
 -- Laws of the classes in the work buffer: they stay where only bytes behind them change, and a look-up by a key is the class table's. Assumes
 -- nothing.
-use Rattle.std.specs.Prelude.{◌≡◌, refl, ◌⊎◌, Bool, ℕ, zero, suc, ◌+◌, ◌-◌, ◌*◌, ◌^◌, ◌≤◌, ◌<◌, length, get_or}
+use Rattle.std.specs.Prelude.{◌≡◌, refl, ◌⊎◌, Bool, ℕ, zero, suc, ◌+◌, ◌-◌, ◌*◌, ◌^◌, ◌≤◌, ◌<◌, length, get_or, None}
 use Rattle.std.proofs.Common.{sym, ◌∙◌, inl, inr, add-one, arith, ne_eqb}
 use Rattle.std.proofs.Math.Path.{ap}
 use mathlib.Core.List.{List, [], ◌∷◌}
@@ -23,7 +23,7 @@ use Rattle.packages.specs.Package.{read_in, PackageIn}
 use Rattle.packages.specs.Row.{export_no, home_in, row_in}
 use Rattle.packages.specs.Walk.{block_at, Site}
 use Rattle.packages.specs.declared.package.Parts.{Parts}
-use Rattle.packages.specs.declared.package.Words.{Words}
+use Rattle.packages.specs.declared.entries.Words.{Words}
 use Rattle.table.specs.Entries.{find}
 use Rattle.table.specs.EntryLaws.{find-le, find-key, find_none}
 use Rattle.table.specs.Table.{record_at, Table, cleared}
@@ -78,12 +78,12 @@ module _ {b : List ℕ} {p : Parts} (a : PackageIn b p) {s : List ℕ} {at : ℕ
   pub block-home : home_in b p ≡ home_of (block_at s at)
   block-home = ap (home_in b) a.parts ∙ ap home_of z.is
 
-  pub block-names : (i : ℕ) → row_in b p 0 i ≡ names_of (block_at s at) i
-  block-names i = ap (λ (q : Parts). row_in b q 0 i) a.parts ∙ ap (λ (x : List ℕ). names_of x i) z.is
+  pub block-names : (i : ℕ) → row_in b p None i ≡ names_of (block_at s at) i
+  block-names i = ap (λ (q : Parts). row_in b q None i) a.parts ∙ ap (λ (x : List ℕ). names_of x i) z.is
 
-  pub block-path : Bytes b → (i : ℕ) → i < p.count → path_bytes b (home_in b p) (row_in b p 0 i) ≡ utf8 (class_from s at i).path
+  pub block-path : Bytes b → (i : ℕ) → i < p.count → path_bytes b (home_in b p) (row_in b p None i) ≡ utf8 (class_from s at i).path
   unfolding class_at
-  block-path y i l = path-is a y i l (home_in b p) (home-name a y) 0 ∙ ap (λ (x : List ℕ). utf8 (class_path (read_in x) (export_no x i))) z.is
+  block-path y i l = path-is a y i l (home_in b p) (home-name a y) None ∙ ap (λ (x : List ℕ). utf8 (class_path (read_in x) (export_no x i))) z.is
 
 -- ---- what a record says, by its columns alone, the super's apart
 

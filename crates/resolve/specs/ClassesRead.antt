@@ -1,5 +1,5 @@
 -- Laws of a class's record read back: its package lies inside and is accepted, and the places of its names give its path. Assumes nothing.
-use Rattle.std.specs.Prelude.{◌≡◌, List, ℕ, ◌+◌, ◌<◌, length}
+use Rattle.std.specs.Prelude.{◌≡◌, List, ℕ, ◌+◌, ◌<◌, length, Ok, None}
 use Rattle.std.proofs.Common.{sym, ◌∙◌, ap}
 use Rattle.base.specs.Number.{le_at}
 use Rattle.base.specs.NumberLaws.{Bytes}
@@ -8,12 +8,11 @@ use Rattle.text.specs.Utf8.{utf8}
 use Rattle.zen.specs.Answers.{answer}
 use Rattle.zen.specs.Zen.{package_block}
 use Rattle.zen.specs.declared.zen.Layout.{Layout}
-use Rattle.zen.specs.declared.zen.Package.TheVariants.{Accepted}
 use Rattle.meaning.specs.Scan.{Class}
 use Rattle.packages.specs.ClassPath.{path_bytes}
 use Rattle.packages.specs.Package.{read_in, PackageIn}
 use Rattle.packages.specs.PackageLaws.{accepted-by, export_count_lem}
-use Rattle.packages.specs.Row.{home_in, row_in}
+use Rattle.packages.specs.Row.{home_in, row_in, outer_start}
 use Rattle.packages.specs.Walk.{block_at, Site}
 use Rattle.packages.specs.WalkLaws.{site-small}
 use Rattle.packages.specs.declared.names.Name.{Name}
@@ -43,7 +42,7 @@ module _ {s : List ℕ} {x : Class} {w : List ℕ} {r : ℕ} (d : ClassIn s x w 
     class-bytes y = rw e ((site-small class-site).2 y)
 
     -- its block is accepted
-    pub class-layout : (l : Layout) × (answer (run_block package_block b) ≡ Accepted l)
+    pub class-layout : (l : Layout) × (answer (run_block package_block b) ≡ Ok l)
     class-layout = let c = block_at s d.place in rw block-is ((read_in c).layout, accepted-by c (read_in c) d.read)
 
     -- the start that is read is that of its name
@@ -56,20 +55,20 @@ module _ {s : List ℕ} {x : Class} {w : List ℕ} {r : ℕ} (d : ClassIn s x w 
         export_is : i ≡ d.export
         export_is = n ∙ d.export_in_lem
 
-        row_is : row_in b p 0 i ≡ names_of (block_at s d.place) d.export
+        row_is : row_in b p None i ≡ names_of (block_at s d.place) d.export
         row_is = rw export_is (block-names a block-site d.export)
 
         pub class-inside : i < p.count
         class-inside = rw (export_count_lem a, block-is, export_is) d.there
 
-        pub class-own : {o : ℕ} → o ≡ le_at 4 w (r + 36) → o ≡ (row_in b p 0 i).own.place.start
+        pub class-own : {o : ℕ} → o ≡ le_at 4 w (r + 36) → o ≡ (row_in b p None i).own.place.start
         class-own l = l ∙ (d.own_in ∙ ap (λ (t : Row). t.own.place.start) (sym row_is))
 
-        pub class-outer : {o : ℕ} → o ≡ le_at 4 w (r + 40) → o ≡ (row_in b p 0 i).outer.place.start
-        class-outer l = l ∙ (d.outer_in ∙ ap (λ (t : Row). t.outer.place.start) (sym row_is))
+        pub class-outer : {o : ℕ} → o ≡ le_at 4 w (r + 40) → o ≡ outer_start (row_in b p None i)
+        class-outer l = l ∙ (d.outer_in ∙ ap outer_start (sym row_is))
 
         -- so the names there are the class's path
-        pub class_path_lem : Bytes b → {home : Name} {row : Row} → home ≡ home_in b p → row ≡ row_in b p 0 i → path_bytes b home row ≡ utf8 x.path
+        pub class_path_lem : Bytes b → {home : Name} {row : Row} → home ≡ home_in b p → row ≡ row_in b p None i → path_bytes b home row ≡ utf8 x.path
         class_path_lem y {home} {row} f g =
             let made : path_bytes b home row ≡ utf8 (class_from s d.place i).path = rw (f, g) (block-path a block-site y i class-inside) in
             let same : class_from s d.place i ≡ x = rw export_is (sym d.is) in

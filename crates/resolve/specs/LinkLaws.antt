@@ -1,5 +1,5 @@
 -- Laws of classes that are linked to their supers' classes: how they are kept then, and that all else stays. Assumes nothing.
-use Rattle.std.specs.Prelude.{◌≡◌, ◌⊎◌, List, [], ◌∷◌, ℕ, ◌+◌, ◌-◌, ◌*◌, ◌^◌, ◌≤◌, ◌<◌, length, drop}
+use Rattle.std.specs.Prelude.{◌≡◌, ◌⊎◌, List, [], ◌∷◌, ℕ, suc, ◌+◌, ◌-◌, ◌*◌, ◌^◌, ◌≤◌, ◌<◌, length, drop}
 use Rattle.std.proofs.Math.Path.{refl}
 use Rattle.std.proofs.Common.{sym, ◌∙◌, ap, inl, inr, arith, length-drop}
 use Rattle.std.proofs.Math.Logic.{by_cases}
@@ -101,17 +101,17 @@ module _ {s b : List ℕ} {o : Objects} {n : ℕ} {xs : List Class} {w : List �
   linked-lost g f z =
       record { found = λ j e. absurd (omega (arith, f, keeps-look keeps t.classes g)); none = λ e. (refl, refl) }
 
--- ---- class i, linked to class k - 1
+-- ---- class i, linked to class k
 
 module _ {s b : List ℕ} {o : Objects} {n : ℕ} {xs : List Class} {refs : List Ref} {w : List ℕ} (t : KeptRows s b o n xs refs w) {i at : ℕ} (h : i < length xs)
     (place : at ≡ 48 * n + record_at (4 * n) 64 i) {lo hi k : ℕ} (p : lo ≡ le_at 8 w (at + 44)) (q : hi ≡ le_at 8 w (at + 52)) (hash : 0 < hi)
-    (f : k ≡ seek (λ (c : Class). same_key c.key (public lo hi)) xs) (found : k ≡ 0 → ⊥) (few : 2 ^ 63 + (k - 1) < 2 ^ 64)
-    {w' : List ℕ} (e : w' ≡ linked at (2 ^ 63 + (k - 1)) w) where
+    (f : suc k ≡ seek (λ (c : Class). same_key c.key (public lo hi)) xs) (few : 2 ^ 63 + k < 2 ^ 64)
+    {w' : List ℕ} (e : w' ≡ linked at (2 ^ 63 + k) w) where
   room : at + 64 ≤ length w
   room = omega (arith, class-room t.tables i h)
 
   change : Kept (at + 44) (at + 60) w w'
-  change = rw e (linked-kept at (2 ^ 63 + (k - 1)) w room)
+  change = rw e (linked-kept at (2 ^ 63 + k) w room)
 
   behind : Kept (record_at (4 * n) 64 i + 44) (record_at (4 * n) 64 i + 60) (drop (48 * n) w) (drop (48 * n) w')
   behind =
@@ -120,21 +120,21 @@ module _ {s b : List ℕ} {o : Objects} {n : ℕ} {xs : List Class} {refs : List
       rw (a, d) at (kept-drop (48 * n) change (omega arith) (omega arith))
 
   -- its super means that class
-  means : meant (class_no xs i).super ≡ some (class_no xs (k - 1)).key
+  means : meant (class_no xs i).super ≡ some (class_no xs k).key
   means =
       keeps-key (super-keeps t.tables i h place p q) hash
-      ∙ ap (λ (x : Key). some x) (sym (seek-key xs (public lo hi) (k - 1) (sym f ∙ omega arith)))
+      ∙ ap (λ (x : Key). some x) (sym (seek-key xs (public lo hi) k (sym f ∙ omega arith)))
 
-  inside : k - 1 < length xs
-  inside = seek-inside xs (public lo hi) (k - 1) (sym f ∙ omega arith)
+  inside : k < length xs
+  inside = seek-inside xs (public lo hi) k (sym f ∙ omega arith)
 
   own : SuperIn xs (class_no xs i).super (le_at 8 (drop (48 * n) w') (record_at (4 * n) 64 i + 44)) (le_at 8 (drop (48 * n) w') (record_at (4 * n) 64 i + 52))
   own =
       let a : 48 * n + (record_at (4 * n) 64 i + 44) ≡ at + 44 = omega arith in
       let d : 48 * n + (record_at (4 * n) 64 i + 52) ≡ at + 52 = omega arith in
-      link (k - 1) inside means
-      (le_at-drop 8 (48 * n) w' (record_at (4 * n) 64 i + 44) ∙ rw (a, e) (linked-lo at (2 ^ 63 + (k - 1)) w room few))
-      (le_at-drop 8 (48 * n) w' (record_at (4 * n) 64 i + 52) ∙ rw (d, e) (linked-hi at (2 ^ 63 + (k - 1)) w room))
+      link k inside means
+      (le_at-drop 8 (48 * n) w' (record_at (4 * n) 64 i + 44) ∙ rw (a, e) (linked-lo at (2 ^ 63 + k) w room few))
+      (le_at-drop 8 (48 * n) w' (record_at (4 * n) 64 i + 52) ∙ rw (d, e) (linked-hi at (2 ^ 63 + k) w room))
 
   -- the other records, and its other columns
   other : (j m c : ℕ) → c + m ≤ 64 → (i ≡ j → ⊥) → le_at m (drop (48 * n) w') (record_at (4 * n) 64 j + c) ≡ le_at m (drop (48 * n) w) (record_at (4 * n) 64 j + c)
@@ -191,9 +191,9 @@ module _ {s b : List ℕ} {o : Objects} {n : ℕ} {xs : List Class} {refs : List
       let is = keeps-look (super-keeps t.tables i h place p q) t.tables.classes hash in
       record {
         found = λ j g.
-            let z : 2 ^ 63 + (k - 1) ≡ 2 ^ 63 + j = omega (arith, f, is) in
-            (rw (a, e) (linked-lo at (2 ^ 63 + (k - 1)) w room few ∙ z), rw (d, e) (linked-hi at (2 ^ 63 + (k - 1)) w room));
-        none = λ g. absurd (found (f ∙ (sym is ∙ g)));
+            let z : 2 ^ 63 + k ≡ 2 ^ 63 + j = omega (arith, f, is) in
+            (rw (a, e) (linked-lo at (2 ^ 63 + k) w room few ∙ z), rw (d, e) (linked-hi at (2 ^ 63 + k) w room));
+        none = λ g. absurd (omega (arith, f, is));
       }
 
 -- ---- the first classes, one after another

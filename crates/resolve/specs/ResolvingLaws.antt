@@ -1,5 +1,5 @@
 -- Laws of rows that are resolved: how many bytes a row's texts take, what is kept of it, and one row more. Assumes nothing.
-use Rattle.std.specs.Prelude.{◌≡◌, ◌⊎◌, List, [], ◌∷◌, drop, get_or}
+use Rattle.std.specs.Prelude.{◌≡◌, ◌⊎◌, List, [], ◌∷◌, drop, get_or, Option as Maybe, None, Some}
 use Rattle.std.proofs.Math.Path.{refl}
 use Rattle.std.proofs.Common.{sym, ◌∙◌, ap, inl, inr, length-drop, drop-drop}
 use Rattle.std.proofs.Math.Logic.{by_cases}
@@ -27,7 +27,6 @@ use Rattle.objects.specs.PathLaws.{link_at_lem, columns-at}
 use Rattle.objects.specs.Told.{told, path_bytes}
 use Rattle.objects.specs.declared.object.Object.{Object}
 use Rattle.objects.specs.declared.path.Path.{Path as Told}
-use Rattle.objects.specs.declared.path.Path.TheVariants.{Known, Unknown}
 use Rattle.resolve.specs.Classes.{class_no}
 use Rattle.resolve.specs.ClassesLaws.{classes-kept}
 use Rattle.resolve.specs.Lent.{lent-part}
@@ -42,20 +41,20 @@ pub unknown-size : size (or_unknown none) ≡ 1
 unfolding utf8_one
 unknown-size = refl
 
-module _ {r : Told} (x : Option Path) (q : r ≡ told x) where
-  pub told-unknown : r ≡ Unknown → size (or_unknown (path_text x)) ≡ 1
+module _ {r : Maybe Told} (x : Option Path) (q : r ≡ told x) where
+  pub told-unknown : r ≡ None → size (or_unknown (path_text x)) ≡ 1
   told-unknown e = go x (sym e ∙ q)
     where
-      go : (x : Option Path) → Unknown ≡ told x → size (or_unknown (path_text x)) ≡ 1
+      go : (x : Option Path) → ◌≡◌ {A = Maybe Told} None (told x) → size (or_unknown (path_text x)) ≡ 1
       go none z = unknown-size
       go (some p) z = never (cc)
 
-  pub told-known : (n d : ℕ) → r ≡ Known n d → (n ≡ size (or_unknown (path_text x))) × (n ≡ length (path_bytes x))
-  told-known n d e = go x (sym e ∙ q)
+  pub told-known : (p : Told) → r ≡ Some p → (p.len ≡ size (or_unknown (path_text x))) × (p.len ≡ length (path_bytes x))
+  told-known p e = go x (sym e ∙ q)
     where
-      go : (x : Option Path) → Known n d ≡ told x → (n ≡ size (or_unknown (path_text x))) × (n ≡ length (path_bytes x))
+      go : (x : Option Path) → Some p ≡ told x → (p.len ≡ size (or_unknown (path_text x))) × (p.len ≡ length (path_bytes x))
       go none z = never (cc)
-      go (some p) z = (cc, cc)
+      go (some y) z = (cc, cc)
 
 -- ---- and both texts of a row
 
@@ -70,12 +69,12 @@ module _ {s b : List ℕ} {o : Objects} {n : ℕ} {xs : List Class} {w : List �
       let m = limits_of lookups objects in
       rw (class-lost-by t m ref (sym l.class-is ∙ z), native-by t m ref) (omega (arith, native-size))
 
-  pub size-found : (class ≡ 0 → ⊥) → {own : ℕ} → own ≡ length (utf8 (class_no xs (class - 1)).path) → native + own ≡ target_size (limits_of lookups objects) xs o ref
+  pub size-found : {i own : ℕ} → class ≡ suc i → own ≡ length (utf8 (class_no xs i).path) → native + own ≡ target_size (limits_of lookups objects) xs o ref
   unfolding target_size
-  size-found found p =
+  size-found {i} z p =
       let m = limits_of lookups objects in
-      let z : class_number xs ref ≡ class - 1 + 1 = omega (arith, l.class-is) in
-      rw (class-found m xs o ref (class - 1) z, native-by t m ref) (omega (arith, native-size, p))
+      let k : class_number xs ref ≡ i + 1 = omega (arith, l.class-is) in
+      rw (class-found m xs o ref i k, native-by t m ref) (omega (arith, native-size, p))
 
 -- ---- what four bytes hold
 
@@ -211,7 +210,7 @@ module _ {s b : List ℕ} {o : Objects} {n : ℕ} {xs : List Class} {r : ℕ} {r
         }
 
   -- the row is resolved
-  module _ (m : Limits) {class : ℕ} {u : Object} {w' : List ℕ} {at : ℕ} (place : at ≡ row_at w r) (q : w' ≡ targeted at class u w) (bs : Bytes w)
+  module _ (m : Limits) {class : ℕ} {u : Object} {w' : List ℕ} {at : ℕ} (place : at ≡ row_at w r) (q : w' ≡ targeted at class u w) (bs : Bytes w')
       (c : class ≡ class_number xs ref) (i : u ≡ columns_of b o (object_number m.lookups xs o ref)) where
     fits : row_at w r + 20 ≤ length w
     fits = omega (arith, row_room)
@@ -220,8 +219,8 @@ module _ {s b : List ℕ} {o : Objects} {n : ℕ} {xs : List Class} {r : ℕ} {r
     change = rw (q, place) (targeted-kept (row_at w r) class u w fits)
 
     back : Back (row_at w r) class u w'
-    back = rw (q, place) (targeted-back (row_at w r) class u w fits (rw c (class-small t.tables bs ref))
-        (rw i (object-small t.tables bs (object_number m.lookups xs o ref) (object-inside t.tables m.lookups ref))))
+    back = rw (q, place) (targeted-back (row_at w r) class u w fits (rw c (class-small (row-tables change) bs ref))
+        (rw i (object-small (row-tables change) bs (object_number m.lookups xs o ref) (object-inside t.tables m.lookups ref))))
 
     -- a column of the row, seen from behind the objects
     row_same : 48 * n + row_at (drop (48 * n) w') r ≡ row_at w r

@@ -22,7 +22,7 @@ use Rattle.objects.specs.Numbers.{number_of, path_no}
 use Rattle.objects.specs.Work.{ObjectsIn, object_no}
 use Rattle.objects.specs.declared.object.Object.{Object}
 use Rattle.packages.specs.Meaning.{words_of}
-use Rattle.packages.specs.declared.package.Words.{Words}
+use Rattle.packages.specs.declared.entries.Words.{Words}
 use Rattle.resolve.specs.Classes.{class_no, SuperIn, ClassesIn}
 use Rattle.resolve.specs.declared.rows.Led.{Led}
 

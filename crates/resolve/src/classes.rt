@@ -2,22 +2,20 @@
 ghost use Rattle.std.specs.Prelude.{List, ◌≡◌, true, false, ℕ, ◌+◌, ◌*◌, ◌^◌, ◌≤◌, ◌<◌, length};
 ghost use Rattle.base.specs.Number.{be_at};
 ghost use Rattle.text.specs.Utf8.{utf8};
-ghost use Rattle.batch.specs.Notes.{Noted};
 ghost use Rattle.scriptblock.specs.Script.{Objects};
 ghost use Rattle.meaning.specs.Scan.{Class, is_class};
 ghost use Rattle.objects.specs.Work.{ObjectsIn, LinkedOf};
-ghost use Rattle.packages.specs.Package.{PackageIn};
-ghost use Rattle.packages.specs.Row.{export_no};
+ghost use Rattle.packages.specs.Row.{export_no, outer_start};
 ghost use Rattle.packages.specs.Walk.{Site};
 ghost use Rattle.table.specs.Table.{record_at};
 ghost use Rattle.resolve.specs.Classes.{class_no, class_from, ClassesIn, Classes, Entered, Stands, described};
 
-use base::index::index_kind;
-use batch::notes::NOTES;
+use base::index::{Kind, index_kind};
+use packages::block::Package;
 use packages::class_path::class_path_len;
+use packages::entries::Words;
 use packages::names::Name;
-use packages::package::{Parts, Words, export_at, home_at, meaning};
-use packages::rows::{Row, row_at};
+use packages::rows::Row;
 use table::entries::{add, record_at};
 use table::words::{get32, set32, set64};
 use zen::tables::Export;
@@ -30,37 +28,44 @@ pub fn is_class(s: &[u8], w: &[u8], e: Export, limit: usize) -> bool
     if e.hash == 0 {
         return false;
     }
-    if index_kind(e.class) != 1 {
+    let Kind::Script = index_kind(e.class) else {
         return false;
-    }
-    if index_kind(e.parent) == 3 {
+    };
+    if let Kind::Null = index_kind(e.parent) {
         return false;
     }
     objects::class::is_class(s, w, e.class, limit)
 }
 
 // Fills in the record at a place: the package's place, the export's number, the names' starts, what the super means, the path's length.
-fn describe(w: &mut [u8], r: usize, at: usize, i: usize, home: Name, row: Row, m: Words, len: usize)
+fn describe(
+    w: &mut [u8],
+    r: usize,
+    at: usize,
+    i: usize,
+    home: Name,
+    row: &Row,
+    m: Words,
+    len: usize,
+)
     requires { r + 64 ≤ length w.old }
-    ensures { w.new ≡ described r at i home.place.start row.own.place.start row.outer.place.start m len w.old }
+    ensures { w.new ≡ described r at i home.place.start row.now.own.place.start (outer_start row.now) m len w.old }
 {
+    let outer = row.outer.unwrap_or(row.own);
     set32(w, r + 24, at);
     set32(w, r + 28, i);
     set32(w, r + 32, home.place.start);
     set32(w, r + 36, row.own.place.start);
-    set32(w, r + 40, row.outer.place.start);
+    set32(w, r + 40, outer.place.start);
     set64(w, r + 44, m.lo);
     set64(w, r + 52, m.hi);
     set32(w, r + 60, len);
 }
 
-// Enters export i of the package at a place of the corpus, whose block b is, as class k in n buckets, unless a class before it has its key:
-// whether it was entered.
+// Enters export i of the package p, which stands at a place of the corpus, as class k in n buckets, unless a class before it has its key: whether it
+// was entered.
 pub fn enter_class(
-    b: &[u8],
-    p: Parts,
-    names: &[u32; NOTES],
-    imported: &[u32; NOTES],
+    p: &Package,
     w: &mut [u8],
     n: usize,
     k: usize,
@@ -68,23 +73,24 @@ pub fn enter_class(
     id: u64,
     i: usize,
 ) -> bool
-    requires package_in { PackageIn b.now p × Noted b.now p.names names.now × Noted b.now p.imported imported.now × (i < p.count) × ((export_no b.now i).hash ≡ 0 → ⊥) }
+    requires export { (i < p.now.parts.count) × ((export_no p.now.bytes.now i).hash ≡ 0 → ⊥) }
     requires classes { Classes n k w.old × (0 < n) × (k + 1 < 2 ^ 32) × (record_at n 64 (k + 1) ≤ length w.old) }
-    ensures new { result ≡ true → (s : List ℕ) (xs : List Class) → Site s at b.now → id ≡ be_at 8 s at → ClassesIn s n xs w.old → length xs ≡ k
+    ensures new { result ≡ true → (s : List ℕ) (xs : List Class) → Site s at p.now.bytes.now → id ≡ be_at 8 s at → ClassesIn s n xs w.old → length xs ≡ k
         → Entered s n xs (class_from s at i) w.old w.new }
-    ensures old { result ≡ false → (s : List ℕ) (xs : List Class) → Site s at b.now → id ≡ be_at 8 s at → ClassesIn s n xs w.old → length xs ≡ k
+    ensures old { result ≡ false → (s : List ℕ) (xs : List Class) → Site s at p.now.bytes.now → id ≡ be_at 8 s at → ClassesIn s n xs w.old → length xs ≡ k
         → Stands xs (class_from s at i) }
     ensures size { length w.new ≡ length w.old }
 {
-    let e = export_at(b, p, i);
-    if 0 < add(w, n, 64, k, id, e.hash) {
+    let b = p.block();
+    let e = b.export(i);
+    if add(w, n, 64, k, id, e.hash).is_some() {
         return false;
     }
-    let home = home_at(b, p, names);
-    let row = row_at(b, p, names, i, 0);
-    let len = class_path_len(b, home, row);
-    let m = meaning(b, p, imported, id, e.parent);
-    describe(w, record_at(n, 64, k), at, i, home, row, m, len);
+    let home = b.home(p.names);
+    let row = b.row(p.names, i, None);
+    let len = class_path_len(p.bytes, home, &row);
+    let m = b.meaning(p.imported, id, e.parent);
+    describe(w, record_at(n, 64, k), at, i, home, &row, m, len);
     true
 }
 

@@ -5,7 +5,7 @@ ghost use Rattle.meaning.specs.Reference.{Ref};
 ghost use Rattle.meaning.specs.Scan.{Class};
 ghost use Rattle.resolve.specs.Rows.{Tables, Kept, SomeClasses, ClassLinked, LinkedTo, SuperOnly};
 
-use super::chain::class_at;
+use super::chain::{LINKED, class_at};
 use table::entries::record_at;
 use table::words::{get64, set64};
 
@@ -24,12 +24,10 @@ fn link_class(w: &mut [u8], n: usize, i: usize)
     if hi == 0 {
         return;
     }
-    let k = class_at(w, n, lo, hi);
-    if k == 0 {
-        return;
+    if let Some(k) = class_at(w, n, lo, hi) {
+        set64(w, at + 44, LINKED + k as u64);
+        set64(w, at + 52, 0);
     }
-    set64(w, at + 44, 9223372036854775808 + (k - 1) as u64);
-    set64(w, at + 52, 0);
 }
 
 // Links the first so many classes.
@@ -40,9 +38,7 @@ pub fn link_classes(w: &mut [u8], n: usize, classes: usize)
     ensures linked { (s b : List ℕ) (o : Objects) (xs : List Class) → Tables s b o n xs w.old → classes ≤ length xs
         → LinkedTo n xs classes w.old w.new }
 {
-    let mut i: usize = 0;
-    while i < classes {
+    for i in 0..classes {
         link_class(w, n, i);
-        i += 1;
     }
 }

@@ -5,7 +5,7 @@ ghost use Rattle.text.specs.Utf8.{utf8};
 ghost use Rattle.meaning.specs.Scan.{Class};
 ghost use Rattle.resolve.specs.Classes.{class_no, ClassesIn, PathRoom};
 
-use packages::described::{home_from, row_from};
+use packages::block::Block;
 use packages::frame::block_at;
 use packages::package::parts_of;
 use table::entries::record_at;
@@ -18,15 +18,10 @@ pub fn put_class_path(out: &mut [u8], c: &[u8], w: &[u8], n: usize, k: usize) ->
     ensures { (xs : List Class) → ClassesIn c.now n xs w.now → k < length xs → Wrote out.old (utf8 (class_no xs k).path) out.new result }
 {
     let at = record_at(n, 64, k);
-    let b = block_at(c, get32(w, at + 24));
-    let p = parts_of(layout_of(b));
-    let home = home_from(b, p, get32(w, at + 32));
-    let row = row_from(
-        b,
-        p,
-        get32(w, at + 28),
-        get32(w, at + 36),
-        get32(w, at + 40),
-    );
-    packages::class_path::put_class_path(out, b, home, row)
+    let bytes = block_at(c, get32(w, at + 24));
+    let parts = parts_of(layout_of(bytes));
+    let b = Block { bytes, parts };
+    let home = b.home_from(get32(w, at + 32));
+    let row = b.row_from(get32(w, at + 28), get32(w, at + 36), get32(w, at + 40));
+    packages::class_path::put_class_path(out, bytes, home, &row)
 }

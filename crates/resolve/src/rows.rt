@@ -1,5 +1,6 @@
 // Rows in the work buffer: kept as they come, then resolved.
 ghost use Rattle.std.specs.Prelude.{List, ◌≡◌, ℕ, ◌+◌, ◌*◌, ◌^◌, ◌≤◌, ◌<◌, length};
+ghost use Rattle.base.specs.OneMore.{one_more};
 ghost use Rattle.scriptblock.specs.Script.{Objects};
 ghost use Rattle.meaning.specs.Reference.{Ref};
 ghost use Rattle.meaning.specs.Report.{size, or_unknown};
@@ -13,8 +14,8 @@ use super::chain::{Target, target_of};
 use super::classes::class_len;
 use base::number::le32;
 use objects::object::{Object, object_at};
-use objects::path::{Path, path_len};
-use packages::package::Words;
+use objects::path::path_len;
+use packages::entries::Words;
 use table::words::{get32, get64, set32, set64};
 
 // Keeps what the class index of row r means, and its mark.
@@ -66,53 +67,63 @@ pub fn led_at(w: &[u8], r: usize) -> Led
     }
 }
 
-// The columns of the script object of that number: one more than its number, 0 for none.
-fn object_of(w: &[u8], n: usize, k: usize) -> Object
-    requires { SomeTables n w.now × (k ≤ n) }
-    ensures { (s b : List ℕ) (o : Objects) (xs : List Class) → Tables s b o n xs w.now → result ≡ columns_of b o k }
+// The columns of a script object, all 0 for none.
+fn object_of(w: &[u8], n: usize, object: Option<usize>) -> Object
+    requires { SomeTables n w.now × (one_more object ≤ n) }
+    ensures { (s b : List ℕ) (o : Objects) (xs : List Class) → Tables s b o n xs w.now → result ≡ columns_of b o (one_more object) }
 {
-    if k == 0 {
-        return Object {
+    let size = 48 * n;
+    match object {
+        Some(i) => object_at(&w[..size], i),
+        None => Object {
             outer: 0,
             start: 0,
             size: 0,
             number: 0,
-        };
+        },
     }
-    let size = 48 * n;
-    object_at(&w[..size], k - 1)
 }
 
 // How many bytes its path takes, of at most so many objects, or `?`.
-fn object_len(w: &[u8], n: usize, k: usize, objects: usize) -> usize
-    requires { SomeTables n w.now × (k ≤ n) × (objects ≤ 65) }
-    ensures { ((s b : List ℕ) (o : Objects) (xs : List Class) → Tables s b o n xs w.now → result ≡ size (or_unknown (path_text (path_by objects o k)))) × (result ≤ 8520850) }
+fn object_len(w: &[u8], n: usize, object: Option<usize>, objects: usize) -> usize
+    requires { SomeTables n w.now × (one_more object ≤ n) × (objects ≤ 65) }
+    ensures { ((s b : List ℕ) (o : Objects) (xs : List Class) → Tables s b o n xs w.now
+        → result ≡ size (or_unknown (path_text (path_by objects o (one_more object))))) × (result ≤ 8520850) }
 {
-    if k == 0 {
+    let Some(i) = object else {
         return 1;
-    }
+    };
     let size = 48 * n;
-    let p = path_len(&w[..size], k - 1, objects);
-    match p {
-        Path::Unknown => 1,
-        Path::Known(len, _) => len,
+    match path_len(&w[..size], i, objects) {
+        Some(path) => path.len,
+        None => 1,
     }
 }
 
 // How many bytes class and native class of a row take that leads there. Where it has no class of the table both are the same text: the path of
 // the script object that it names, or `?`.
 fn target_len(w: &[u8], n: usize, t: Target, objects: usize) -> usize
-    requires { SomeTarget n t.class t.object w.now × (objects ≤ 65) }
+    requires { SomeTarget n (one_more t.class) (one_more t.object) w.now × (objects ≤ 65) }
     ensures { ((s b : List ℕ) (o : Objects) (xs : List Class) (lookups : ℕ) (ref : Ref) → Tables s b o n xs w.now
-        → Leads xs o lookups ref t.class t.object → result ≡ target_size (limits_of lookups objects) xs o ref) × (result ≤ 17041700) }
+        → Leads xs o lookups ref (one_more t.class) (one_more t.object) → result ≡ target_size (limits_of lookups objects) xs o ref) × (result ≤ 17041700) }
 {
-    let class = t.class;
     let native = object_len(w, n, t.object, objects);
-    if class == 0 {
-        return 2 * native;
-    }
     let size = 48 * n;
-    native + class_len(&w[size..], 4 * n, class - 1)
+    match t.class {
+        Some(i) => native + class_len(&w[size..], 4 * n, i),
+        None => 2 * native,
+    }
+}
+
+// One more than a number, or 0 for none: how the buffer keeps it.
+fn kept(number: Option<usize>) -> usize
+    requires { one_more number < 2 ^ 64 }
+    ensures { result ≡ one_more number }
+{
+    match number {
+        Some(i) => i + 1,
+        None => 0,
+    }
 }
 
 // Keeps where a row leads, at its place.
@@ -136,7 +147,7 @@ fn resolve_row(w: &mut [u8], n: usize, r: usize, lookups: usize, objects: usize)
     let at = w.len() - 32 * (r + 1);
     let t = target_of(w, n, get64(w, at), get64(w, at + 8), lookups);
     let len = target_len(w, n, t, objects);
-    keep(w, at, t.class, object_of(w, n, t.object));
+    keep(w, at, kept(t.class), object_of(w, n, t.object));
     len
 }
 
@@ -149,10 +160,8 @@ pub fn resolve_all(w: &mut [u8], n: usize, rows: usize, lookups: usize, objects:
     ensures marks { MarksKept n rows w.old w.new }
 {
     let mut total: usize = 0;
-    let mut r: usize = 0;
-    while r < rows {
+    for r in 0..rows {
         total += resolve_row(w, n, r, lookups, objects);
-        r += 1;
     }
     total
 }

@@ -9,7 +9,8 @@ use Rattle.lower.specs.Lower.{lower}
 use Rattle.lower.specs.SearchLaws.{every}
 use Rattle.rules.specs.LatinLaws.{lower_ascii_lem}
 use Rattle.rules.specs.Caseless.{caseless}
-use Rattle.rules.specs.QuickLaws.{outside, lower-gap, or_cases}
+use Rattle.lower.proofs.LowerLaws.{or_cases}
+use Rattle.rules.specs.QuickLaws.{outside, lower-gap}
 
 -- no first of the table lies in the three ranges
 first-gap : every (outside 0x590 0x10A0) pairs ≡ true

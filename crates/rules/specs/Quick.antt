@@ -1,5 +1,5 @@
 -- Lowering with no table at hand, where a short rule says how. Assumes nothing.
-use Rattle.std.specs.Prelude.{Bool, false, cond, ◌&&◌, ◌||◌, List, [], ◌∷◌, ℕ, leb, ltb}
+use Rattle.std.specs.Prelude.{Bool, false, cond, ◌&&◌, ◌||◌, List, [], ◌∷◌, ℕ, Option, Some, None, eqb, leb, ltb}
 use Rattle.lower.specs.Lower.{lower}
 
 -- whether c lies in one of some ranges, each from its first up to and without its second
@@ -23,3 +23,7 @@ asks c = among askers c
 unfoldable pub quick : ℕ → ℕ
 unfolding asks lower
 quick c = cond (asks c) 0x110000 (lower c)
+
+-- the same as the code has it: nothing where the table is asked
+abbrev pub asked : ℕ → Option ℕ
+asked n = cond (eqb n 0x110000) None (Some n)

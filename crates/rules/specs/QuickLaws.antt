@@ -1,16 +1,16 @@
 -- Laws of lowering by rules: a run of characters under one rule by one computed test over the run, a gap between the table's firsts by one
 -- over the table. Assumes nothing.
-use Rattle.std.specs.Prelude.{◌≡◌, refl, Bool, true, false, cond, ◌&&◌, ◌||◌, List, [], ◌∷◌, ◌⊎◌, ℕ, zero, suc, ◌+◌, ◌%◌, ◌≤◌, ◌<◌, eqb, leb, ltb}
-use Rattle.std.proofs.Common.{◌∙◌, inl, inr, arith, eqb-true, le-ltb, leb-true, ltb-true}
-use Rattle.std.proofs.Math.Bool.{and-eq-true_iff}
+use Rattle.std.specs.Prelude.{◌≡◌, refl, Bool, true, false, cond, Some, None, ◌&&◌, ◌||◌, List, [], ◌∷◌, ◌⊎◌, ℕ, zero, suc, ◌+◌, ◌%◌, ◌≤◌, ◌<◌, eqb, leb, ltb}
+use Rattle.std.proofs.Common.{◌∙◌, inl, inr, arith, eqb-true, ne_eqb, le-ltb, leb-true, ltb-true}
+use Rattle.std.proofs.Math.Bool.{and-eq-true_iff, and-false}
 use Rattle.std.proofs.Math.Logic.{by_cases}
 use Rattle.std.proofs.Math.Decide.{dec_lt}
 use Rattle.std.proofs.lemmas.Bool.{lt-leb}
 use Rattle.lower.specs.Table.{pairs}
 use Rattle.lower.specs.Lower.{lower, second_of}
-use Rattle.rules.specs.Quick.{among, askers, asks, quick}
+use Rattle.rules.specs.Quick.{among, askers, asks, quick, asked}
 use Rattle.lower.specs.SearchLaws.{every, second-every}
-use Rattle.lower.proofs.LowerLaws.{lower-is}
+use Rattle.lower.proofs.LowerLaws.{lower-is, lower-single, or_cases}
 
 -- ---- rules
 
@@ -57,14 +57,6 @@ agree_at g f a (suc n) e c l h =
 unfoldable pub outside : ℕ → ℕ → ℕ → ℕ → Bool
 outside a b p q = ltb p a || leb b p
 
-pub or_cases : (x y : Bool) → (x || y) ≡ true → (x ≡ true) ⊎ (y ≡ true)
-or_cases true y e = inl refl
-or_cases false y e = inr e
-
-pub or_false : (x : Bool) → (x || false) ≡ x
-or_false true = refl
-or_false false = refl
-
 -- where no first of the table lies in a range, its characters stay
 pub lower-gap : (a b : ℕ) → every (outside a b) pairs ≡ true → (c : ℕ) → a ≤ c → c < b → lower c ≡ c
 unfolding outside
@@ -82,10 +74,6 @@ lower-gap a b e c l h = rw (lower-is c) (go (second-every (outside a b) pairs e 
 unfoldable pub away : ℕ → ℕ → List (ℕ × ℕ) → Bool
 away a b [] = true
 away a b (r ∷ rs) = (leb b r.0 || leb r.1 a) && away a b rs
-
-and-false : (x : Bool) → (x && false) ≡ false
-and-false true = refl
-and-false false = refl
 
 among-away : (a b : ℕ) (rs : List (ℕ × ℕ)) → away a b rs ≡ true → (c : ℕ) → a ≤ c → c < b → among rs c ≡ false
 unfolding away among
@@ -114,6 +102,33 @@ not-asked false e l = e
 
 pub quick-answer : (c : ℕ) {r : ℕ} → r ≡ quick c → r < 0x110000 → r ≡ lower c
 quick-answer c e l = not-asked (asks c) (e ∙ quick-is c) l
+
+-- what the code answers: by a rule, and where the table is asked
+pub ruled : {m n : ℕ} → m ≡ n → n < 0x110000 → Some n ≡ asked m
+ruled {m} {n} e l = rw (e, ne_eqb n 0x110000 (λ q. omega arith))
+
+pub tabled : {m : ℕ} → m ≡ 0x110000 → None ≡ asked m
+tabled e = rw e
+
+-- such an answer is the lower-case form
+pub quick-some : (c : ℕ) {r : ℕ} → Some r ≡ asked (quick c) → r ≡ lower c
+quick-some c {r} e = go (asks c) (rw (quick-is c) at e)
+  where
+    go : (t : Bool) → Some r ≡ asked (cond t 0x110000 (lower c)) → r ≡ lower c
+    go true e = cc
+    go false e = some (eqb (lower c) 0x110000) e
+      where
+        some : (b : Bool) → Some r ≡ cond b None (Some (lower c)) → r ≡ lower c
+        some true e = cc
+        some false e = cc
+
+-- the answer, of a character of one unit
+pub asked-is : (c : ℕ) → c < 0x10000 → asked (quick c) ≡ cond (asks c) None (Some (lower c))
+asked-is c h = rw (quick-is c) (go (asks c))
+  where
+    go : (t : Bool) → asked (cond t 0x110000 (lower c)) ≡ cond t None (Some (lower c))
+    go true = refl
+    go false = rw (ne_eqb (lower c) 0x110000 (λ q. omega (arith, lower-single c h)))
 
 pub quick-away : (a b : ℕ) → away a b askers ≡ true → Run quick lower a b
 quick-away a b e c l h = rw (quick-is c, asks-away a b e c l h)

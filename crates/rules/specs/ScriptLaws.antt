@@ -7,7 +7,8 @@ use Rattle.std.proofs.Math.Decide.{dec_lt}
 use Rattle.lower.specs.Ascii.{lower_ascii}
 use Rattle.lower.specs.Lower.{lower}
 use Rattle.rules.specs.Quick.{among}
-use Rattle.rules.specs.QuickLaws.{agree, agree_at, or_cases}
+use Rattle.lower.proofs.LowerLaws.{or_cases}
+use Rattle.rules.specs.QuickLaws.{agree, agree_at}
 use Rattle.rules.specs.Caseless.{caseless}
 use Rattle.rules.specs.CaselessLaws.{caseless-lower}
 use Rattle.rules.specs.Scripts.{

@@ -6,23 +6,8 @@ ghost use Rattle.rules.specs.Caseless.{caseless};
 pub fn is_caseless(u: u32) -> bool
     ensures { result ≡ caseless u }
 {
-    if u < 0x80 {
-        return true;
-    }
-    if u < 0x590 {
-        return false;
-    }
-    if u < 0x10A0 {
-        return true;
-    }
-    if u < 0x2CF3 {
-        return false;
-    }
-    if u < 0xA640 {
-        return true;
-    }
-    if u < 0xA7F6 {
-        return false;
-    }
-    u < 0xD800
+    (u < 0x80)
+        | (0x590..0x10A0).contains(&u)
+        | (0x2CF3..0xA640).contains(&u)
+        | (0xA7F6..0xD800).contains(&u)
 }

@@ -3,6 +3,7 @@
 
 #![tactic(auto)]
 
+pub mod script; // a script block with notes of its names
 pub mod check; // the packages' blocks, in order
 pub mod objects; // the class test
 pub mod repeats; // question 24

@@ -1,5 +1,5 @@
 -- What an accepted script block holds, and where: the tie of its reading to its layout.
-use Rattle.std.specs.Prelude.{◌≡◌, refl, List, [], ◌++◌, ℕ, ◌+◌, ◌*◌, ◌-◌, ◌≤◌, ◌<◌, eqb, length, get_or}
+use Rattle.std.specs.Prelude.{◌≡◌, refl, List, [], ◌++◌, ℕ, ◌+◌, ◌*◌, ◌-◌, ◌≤◌, ◌<◌, eqb, length, get_or, Ok, Err}
 use Rattle.std.proofs.Common.{sym, ◌∙◌, ap, arith, eqb-true}
 use Rattle.base.specs.Never.{never}
 use Rattle.text.specs.Name.{base, suffix}
@@ -17,23 +17,22 @@ use Rattle.scriptblock.specs.ScriptFaults.{entry_of, no_fault, fresh-all, clear-
 use Rattle.scriptblock.specs.ScriptLaws.{objects_at}
 use Rattle.scriptblock.proofs.ScriptLaws.{opening-got, rest-is, run-script}
 use Rattle.scriptblock.specs.declared.script.Layout.{Layout}
-use Rattle.scriptblock.specs.declared.script.Script.TheVariants.{Accepted, Rejected}
 pub use Rattle.scriptblock.specs.ScriptAccepted.{ScriptParts}
 
 -- an answer says what the reading came to
-pub accepted-objects : (x : Out Objects) {l : Layout} → script_answer x ≡ Accepted l → (o : Objects) × (x ≡ gives o) × (o.layout ≡ l)
+pub accepted-objects : (x : Out Objects) {l : Layout} → script_answer x ≡ Ok l → (o : Objects) × (x ≡ gives o) × (o.layout ≡ l)
 unfolding script_answer
 accepted-objects (gives o) q = (o, refl, cc)
 accepted-objects (refused r) q = never (cc)
 
-pub rejected-objects : (x : Out Objects) {r : ℕ} → script_answer x ≡ Rejected r → x ≡ refused r
+pub rejected-objects : (x : Out Objects) {r : ℕ} → script_answer x ≡ Err r → x ≡ refused r
 unfolding script_answer
 rejected-objects (refused r) q = cc
 rejected-objects (gives o) q = never (cc)
 
 -- and what it came to has these parts
 module _ {x : Out Objects} {o : Objects} (q : x ≡ gives o) where
-  pub answer_of : script_answer x ≡ Accepted o.layout
+  pub answer_of : script_answer x ≡ Ok o.layout
   unfolding script_answer
   answer_of = rw q
 
@@ -45,7 +44,7 @@ module _ {x : Out Objects} {o : Objects} (q : x ≡ gives o) where
   unfolding object_names
   names_of_lem = rw q
 
-pub script-parts : (b : List ℕ) (l : Layout) → script_answer (run script 0 b) ≡ Accepted l → ScriptParts b l
+pub script-parts : (b : List ℕ) (l : Layout) → script_answer (run script 0 b) ≡ Ok l → ScriptParts b l
 unfolding script
 script-parts b l q = go (walk script b 0) refl
   where
@@ -106,7 +105,7 @@ module _ (b : List ℕ) (l : Layout) (p : ScriptParts b l) where
     object_name_lem o q = rw (← names_of_lem q, name-text (entry_of b l i).index (p.index i h))
 
 -- an entry that the accepted block lists: where it is, and that it is the one there
-pub listed : (b : List ℕ) (l : Layout) (i : ℕ) → script_answer (run script 0 b) ≡ Accepted l → i < length (entries_of (run script 0 b))
+pub listed : (b : List ℕ) (l : Layout) (i : ℕ) → script_answer (run script 0 b) ≡ Ok l → i < length (entries_of (run script 0 b))
     → (l.entries + 32 * i + 32 ≤ length b) × (get_or (entries_of (run script 0 b)) i no_entry ≡ entry_of b l i)
 listed b l i q h =
     let p = script-parts b l q in

@@ -1,6 +1,6 @@
 -- All that a caller needs of an accepted script block, in one place: what was read of it, how much of it there is, what its names' places
 -- hold, and which entry has a global index. Assumes nothing.
-use Rattle.std.specs.Prelude.{◌≡◌, refl, List, ℕ, ◌+◌, ◌*◌, ◌<◌, length, get_or}
+use Rattle.std.specs.Prelude.{◌≡◌, refl, List, ℕ, ◌+◌, ◌*◌, ◌<◌, length, get_or, Ok}
 use Rattle.std.proofs.Common.{sym, ◌∙◌, ap, arith, eqb-true, eq-eqb, ne_eqb}
 use Rattle.std.proofs.lemmas.Bool.{eqb-false}
 use Rattle.base.specs.Reading.{gives, run}
@@ -12,15 +12,14 @@ use Rattle.scriptblock.proofs.ScriptAccepted.{accepted-objects, answer_of, entri
 use Rattle.scriptblock.specs.Objects.{entry_number}
 use Rattle.scriptblock.specs.declared.script.Entry.{Entry}
 use Rattle.scriptblock.specs.declared.script.Layout.{Layout}
-use Rattle.scriptblock.specs.declared.script.Script.TheVariants.{Accepted}
 pub use Rattle.scriptblock.specs.ScriptFacts.{ScriptFacts}
 
-module _ (b : List ℕ) (l : Layout) (acc : script_answer (run script 0 b) ≡ Accepted l) where
+module _ (b : List ℕ) (l : Layout) (acc : script_answer (run script 0 b) ≡ Ok l) where
   -- the facts of what is known to have been read
   pub objects-facts : (o : Objects) → run script 0 b ≡ gives o → ScriptFacts b l o
   objects-facts o q =
       let p = script-parts b l acc in
-      let e : o.layout ≡ l = let z : Accepted o.layout ≡ Accepted l = sym (answer_of q) ∙ acc in cc in
+      let e : o.layout ≡ l = let z : Ok o.layout ≡ Ok l = sym (answer_of q) ∙ acc in cc in
       let x = entries_of_lem q in
       let n = names_of_lem q in
       let at : (i : ℕ) → i < l.count → entry_at b (l.entries + 32 * i) ≡ get_or o.entries i no_entry = λ i h. sym (rw x at (entry-is b l p i h)) in

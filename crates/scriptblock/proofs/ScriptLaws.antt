@@ -1,5 +1,5 @@
 -- Laws of the script block by position: its entries, what is asked before them, and its answer in two steps.
-use Rattle.std.specs.Prelude.{◌≡◌, refl, List, [], ◌∷◌, Bool, true, false, cond, ℕ, zero, suc, ◌+◌, ◌*◌, ◌-◌, ◌≤◌, ◌<◌, leb, ltb, eqb, length, take, drop}
+use Rattle.std.specs.Prelude.{◌≡◌, refl, List, [], ◌∷◌, Bool, true, false, cond, ℕ, zero, suc, ◌+◌, ◌*◌, ◌-◌, ◌≤◌, ◌<◌, leb, ltb, eqb, length, take, drop, Ok, Err}
 use Rattle.std.proofs.Common.{sym, ◌∙◌, arith, mul-suc, lit≤}
 use Rattle.std.proofs.Math.Path.{ap}
 use Rattle.std.proofs.Math.Decide.{dec_lt}
@@ -20,13 +20,10 @@ use Rattle.batch.specs.BatchAnswers.{batched}
 use Rattle.batch.specs.BatchAnswersLaws.{batched-refused}
 use Rattle.batch.specs.FoundBatch.{FoundAt, found_by_lem, found_end}
 use Rattle.batch.specs.declared.names.Names.{Names}
-use Rattle.batch.specs.declared.names.NameBatch.TheVariants.{Refused}
 use Rattle.scriptblock.specs.Script.{entry, fresh, entries_on, entries, Start, opening, Objects, script}
 use Rattle.scriptblock.specs.ScriptAnswers.{opened_by, opened, entry_at, fault_of, fault_on, fault_at, answer_by, script_answer}
 use Rattle.scriptblock.specs.declared.script.Entry.{Entry}
 use Rattle.scriptblock.specs.declared.script.Layout.{Layout}
-use Rattle.scriptblock.specs.declared.script.Opened.TheVariants.{Open, Shut}
-use Rattle.scriptblock.specs.declared.script.Script.TheVariants.{Accepted, Rejected}
 pub use Rattle.scriptblock.specs.ScriptLaws.{Opening, layout_at, objects_at}
 
 -- an entry that is there
@@ -86,7 +83,7 @@ unfolding entries
 entries-is s names n from h = entries_on-is s names n [] from h
 
 module _ (b : List ℕ) where
-  pub opened-refused : {r : ℕ} → batched (walk batch b 0) ≡ Refused r → opened b ≡ Shut r
+  pub opened-refused : {r : ℕ} → batched (walk batch b 0) ≡ Err r → opened b ≡ Err r
   unfolding opened opened_by opening
   opened-refused q = ap opened_by (then-bad batch _ b 0 (batched-refused (walk batch b 0) q))
 
@@ -111,21 +108,21 @@ module _ (b : List ℕ) where
         ask-is (non_neg (twos 32 count)) 8 _ b (n.«end» + 4) ∙ pick_cong (non_neg (twos 32 count)) (bad 8) λ c.
         ask-is (leb (32 * count) (length b - (n.«end» + 4))) 9 _ b (n.«end» + 4))
 
-    pub opened-short : length b < n.«end» + 4 → opened b ≡ Shut 3
+    pub opened-short : length b < n.«end» + 4 → opened b ≡ Err 3
     unfolding opened opened_by
     opened-short h = rw (opening-is, lt-leb (n.«end» + 4) (length b) h)
 
     module _ (h : n.«end» + 4 ≤ length b) where
-      pub opened-negative : non_neg (twos 32 (le_at 4 b n.«end»)) ≡ false → opened b ≡ Shut 8
+      pub opened-negative : non_neg (twos 32 (le_at 4 b n.«end»)) ≡ false → opened b ≡ Err 8
       unfolding opened opened_by
       opened-negative q = rw (opening-is, le-leb (n.«end» + 4) (length b) h, q)
 
       module _ (q : non_neg (twos 32 (le_at 4 b n.«end»)) ≡ true) where
-        pub opened-few : length b < n.«end» + 4 + 32 * le_at 4 b n.«end» → opened b ≡ Shut 9
+        pub opened-few : length b < n.«end» + 4 + 32 * le_at 4 b n.«end» → opened b ≡ Err 9
         unfolding opened opened_by
         opened-few l = rw (opening-is, le-leb (n.«end» + 4) (length b) h, q, lt-leb (32 * le_at 4 b n.«end») (length b - (n.«end» + 4)) (omega arith))
 
-        pub opened-there : n.«end» + 4 + 32 * le_at 4 b n.«end» ≤ length b → opened b ≡ Open (layout_at b n)
+        pub opened-there : n.«end» + 4 + 32 * le_at 4 b n.«end» ≤ length b → opened b ≡ Ok (layout_at b n)
         unfolding opened opened_by
         opened-there l = rw (opening-is, le-leb (n.«end» + 4) (length b) h, q, le-leb (32 * le_at 4 b n.«end») (length b - (n.«end» + 4)) (omega arith))
 
@@ -147,11 +144,11 @@ opening-got b o at q =
     rw x at z
 
 -- what is open: its entries are there
-pub open_fits : (b : List ℕ) {l : Layout} → opened b ≡ Open l → l.entries + 32 * l.count ≤ length b
+pub open_fits : (b : List ℕ) {l : Layout} → opened b ≡ Ok l → l.entries + 32 * l.count ≤ length b
 unfolding opened opened_by
 open_fits b {l} q = go (walk opening b 0) refl q
   where
-    go : (g : Got Start) → walk opening b 0 ≡ g → opened_by g ≡ Open l → l.entries + 32 * l.count ≤ length b
+    go : (g : Got Start) → walk opening b 0 ≡ g → opened_by g ≡ Ok l → l.entries + 32 * l.count ≤ length b
     go (bad r) e q = never (cc)
     go (got o n) e q = let z : o.layout ≡ l = cc in rw z at (opening-got b o n e).fits
 
@@ -186,14 +183,14 @@ unfolding opened opened_by answer_by script_answer script
 script-is b = rw (run-script b) (go (walk opening b 0) refl)
   where
     left : (o : Start) (n : ℕ) → Dec (n < length b)
-        → script_answer (out (pick (eqb (length b - n) 0) (got (objects_at b o) n) (bad 13))) ≡ cond (ltb n (length b)) (Rejected 13) (Accepted o.layout)
+        → script_answer (out (pick (eqb (length b - n) 0) (got (objects_at b o) n) (bad 13))) ≡ cond (ltb n (length b)) (Err 13) (Ok o.layout)
     left o n (yes u) = rw (ne_eqb (length b - n) 0 (λ e. omega arith), lt-ltb n (length b) u)
     left o n (no u) = rw (eq-eqb (length b - n) 0 (omega arith), le-ltb n (length b) (omega arith))
 
     two : (t : Bool) (o : Start) (r : ℕ)
         → script_answer (out (pick t
         (pick (eqb (length b - (o.layout.entries + 32 * o.layout.count)) 0) (got (objects_at b o) (o.layout.entries + 32 * o.layout.count))
-        (bad 13)) (bad r))) ≡ cond t (cond (ltb (o.layout.entries + 32 * o.layout.count) (length b)) (Rejected 13) (Accepted o.layout)) (Rejected r)
+        (bad 13)) (bad r))) ≡ cond t (cond (ltb (o.layout.entries + 32 * o.layout.count) (length b)) (Err 13) (Ok o.layout)) (Err r)
     two true o r = left o (o.layout.entries + 32 * o.layout.count) (dec_lt (o.layout.entries + 32 * o.layout.count) (length b))
     two false o r = refl
 
@@ -203,20 +200,20 @@ script-is b = rw (run-script b) (go (walk opening b 0) refl)
 
 -- the same, answer by answer
 module _ (b : List ℕ) where
-  pub script-shut : {r : ℕ} → opened b ≡ Shut r → script_answer (run script 0 b) ≡ Rejected r
+  pub script-shut : {r : ℕ} → opened b ≡ Err r → script_answer (run script 0 b) ≡ Err r
   unfolding answer_by
   script-shut q = script-is b ∙ rw q
 
-  module _ {l : Layout} (q : opened b ≡ Open l) where
-    pub script-fault : (fault_at b l ≡ 0 → ⊥) → script_answer (run script 0 b) ≡ Rejected (fault_at b l)
+  module _ {l : Layout} (q : opened b ≡ Ok l) where
+    pub script-fault : (fault_at b l ≡ 0 → ⊥) → script_answer (run script 0 b) ≡ Err (fault_at b l)
     unfolding answer_by
     script-fault n = script-is b ∙ rw (q, ne_eqb (fault_at b l) 0 n)
 
     module _ (f : fault_at b l ≡ 0) where
-      pub script-left : l.entries + 32 * l.count < length b → script_answer (run script 0 b) ≡ Rejected 13
+      pub script-left : l.entries + 32 * l.count < length b → script_answer (run script 0 b) ≡ Err 13
       unfolding answer_by
       script-left h = script-is b ∙ rw (q, f, lt-ltb (l.entries + 32 * l.count) (length b) h)
 
-      pub script-accepted : length b ≤ l.entries + 32 * l.count → script_answer (run script 0 b) ≡ Accepted l
+      pub script-accepted : length b ≤ l.entries + 32 * l.count → script_answer (run script 0 b) ≡ Ok l
       unfolding answer_by
       script-accepted h = script-is b ∙ rw (q, f, le-ltb (l.entries + 32 * l.count) (length b) h)

@@ -1,51 +1,61 @@
--- The search for the entry with a global index: what is to be found of the entries that are left is what is to be found of all.
-use mathlib.Core.Path.{◌≡◌, sym, ◌∙◌, ap}
+-- The search for an entry with a global index, by number.
+use Rattle.std.specs.Prelude.{Ok, Option, Some, None, Bool, true, false}
+use Rattle.std.specs.Bool.{MatchBool}
+use Rattle.std.specs.Option.{MatchOption}
+use Rattle.std.specs.List.{range_with_len, AllWithin, HoldsAt}
+use Rattle.std.proofs.lemmas.List.FromFn.{length-range_with_len, get_or-range_with_len}
+use mathlib.Core.Path.{◌≡◌, sym, ◌∙◌}
 use mathlib.Core.List.{List}
-use Prim.Native.Nat.{ℕ, ◌+◌, ◌*◌, ◌-◌, ◌≤◌, ◌<◌}
-use native.Mathlib.Nat.{sub-zero}
+use Prim.Native.Nat.{ℕ, ◌+◌, ◌*◌, ◌≤◌, ◌<◌}
+use native.Mathlib.Numerals.{add-one}
 use native.Mathlib.Omega.{arith}
-use borrow.Author.Tests.{eq-eqb, ne_eqb}
-use lib.Dec.{eqb}
-use lib.ListN.{length}
+use lib.ListN.{length, get_or}
 use Rattle.base.specs.Number.{le_at}
+use Rattle.base.specs.OneMore.{one_more}
 use Rattle.base.specs.Reading.{run}
-use Rattle.base.specs.ReadingRows.{cells}
-use Rattle.base.specs.Seek.{seek_from}
-use Rattle.base.specs.SeekLaws.{cells-none, cells-here, cells-next}
 use Rattle.scriptblock.specs.Script.{script}
-use Rattle.scriptblock.specs.ScriptAnswers.{entry_at, script_answer, entries_of}
-use Rattle.scriptblock.proofs.ScriptAccepted.{script-parts}
+use Rattle.scriptblock.specs.ScriptAnswers.{entry_at, fresh_at, script_answer, entries_of}
+use Rattle.scriptblock.specs.ScriptFaults.{all-fresh, fresh-seen}
+use Rattle.scriptblock.proofs.ScriptAccepted.{script-parts, entry-count, entry-is}
+use Rattle.scriptblock.proofs.ScriptFacts.{none_number, is_number}
 use Rattle.scriptblock.specs.Objects.{entry_number}
-use Rattle.scriptblock.specs.declared.script.Entry.{Entry}
 use Rattle.scriptblock.specs.declared.script.Layout.{Layout}
-use Rattle.scriptblock.specs.declared.script.Script.TheVariants.{Accepted}
 
-pub record Seeking (b : List ℕ) (l : Layout) (g at i : ℕ) : Type 0 where
-  pub room : at + 32 * (l.count - i) ≤ length b
-  pub is : entry_number g (entries_of (run script 0 b)) ≡ seek_from i (λ (e : Entry). eqb e.global g) (cells (entry_at b) 32 at (l.count - i))
+-- `all` over a range from 0, said of the numbers in it and not of a list
+pub all_in_range : (n : ℕ) (r : Bool) (Yes No : ℕ → Type 0)
+    → MatchBool r (AllWithin Yes (range_with_len 0 n) 0 (length (range_with_len 0 n)))
+    ((k : ℕ) × (k < length (range_with_len 0 n)) × HoldsAt No (range_with_len 0 n) k)
+    → MatchBool r ((k : ℕ) → k < n → Yes k) ((k : ℕ) × (k < n) × No k)
+all_in_range n true Yes No h = λ k l.
+    let e : get_or (range_with_len 0 n) k 0 ≡ k = omega (arith, get_or-range_with_len 0 n k 0 l) in
+    rw e at (h k 0 (omega arith) (omega (arith, length-range_with_len 0 n)))
+all_in_range n false Yes No h =
+    let l : h.0 < n = omega (arith, length-range_with_len 0 n, h.1) in
+    let e : get_or (range_with_len 0 n) h.0 0 ≡ h.0 = omega (arith, get_or-range_with_len 0 n h.0 0 l) in
+    (h.0, l, rw e at (h.2 0))
 
-pub seeking_first : (b : List ℕ) (l : Layout) (g : ℕ) → script_answer (run script 0 b) ≡ Accepted l → Seeking b l g l.entries 0
-seeking_first b l g acc =
-    let p = script-parts b l acc in
-    record { room = omega (arith, p.size); is = rw (p.entries, sub-zero l.count) }
+module _ (b : List ℕ) (g : ℕ) where
+  -- whether an entry's global index is another
+  pub fresh_is : (from n : ℕ) (r : Bool)
+      → MatchBool r ((k : ℕ) → k < n → le_at 8 b (from + 32 * k + 8) ≡ g → ⊥)
+      ((k : ℕ) × (k < n) × (le_at 8 b (from + 32 * k + 8) ≡ g)) → r ≡ fresh_at b from n g
+  unfolding entry_at
+  fresh_is from n true h = sym (all-fresh b from n g h)
+  fresh_is from n false h = sym (fresh-seen b from n g h.0 h.1 h.2)
 
-module _ {b : List ℕ} {l : Layout} {g at i : ℕ} (s : Seeking b l g at i) where
-  -- none is left
-  pub seeking_end : l.count ≤ i → 0 ≡ entry_number g (entries_of (run script 0 b))
-  seeking_end h = sym (s.is ∙ cells-none _ (entry_at b) 32 i at (l.count - i) (omega arith))
-
-  module _ (h : i < l.count) where
-    -- it has the index
-    pub seeking_here : le_at 8 b (at + 8) ≡ g → i + 1 ≡ entry_number g (entries_of (run script 0 b))
-    unfolding entry_at
-    seeking_here e = sym (s.is ∙ cells-here _ (entry_at b) 32 i at (l.count - i) (omega arith) (eq-eqb (le_at 8 b (at + 8)) g e))
-
-    -- it has not
-    pub seeking_next : (le_at 8 b (at + 8) ≡ g → ⊥) → Seeking b l g (at + 32) (i + 1)
-    unfolding entry_at
-    seeking_next n =
-        let e : l.count - i - 1 ≡ l.count - (i + 1) = omega arith in
-        record {
-          room = omega (arith, s.room);
-          is = s.is ∙ (cells-next _ (entry_at b) 32 i at (l.count - i) (omega arith) (ne_eqb (le_at 8 b (at + 8)) g n) ∙ ap (λ k. seek_from (i + 1) (λ (e : Entry). eqb e.global g) (cells (entry_at b) 32 (at + 32) k)) e);
-        }
+  -- the first entry with it
+  pub number_found : (l : Layout) → script_answer (run script 0 b) ≡ Ok l → (r : Option ℕ)
+      → MatchOption r ((k : ℕ) → 0 ≤ k → k < l.count → le_at 8 b (l.entries + 32 * k + 8) ≡ g → ⊥)
+      (λ i. (0 ≤ i) × (i < l.count) × (le_at 8 b (l.entries + 32 * i + 8) ≡ g) × ((k : ℕ) → 0 ≤ k → k < i → le_at 8 b (l.entries + 32 * k + 8) ≡ g → ⊥))
+      → one_more r ≡ entry_number g (entries_of (run script 0 b))
+  unfolding entry_at
+  number_found l acc None h =
+      let p = script-parts b l acc in
+      sym (none_number g (entries_of (run script 0 b)) λ i a e.
+      let k : i < l.count = rw (entry-count b l p) at a in
+      h i (omega arith) k (rw (entry-is b l p i k) at e))
+  number_found l acc (Some i) h =
+      let p = script-parts b l acc in
+      let is = is_number g (entries_of (run script 0 b)) i (rw (entry-count b l p) h.1) (rw (entry-is b l p i h.1) h.2) (λ j a e.
+      h.3 j (omega arith) a (rw (entry-is b l p j (omega (arith, h.1))) at e)) in
+      sym (is ∙ add-one i)

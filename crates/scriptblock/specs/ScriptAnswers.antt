@@ -1,5 +1,5 @@
 -- The script block's answers: in two steps, so that whoever has a look-up table asks 12 with it. Assumes nothing.
-use Rattle.std.specs.Prelude.{Bool, cond, List, [], ◌∷◌, ℕ, ◌+◌, ◌*◌, ltb, eqb, length}
+use Rattle.std.specs.Prelude.{Bool, cond, List, [], ◌∷◌, ℕ, ◌+◌, ◌*◌, ltb, eqb, length, Result, Ok, Err}
 use Rattle.base.specs.Index.{kind}
 use Rattle.base.specs.Number.{le_at}
 use Rattle.base.specs.Reading.{Out, refused, gives, Got, bad, got, walk}
@@ -8,17 +8,13 @@ use Rattle.batch.specs.Field.{low30}
 use Rattle.scriptblock.specs.Script.{Start, opening, Objects, fresh}
 use Rattle.scriptblock.specs.declared.script.Entry.{Entry}
 use Rattle.scriptblock.specs.declared.script.Layout.{Layout}
-use Rattle.scriptblock.specs.declared.script.Opened.{Opened}
-use Rattle.scriptblock.specs.declared.script.Opened.TheVariants.{Open, Shut}
-use Rattle.scriptblock.specs.declared.script.Script.{Script}
-use Rattle.scriptblock.specs.declared.script.Script.TheVariants.{Accepted, Rejected}
 
 -- what is asked before the entries: questions 3 to 9
-unfoldable pub opened_by : Got Start → Opened
-opened_by (bad r) = Shut r
-opened_by (got o n) = Open o.layout
+unfoldable pub opened_by : Got Start → Result Layout ℕ
+opened_by (bad r) = Err r
+opened_by (got o n) = Ok o.layout
 
-unfoldable pub opened : List ℕ → Opened
+unfoldable pub opened : List ℕ → Result Layout ℕ
 opened s = opened_by (walk opening s 0)
 
 -- the entry at a position
@@ -44,13 +40,13 @@ unfoldable pub fault_at : List ℕ → Layout → ℕ
 fault_at s l = fault_on l.names.count [] (cells (entry_at s) 32 l.entries l.count)
 
 -- the answer from what is asked before the entries on: an entry's first fault, then whether nothing is left? 13
-unfoldable pub answer_by : List ℕ → Opened → Script
-answer_by s (Shut r) = Rejected r
-answer_by s (Open l) = cond (eqb (fault_at s l) 0) (cond (ltb (l.entries + 32 * l.count) (length s)) (Rejected 13) (Accepted l)) (Rejected (fault_at s l))
+unfoldable pub answer_by : List ℕ → Result Layout ℕ → Result Layout ℕ
+answer_by s (Err r) = Err r
+answer_by s (Ok l) = cond (eqb (fault_at s l) 0) (cond (ltb (l.entries + 32 * l.count) (length s)) (Err 13) (Ok l)) (Err (fault_at s l))
 
-unfoldable pub script_answer : Out Objects → Script
-script_answer (refused r) = Rejected r
-script_answer (gives o) = Accepted o.layout
+unfoldable pub script_answer : Out Objects → Result Layout ℕ
+script_answer (refused r) = Err r
+script_answer (gives o) = Ok o.layout
 
 unfoldable pub entries_of : Out Objects → List Entry
 entries_of (refused r) = []

@@ -1,6 +1,6 @@
 -- All that a caller needs of an accepted script block, in one place: what was read of it, how much of it there is, what its names' places
 -- hold, and which entry has a global index. Assumes nothing.
-use Rattle.std.specs.Prelude.{◌≡◌, List, [], ℕ, ◌+◌, ◌*◌, ◌<◌, length, get_or}
+use Rattle.std.specs.Prelude.{◌≡◌, List, [], ℕ, ◌+◌, ◌*◌, ◌<◌, length, get_or, Ok}
 use Rattle.base.specs.Index.{kind}
 use Rattle.base.specs.NumberLaws.{Bytes}
 use Rattle.base.specs.Reading.{gives, run}
@@ -9,11 +9,10 @@ use Rattle.batch.specs.Holds.{Holds}
 use Rattle.scriptblock.specs.Script.{Objects, script}
 use Rattle.scriptblock.specs.ScriptAnswers.{entry_at, no_entry, script_answer, entries_of, object_names}
 use Rattle.scriptblock.specs.declared.script.Layout.{Layout}
-use Rattle.scriptblock.specs.declared.script.Script.TheVariants.{Accepted}
 
 -- block b is accepted with layout l, and o is what was read of it
 pub record ScriptFacts (b : List ℕ) (l : Layout) (o : Objects) : Type 0 where
-  pub accepted : script_answer (run script 0 b) ≡ Accepted l
+  pub accepted : script_answer (run script 0 b) ≡ Ok l
   pub is : run script 0 b ≡ gives o
   pub layout : o.layout ≡ l
   -- what the accessors speak of

@@ -1,9 +1,9 @@
 -- What holds of the entries of a script block that was read (document 01, questions 10 to 12: "name index in batch? 10; kind 1? 11;
 -- index new? 12"): so far as a caller goes, an index names one object. Assumes nothing.
-use Rattle.std.specs.Prelude.{◌≡◌, ℕ, ◌-◌, ◌<◌, length}
+use Rattle.std.specs.Prelude.{◌≡◌, ℕ, ◌<◌, length}
 use mathlib.Core.List.{List, [], ◌∷◌, Memᴰ}
 use Rattle.base.specs.Index.{kind}
-use Rattle.scriptblock.specs.Script.{Objects, entries}
+use Rattle.scriptblock.specs.Script.{Objects}
 use Rattle.scriptblock.specs.declared.script.Entry.{Entry}
 
 -- no two entries of a list have one global index

@@ -1,10 +1,10 @@
 -- Laws of the script block by position: its entries, what is asked before them, and its answer in two steps.
-use Rattle.std.specs.Prelude.{◌≡◌, List, ℕ, ◌+◌, ◌*◌, ◌-◌, ◌≤◌, length}
+use Rattle.std.specs.Prelude.{◌≡◌, List, ℕ, ◌+◌, ◌*◌, ◌≤◌, length}
 use Rattle.base.specs.Number.{le_at}
 use Rattle.base.specs.ReadingRows.{cells}
 use Rattle.batch.specs.FoundBatch.{FoundAt}
 use Rattle.batch.specs.declared.names.Names.{Names}
-use Rattle.scriptblock.specs.Script.{entries, Start, Objects}
+use Rattle.scriptblock.specs.Script.{Start, Objects}
 use Rattle.scriptblock.specs.ScriptAnswers.{entry_at}
 use Rattle.scriptblock.specs.declared.script.Layout.{Layout}
 

@@ -1,12 +1,15 @@
 // The script block (script.rs).
-ghost use Rattle.std.specs.Prelude.{◌≡◌, ◌+◌, ◌*◌, ◌≤◌, ◌<◌, length, get_or};
+ghost use Rattle.std.specs.Prelude.{◌≡◌, ◌+◌, ◌*◌, ◌≤◌, ◌<◌, length, get_or, Ok};
 ghost use Rattle.base.specs.Reading.{run};
+ghost use Rattle.base.specs.Refusal.{numbered, fault};
 ghost use Rattle.scriptblock.specs.Script.{script};
 ghost use Rattle.scriptblock.specs.ScriptAnswers.{opened, entry_at, fault_of, fresh_at, fault_at, script_answer, entries_of, no_entry};
-ghost use Rattle.scriptblock.specs.declared.script.Script.TheVariants.{Accepted};
 
+use base::index::{Kind, index_kind};
 use base::number::{le32, le64};
-use batch::names::{NameBatch, Names, read_batch};
+use base::refusal::Refusal;
+use base::signed::le_size32;
+use batch::names::{Names, read_batch};
 use batch::reader;
 
 // An entry: its mapped name, its global index, its outer.
@@ -26,46 +29,27 @@ pub struct Layout {
     pub entries: usize,
 }
 
-// What is asked before the entries.
-#[derive(Clone, Copy)]
-pub enum Opened {
-    Open(Layout),
-    Shut(u8),
-}
-
-#[derive(Clone, Copy)]
-pub enum Script {
-    Accepted(Layout),
-    Rejected(u8),
-}
-
 // The questions before the entries: 3 to 9.
-pub fn open_script(b: &[u8]) -> Opened
-    ensures { result ≡ opened b.now }
+pub fn open_script(b: &[u8]) -> Result<Layout, Refusal>
+    ensures { numbered result ≡ opened b.now }
 {
-    match read_batch(b, 0) {
-        NameBatch::Refused(r) => Opened::Shut(r),
-        NameBatch::Found(n) => {
-            let at = n.end;
-            if b.len() - at < 4 {
-                return Opened::Shut(3);
-            }
-            match base::signed::le_size32(b, at) {
-                base::signed::Size::Negative => Opened::Shut(8),
-                base::signed::Size::Of(count) => {
-                    let from = at + 4;
-                    if ((b.len() - from) as u64) / 32 < count {
-                        return Opened::Shut(9);
-                    }
-                    Opened::Open(Layout {
-                        names: n,
-                        count: count as usize,
-                        entries: from,
-                    })
-                }
-            }
-        }
+    let names = read_batch(b, 0)?;
+    let at = names.end;
+    if b.len() - at < 4 {
+        return Err(Refusal::Cut);
     }
+    let Some(count) = le_size32(b, at) else {
+        return Err(Refusal::NegativeCount);
+    };
+    let entries = at + 4;
+    if ((b.len() - entries) as u64) / 32 < count {
+        return Err(Refusal::CountTooLarge);
+    }
+    Ok(Layout {
+        names,
+        count: count as usize,
+        entries,
+    })
 }
 
 // The entry at a position.
@@ -81,17 +65,17 @@ pub fn entry_in(b: &[u8], at: usize) -> Entry
     }
 }
 
-// The first question that an entry by itself fails: 10, 11, or none (0).
-pub fn entry_fault(e: Entry, names: usize) -> u8
-    ensures { result ≡ fault_of e names }
+// The questions of an entry by itself: 10 and 11.
+pub fn check_entry(e: Entry, names: usize) -> Result<(), Refusal>
+    ensures { fault result ≡ fault_of e names }
 {
     if names <= e.index {
-        return 10;
+        return Err(Refusal::NameIndex);
     }
-    if base::index::index_kind(e.global) != 1 {
-        return 11;
+    match index_kind(e.global) {
+        Kind::Script => Ok(()),
+        _ => Err(Refusal::NotAnObject),
     }
-    0
 }
 
 // Whether none of the first n entries has this global index: 12, by looking at each.
@@ -99,61 +83,39 @@ fn is_fresh(b: &[u8], from: usize, n: usize, global: u64) -> bool
     requires { from + 32 * n ≤ length b.now }
     ensures { result ≡ fresh_at b.now from n global }
 {
-    let mut at = from;
-    let mut left = n;
-    while 0 < left {
-        if le64(b, at + 8) == global {
-            return false;
-        }
-        at = at + 32;
-        left = left - 1;
-    }
-    true
+    (0..n).all(|i| le64(b, from + 32 * i + 8) != global)
 }
 
-// The first question that an entry fails, in order: 10, 11, 12, or none (0).
-fn check_entries(b: &[u8], l: Layout) -> u8
+// The questions of the entries, in order: 10, 11, 12.
+fn check_entries(b: &[u8], l: Layout) -> Result<(), Refusal>
     requires { l.entries + 32 * l.count ≤ length b.now }
-    ensures { result ≡ fault_at b.now l }
+    ensures { fault result ≡ fault_at b.now l }
 {
-    let from = l.entries;
-    let mut i: usize = 0;
-    while i < l.count {
-        let e = entry_in(b, from + 32 * i);
-        let fault = entry_fault(e, l.names.count);
-        if fault != 0 {
-            return fault;
+    for i in 0..l.count {
+        let e = entry_in(b, l.entries + 32 * i);
+        check_entry(e, l.names.count)?;
+        if !is_fresh(b, l.entries, i, e.global) {
+            return Err(Refusal::RepeatedObject);
         }
-        if !is_fresh(b, from, i, e.global) {
-            return 12;
-        }
-        i = i + 1;
     }
-    0
+    Ok(())
 }
 
 // The whole block, with no memory besides it.
-pub fn check_script(b: &[u8]) -> Script
-    ensures { result ≡ script_answer (run script 0 b.now) }
+pub fn check_script(b: &[u8]) -> Result<Layout, Refusal>
+    ensures { numbered result ≡ script_answer (run script 0 b.now) }
 {
-    match open_script(b) {
-        Opened::Shut(r) => Script::Rejected(r),
-        Opened::Open(l) => {
-            let fault = check_entries(b, l);
-            if fault != 0 {
-                return Script::Rejected(fault);
-            }
-            if l.entries + 32 * l.count < b.len() {
-                return Script::Rejected(13);
-            }
-            Script::Accepted(l)
-        }
+    let l = open_script(b)?;
+    check_entries(b, l)?;
+    if l.entries + 32 * l.count < b.len() {
+        return Err(Refusal::EntriesLeft);
     }
+    Ok(l)
 }
 
 // Entry i of an accepted block.
 pub fn entry_at(b: &[u8], l: Layout, i: usize) -> Entry
-    requires { (script_answer (run script 0 b.now) ≡ Accepted l) × (i < length (entries_of (run script 0 b.now))) }
+    requires { (script_answer (run script 0 b.now) ≡ Ok l) × (i < length (entries_of (run script 0 b.now))) }
     ensures { result ≡ get_or (entries_of (run script 0 b.now)) i no_entry }
 {
     entry_in(b, l.entries + 32 * i)

@@ -1,5 +1,5 @@
 -- Laws of a row's pieces: a row is its front and its texts. Assumes nothing.
-use Rattle.std.specs.Prelude.{◌≡◌, Bool, true, false, cond, ◌&&◌, ℕ, ◌+◌, ◌≤◌, ◌<◌, eqb}
+use Rattle.std.specs.Prelude.{◌≡◌, Bool, true, false, cond, ◌&&◌, ℕ, ◌+◌, ◌≤◌, ◌<◌, eqb, Option as Maybe}
 use Rattle.std.proofs.Math.Path.{refl, ap}
 use Rattle.std.proofs.Common.{sym, ◌∙◌, length-append}
 use Rattle.std.proofs.Math.Bool.{not}
@@ -30,13 +30,14 @@ use Rattle.packages.specs.RefBytesLaws.{text_any}
 use Rattle.packages.specs.Row.{export_no, row_with, row_in, names_at, RowHolds}
 use Rattle.packages.specs.RowLaws.{row-holds, row-names}
 use Rattle.packages.specs.declared.package.Parts.{Parts}
+use Rattle.packages.specs.declared.rows.Candidate.{Candidate}
 use Rattle.packages.specs.declared.rows.Row.{Row}
 use Rattle.resolve.specs.Rows.{limits_of}
 use Rattle.sections.specs.Written.{is_some, both_texts}
 use Rattle.sections.specs.WrittenLaws.{behind, again}
 use Rattle.sections.specs.Pieces.{row_texts, reference_text, kind_for, row_front, row_no, RowDue, TextsPut}
 use Rattle.resolve.specs.declared.rows.Led.{Led}
-use Rattle.sections.specs.declared.row.Texts.{Texts}
+use Rattle.sections.specs.declared.texts.Texts.{Texts}
 
 -- ---- a row is what stands before its texts, and they
 
@@ -89,15 +90,7 @@ unfolding row_front
 front-size v kind t = simp length-append (omega (arith, length-be_bytes 4 (6 + t.size)))
 
 -- what a candidate's row says of its export
-module _ (b : List ℕ) (p : Parts) (k i : ℕ) where
-  row-kind : (row_in b p k i).kind ≡ k
-  unfolding row_in
-  row-kind = go (outer_of (read_in b) (export_no b i))
-    where
-      go : (u : Option Export) → (row_with b p k (export_no b i) u).kind ≡ k
-      go none = refl
-      go (some u) = refl
-
+module _ (b : List ℕ) (p : Parts) (k : Maybe Candidate) (i : ℕ) where
   row_number : (row_in b p k i).own.number ≡ (export_no b i).number
   unfolding row_in
   row_number = go (outer_of (read_in b) (export_no b i))
@@ -128,7 +121,7 @@ module _ {s b : List ℕ} {n objects : ℕ} {w d : List ℕ} {p : Parts} {v : Ro
   -- ---- the texts
 
   pub due-holds : Bytes d → RowHolds d v
-  due-holds y = rw due.row_is (row-holds a y i due.inside)
+  due-holds y = rw due.row_is (row-holds a y i due.inside v.kind due.kind_is)
 
   due-kind : {kind : ℕ} → kind ≡ kind_by p v.class → kind ≡ ref_kind ref
   due-kind e = e ∙ rw class-is (kind_by_lem a id (export_no d i).class)
@@ -141,7 +134,7 @@ module _ {s b : List ℕ} {n objects : ℕ} {w d : List ℕ} {p : Parts} {v : Ro
       ≡ names_at d v ++ both_texts (limits_of lookups objects) xs o ref ++ reference_text d v.class
   unfolding row_texts row_of
   texts-are y =
-      let e = row-names a y i due.inside in
+      let e = row-names a y i due.inside v.kind due.kind_is in
       rw (reference-is, due.row_is, e) (simp append_assoc)
 
   -- ---- the front
@@ -149,11 +142,10 @@ module _ {s b : List ℕ} {n objects : ℕ} {w d : List ℕ} {p : Parts} {v : Ro
   due-row : {old new : List ℕ} {t : Texts} {kind : ℕ} → kind ≡ kind_by p v.class → TextsPut said old new t → row_bytes said ≡ row_front v kind t ++ row_texts said
   unfolding row_front row_of numbered
   due-row {t = t} {kind = kind} e put =
-      let k : v.kind ≡ candidate_kind (read_in d) (export_no d i) = ap (λ (x : Row). x.kind) due.row_is ∙ row-kind d p _ i in
       let m : v.own.number ≡ (export_no d i).number = ap (λ (x : Row). x.own.number) due.row_is ∙ row_number d p _ i in
       row_is said ∙ rw (
         put.wrote.size,
-        k,
+        due.kind_is,
         m,
         due-kind e,
         put.class,

@@ -10,6 +10,7 @@ use Rattle.meaning.specs.Scan.{Class, candidate_kind}
 use Rattle.meaning.specs.Resolve.{Limits, look, path_text}
 use Rattle.meaning.specs.Report.{Row as Said, or_unknown, row_version, row_of}
 use Rattle.objects.specs.Work.{one_if}
+use Rattle.packages.specs.Kinds.{candidate_number}
 use Rattle.packages.specs.Package.{read_in, package_in}
 use Rattle.packages.specs.RefBytes.{ref_bytes}
 use Rattle.packages.specs.Row.{export_no, row_in}
@@ -18,7 +19,7 @@ use Rattle.packages.specs.declared.rows.Row.{Row}
 use Rattle.resolve.specs.Rows.{limits_of}
 use Rattle.sections.specs.Written.{is_some, Target}
 use Rattle.resolve.specs.declared.rows.Led.{Led}
-use Rattle.sections.specs.declared.row.Texts.{Texts}
+use Rattle.sections.specs.declared.texts.Texts.{Texts}
 
 -- a row's six texts, one behind another
 unfoldable pub row_texts : Said → List ℕ
@@ -36,12 +37,12 @@ kind_for kind known = cond (known || leb 6 kind) kind (kind + 1)
 
 -- '("numbered")', from the candidate
 abbrev pub numbered_as : Row → ℕ
-numbered_as v = one_if (eqb v.kind 1 && not (eqb v.own.number 0))
+numbered_as v = one_if (eqb (candidate_number v.kind) 1 && not (eqb v.own.number 0))
 
 -- what stands before the texts: the length of the rest, and six bytes
 unfoldable pub row_front : Row → ℕ → Texts → List ℕ
 row_front v kind t =
-    be_bytes 4 (6 + t.size) ++ (row_version ∷ v.kind ∷ numbered_as v ∷ kind_for kind t.class ∷ one_if t.class ∷ one_if t.native ∷ [])
+    be_bytes 4 (6 + t.size) ++ (row_version ∷ candidate_number v.kind ∷ numbered_as v ∷ kind_for kind t.class ∷ one_if t.class ∷ one_if t.native ∷ [])
 
 -- row of export i of the package with this id, whose block d is
 abbrev pub row_no : Limits → List Class → Objects → ℕ → List ℕ → ℕ → Said
@@ -50,7 +51,8 @@ row_no m xs o id d i = row_of m (look xs) o (package_in id d) (export_no d i)
 -- v is that export as a candidate, and l is where its class index leads
 pub record RowDue (s b : List ℕ) (n objects : ℕ) (w d : List ℕ) (p : Parts) (v : Row) (l : Led) (o : Objects) (xs : List Class) (lookups id i : ℕ) : Type 0 where
   pub inside : i < p.count
-  pub row_is : v ≡ row_in d p (candidate_kind (read_in d) (export_no d i)) i
+  pub kind_is : candidate_number v.kind ≡ candidate_kind (read_in d) (export_no d i)
+  pub row_is : v ≡ row_in d p v.kind i
   pub target : Target s b o n xs lookups objects w (ref_in (package_in id d) (export_no d i).class) l
 
 pub record TextsRoom (s b : List ℕ) (n objects : ℕ) (w d : List ℕ) (p : Parts) (v : Row) (l : Led) (out : List ℕ) : Type 0 where

@@ -8,6 +8,7 @@ use Rattle.meaning.specs.Reference.{Ref, ref_in}
 use Rattle.meaning.specs.Resolve.{Limits, look, native_of, resolve, path_text}
 use Rattle.meaning.specs.Report.{or_unknown, row_of, row_bytes, report_of}
 use Rattle.meaning.specs.Scan.{Class, candidate_kind}
+use Rattle.packages.specs.Kinds.{candidate_number}
 use Rattle.packages.specs.Package.{read_in, package_in}
 use Rattle.packages.specs.Row.{export_no, row_in}
 use Rattle.packages.specs.Walk.{packages_at}
@@ -18,7 +19,7 @@ use Rattle.resolve.specs.Rows.{class_number, object_number, columns_of, limits_o
 use Rattle.pool.specs.Pool.{TextIn, Pooled}
 use Rattle.walk.specs.Found.{classes_in, found_in}
 use Rattle.resolve.specs.declared.rows.Led.{Led}
-use Rattle.sections.specs.declared.texts.Both.{Both}
+use Rattle.sections.specs.declared.texts.Texts.{Texts}
 use Rattle.sections.specs.declared.texts.Told.{Told}
 
 -- "a known flag is 1 exactly where the text was found"
@@ -49,7 +50,7 @@ native_text m xs o r = path_text (native_of m (look xs) o r)
 abbrev pub both_texts : Limits → List Class → Objects → Ref → List ℕ
 both_texts m xs o r = text_bytes (or_unknown (class_of m xs o r)) ++ text_bytes (or_unknown (native_text m xs o r))
 
-pub record BothPut (m : Limits) (xs : List Class) (o : Objects) (r : Ref) (old new : List ℕ) (t : Both) : Type 0 where
+pub record BothPut (m : Limits) (xs : List Class) (o : Objects) (r : Ref) (old new : List ℕ) (t : Texts) : Type 0 where
   pub wrote : Wrote old (both_texts m xs o r) new t.size
   pub class : t.class ≡ is_some (class_of m xs o r)
   pub native : t.native ≡ is_some (native_text m xs o r)
@@ -91,7 +92,8 @@ pub record RowRoom (s b : List ℕ) (n objects : ℕ) (w d : List ℕ) (p : Part
   pub id : ℕ
   pub number : ℕ
   pub inside : number < p.count
-  pub row_is : v ≡ row_in d p (candidate_kind (read_in d) (export_no d number)) number
+  pub kind_is : candidate_number v.kind ≡ candidate_kind (read_in d) (export_no d number)
+  pub row_is : v ≡ row_in d p v.kind number
   pub target : Target s b read n classes lookups objects w (ref_in (package_in id d) (export_no d number).class) l
   pub room : length (row_for (limits_of lookups objects) classes read id d number) ≤ length out
 

@@ -1,5 +1,5 @@
 -- Laws of the texts that class and native class of a row are written as. Assumes nothing.
-use Rattle.std.specs.Prelude.{◌≡◌, refl, true, false, List, ◌++◌, ℕ, zero, suc, ◌+◌, ◌-◌, ◌*◌, ◌%◌, ◌≤◌, ◌<◌, length, take, drop, set}
+use Rattle.std.specs.Prelude.{◌≡◌, refl, true, false, List, ◌++◌, ℕ, zero, suc, ◌+◌, ◌-◌, ◌*◌, ◌%◌, ◌≤◌, ◌<◌, length, take, drop, set, Option as Maybe, Some, None}
 use Rattle.std.proofs.Common.{sym, ◌∙◌, ap, append-nil, arith, length-append, length-drop, take-append-drop, drop_of_length-le}
 use Rattle.std.proofs.Math.Option.{Option, none, some}
 use Rattle.std.proofs.Math.Decide.{ℕ_discrete}
@@ -26,7 +26,6 @@ use Rattle.objects.specs.Told.{told, path_bytes, Written, Roomy}
 use Rattle.objects.specs.Work.{object_no, Stands}
 use Rattle.objects.specs.declared.object.Object.{Object}
 use Rattle.objects.specs.declared.path.Path.{Path as Told}
-use Rattle.objects.specs.declared.path.Path.TheVariants.{Known, Unknown}
 use Rattle.table.specs.Words.{mid}
 use Rattle.table.specs.WordLaws.{mid-length}
 use Rattle.pool.specs.Pool.{TextOf, TextAt}
@@ -111,37 +110,40 @@ module _ (s : List ℕ) (x : Option Path) (room : length (text_bytes (or_unknown
   text_path : length (path_bytes x) ≤ length (behind 4 s)
   text_path = omega (arith, path-size x, behind-length 4 s text-four)
 
-  module _ {p : List ℕ} {r : Told} (v : Written x (behind 4 s) p r) where
-    lost : r ≡ Unknown → x ≡ none
+  module _ {p : List ℕ} {r : Maybe Told} (v : Written x (behind 4 s) p r) where
+    lost : r ≡ None → x ≡ none
     lost u = go x (sym v.answer ∙ u)
       where
-        go : (y : Option Path) → told y ≡ Unknown → y ≡ none
+        go : (y : Option Path) → told y ≡ None → y ≡ none
         go none e = refl
         go (some q) e = never (cc)
 
-    same : r ≡ Unknown → again 4 s p ≡ s
+    same : r ≡ None → again 4 s p ≡ s
     unfolding over
     same u = again-same 4 s p (v.buffer ∙ rw (lost u))
 
-    lost-room : r ≡ Unknown → 5 ≤ length (again 4 s p)
+    lost-room : r ≡ None → 5 ≤ length (again 4 s p)
     lost-room u = rw (same u) (unknown-room {x = path_text x} (ap path_text (lost u)) room)
 
-    lost-put : {o : List ℕ} {t : Text} → r ≡ Unknown → Put none (again 4 s p) o t → Put (path_text x) s o t
+    lost-put : {o : List ℕ} {t : Text} → r ≡ None → Put none (again 4 s p) o t → Put (path_text x) s o t
     lost-put {o} {t} u w = rw (lost u) (rw (same u) at w)
 
-    module _ {k d : ℕ} (e : r ≡ Known k d) where
-      known : (q : Path) × (x ≡ some q) × Wrote (behind 4 s) (utf8 q.text) p k
+    module _ {a : Told} (e : r ≡ Some a) where
+      known : (q : Path) × (x ≡ some q) × Wrote (behind 4 s) (utf8 q.text) p a.len
       known = go x (sym v.answer ∙ e) v.buffer text_path
         where
-          go : (y : Option Path) → told y ≡ Known k d → p ≡ over (behind 4 s) (path_bytes y) → length (path_bytes y) ≤ length (behind 4 s)
-              → (q : Path) × (y ≡ some q) × Wrote (behind 4 s) (utf8 q.text) p k
+          go : (y : Option Path) → told y ≡ Some a → p ≡ over (behind 4 s) (path_bytes y) → length (path_bytes y) ≤ length (behind 4 s)
+              → (q : Path) × (y ≡ some q) × Wrote (behind 4 s) (utf8 q.text) p a.len
           go none z b h = never (cc)
-          go (some q) z b h = let n : length (utf8 q.text) ≡ k = cc in (q, refl, record { size = sym n; fits = omega arith; is = b })
+          go (some q) z b h =
+              let m : ◌≡◌ {A = Told} (record { len = length (utf8 q.text); objects = q.depth }) a = cc in
+              let n : length (utf8 q.text) ≡ a.len = ap (λ (t : Told). t.len) m in
+              (q, refl, record { size = sym n; fits = omega arith; is = b })
 
-      found-room : 4 + k ≤ length s
+      found-room : 4 + a.len ≤ length s
       found-room = omega (arith, known.2.fits, behind-length 4 s text-four)
 
-      found-put : {o : List ℕ} {m : ℕ} → Wrote (again 4 s p) (be_bytes 4 k) o m → Put (path_text x) s o (record { size = 4 + k; known = true })
+      found-put : {o : List ℕ} {m : ℕ} → Wrote (again 4 s p) (be_bytes 4 a.len) o m → Put (path_text x) s o (record { size = 4 + a.len; known = true })
       found-put w = let (q, z, y) = known in rw z (known-put text-four y w)
 
 lost-path : (limit : ℕ) (b : List ℕ) (o : Objects) (i : ℕ) → (object_no b o i).outer ≡ 0 → path_no limit o i ≡ none
@@ -183,23 +185,23 @@ module _ {c b : List ℕ} {o : Objects} {n : ℕ} {xs : List Class} {lookups obj
     native_roomy = record { objects = o; number = (native-some z).0; stands = (native-some z).2; room = text_path s path_of_lem path_room }
 
     -- its path, where it is known, was written behind the first four bytes
-    module _ {p : List ℕ} {a : Told}
+    module _ {p : List ℕ} {a : Maybe Told}
         (put : (q : Objects) (j : ℕ) → Stands b q (take (48 * n) w) j l.object → length (path_bytes (path_no objects q j)) ≤ length (behind 4 s)
         → Written (path_no objects q j) (behind 4 s) p a) where
       written : Written path_of_lem (behind 4 s) p a
       written = put o (native-some z).0 (native-some z).2 (text_path s path_of_lem path_room)
 
-      pub native-lost-room : a ≡ Unknown → 5 ≤ length (again 4 s p)
+      pub native-lost-room : a ≡ None → 5 ≤ length (again 4 s p)
       native-lost-room u = lost-room s path_of_lem path_room written u
 
-      pub native-lost : {q : List ℕ} {x : Text} → a ≡ Unknown → Put none (again 4 s p) q x → Put (native_text (limits_of lookups objects) xs o r) s q x
+      pub native-lost : {q : List ℕ} {x : Text} → a ≡ None → Put none (again 4 s p) q x → Put (native_text (limits_of lookups objects) xs o r) s q x
       native-lost u v = rw (native-some z).1 (lost-put s path_of_lem path_room written u v)
 
-      pub native-found-room : {k d : ℕ} → a ≡ Known k d → 4 + k ≤ length s
+      pub native-found-room : {y : Told} → a ≡ Some y → 4 + y.len ≤ length s
       native-found-room e = found-room s path_of_lem path_room written e
 
-      pub native-found : {q : List ℕ} {k d m : ℕ} → a ≡ Known k d → Wrote (again 4 s p) (be_bytes 4 k) q m
-          → Put (native_text (limits_of lookups objects) xs o r) s q (record { size = 4 + k; known = true })
+      pub native-found : {q : List ℕ} {y : Told} {m : ℕ} → a ≡ Some y → Wrote (again 4 s p) (be_bytes 4 y.len) q m
+          → Put (native_text (limits_of lookups objects) xs o r) s q (record { size = 4 + y.len; known = true })
       native-found e v = rw (native-some z).1 (found-put s path_of_lem path_room written e v)
 
 -- ---- the native class's text, kept in the work buffer
@@ -224,12 +226,9 @@ module _ {c b : List ℕ} {o : Objects} {n : ℕ} {xs : List Class} {lookups obj
   pub kept-size : l.size ≡ length (text_bytes (or_unknown (native_text (limits_of lookups objects) xs o r)))
   kept-size = sym (mid-length l.text l.size w kept-inside) ∙ ap length kept-is
 
-  pub kept_put : {s q : List ℕ} {k : ℕ} → Wrote s (mid l.text l.size w) q k
-      → Put (native_text (limits_of lookups objects) xs o r) s q (record { size = l.size; known = true })
-  kept_put v = record {
-    wrote = wrote_count (wrote_as v kept-is) (v.size ∙ mid-length l.text l.size w kept-inside);
-    known = ap is_some (sym native-is);
-  }
+  pub kept_put : {s q x : List ℕ} → x ≡ mid l.text l.size w → Wrote s x q (length x)
+      → Put (native_text (limits_of lookups objects) xs o r) s q (record { size = length x; known = true })
+  kept_put e v = record { wrote = wrote_as v (e ∙ kept-is); known = ap is_some (sym native-is) }
 
 -- ---- the class
 
@@ -239,9 +238,9 @@ module _ {c b : List ℕ} {o : Objects} {n : ℕ} {xs : List Class} {lookups obj
   class_same z = class-lost (limits_of lookups objects) xs o r (sym t.class ∙ z)
 
   -- else that of the number before
-  module _ (z : l.class ≡ 0 → ⊥) where
-    pub class_in : l.class - 1 < length xs
+  module _ {i : ℕ} (z : l.class ≡ suc i) where
+    pub class_in : i < length xs
     class_in = omega (arith, class-inside xs r, t.class)
 
-    pub class-some : class_of (limits_of lookups objects) xs o r ≡ some (class_no xs (l.class - 1)).path
-    class-some = class-found (limits_of lookups objects) xs o r (l.class - 1) (omega (arith, t.class))
+    pub class-some : class_of (limits_of lookups objects) xs o r ≡ some (class_no xs i).path
+    class-some = class-found (limits_of lookups objects) xs o r i (omega (arith, t.class))

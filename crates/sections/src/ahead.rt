@@ -4,7 +4,8 @@
 ghost use Rattle.std.specs.Prelude.{◌≡◌, ◌+◌, ◌*◌, ◌≤◌, ◌<◌, length};
 ghost use Rattle.batch.specs.Notes.{note_count};
 
-use base::number::{le32, wide};
+use super::source::Source;
+use base::number::le32;
 use batch::notes::NOTES;
 
 // How many rows are looked at together.
@@ -12,10 +13,7 @@ const GROUP: usize = 32;
 
 // The byte at a place, or 0 behind the end.
 fn byte_at(b: &[u8], at: usize) -> u32 {
-    if at < b.len() {
-        return wide(b[at]);
-    }
-    0
+    b.get(at).copied().map_or(0, u32::from)
 }
 
 // The number in the four bytes from a place on.
@@ -27,11 +25,12 @@ fn number_at(b: &[u8], at: usize) -> usize
 }
 
 // Of what the path of a class is written from, whose record is at a place: both ends of its package's fields, and the package's name.
-fn see_class(c: &[u8], w: &[u8], at: usize) -> u32
-    requires { at + 64 ≤ length w.now }
+fn see_class(src: &Source, at: usize) -> u32
+    requires { at + 64 ≤ length src.now.work.now }
 {
-    let package = number_at(w, at + 24);
-    let name = number_at(w, at + 32);
+    let package = number_at(src.work, at + 24);
+    let name = number_at(src.work, at + 32);
+    let c = src.corpus;
     byte_at(c, package + 16) ^ byte_at(c, package + 67) ^ byte_at(c, package + 12 + name)
 }
 
@@ -46,34 +45,28 @@ fn see_text(w: &[u8], at: usize) -> u32
 }
 
 // Of what row r is written from: its export, which stands in the step of its mark, the text of its script object, and its class.
-fn see_row(c: &[u8], w: &[u8], n: usize, r: usize) -> u32
-    requires { 32 * (r + 1) ≤ length w.now }
+fn see_row(src: &Source, r: usize) -> u32
+    requires { 32 * (r + 1) ≤ length src.now.work.now }
 {
+    let w = src.work;
     let at = w.len() - 32 * (r + 1);
-    let seen = byte_at(c, 18 * number_at(w, at + 28) + 36) ^ see_text(w, at);
-    let class = number_at(w, at);
-    if class == 0 {
-        return seen;
-    }
+    let seen = byte_at(src.corpus, 18 * number_at(w, at + 28) + 36) ^ see_text(w, at);
     let most = w.len() / 64;
-    if most < class {
-        return seen;
+    match number_at(w, at).checked_sub(1) {
+        Some(i) if i < most && src.objects < most - i => {
+            seen ^ see_class(src, 64 * (src.objects + i))
+        }
+        _ => seen,
     }
-    if most - class < n {
-        return seen;
-    }
-    seen ^ see_class(c, w, 64 * (n + class - 1))
 }
 
 // Of what the rows from one up to another are written from.
-fn see_rows(c: &[u8], w: &[u8], n: usize, from: usize, to: usize) -> u32
-    requires { 32 * to ≤ length w.now }
+fn see_rows(src: &Source, from: usize, to: usize) -> u32
+    requires { 32 * to ≤ length src.now.work.now }
 {
     let mut seen: u32 = 0;
-    let mut r = from;
-    while r < to {
-        seen = seen ^ see_row(c, w, n, r);
-        r += 1;
+    for r in from..to {
+        seen ^= see_row(src, r);
     }
     seen
 }
@@ -82,34 +75,24 @@ fn see_rows(c: &[u8], w: &[u8], n: usize, from: usize, to: usize) -> u32
 fn group_end(from: usize, all: usize) -> usize
     ensures { result ≤ all }
 {
-    if all <= from {
-        return all;
-    }
-    if all - from <= GROUP {
-        return all;
-    }
-    from + GROUP
+    from.saturating_add(GROUP).min(all)
 }
 
 // Looks at the next group of `all` rows, if few of those that were looked at are left to write from `row` on: which row to look at next.
 pub fn look_ahead(
-    c: &[u8],
-    w: &[u8],
-    n: usize,
+    src: &Source,
     row: usize,
     next: usize,
     all: usize,
     notes: &mut [u32; NOTES],
 ) -> usize
-    requires { (32 * all ≤ length w.now) × (length notes.old ≡ note_count) }
+    requires { (32 * all ≤ length src.now.work.now) × (length notes.old ≡ note_count) }
     ensures { length notes.new ≡ note_count }
 {
-    if row < next {
-        if 16 < next - row {
-            return next;
-        }
+    if row < next && 16 < next - row {
+        return next;
     }
     let end = group_end(next, all);
-    notes[NOTES - 1] = see_rows(c, w, n, next, end);
+    notes[NOTES - 1] = see_rows(src, next, end);
     end
 }

@@ -2,6 +2,7 @@
 
 #![tactic(auto)]
 
+pub mod source; // what it is written from
 pub mod texts; // class and native class, written
 pub mod row; // a row, written
 pub mod ahead; // what the next rows are written from, looked at early

@@ -2,11 +2,12 @@
 ghost use Rattle.std.specs.Prelude.{◌≡◌, ℕ, ◌+◌, ◌*◌, ◌^◌, ◌≤◌, ◌<◌, length, drop};
 ghost use Rattle.base.specs.Output.{Wrote};
 ghost use Rattle.base.specs.Reading.{gives, run_block};
-ghost use Rattle.batch.specs.Notes.{note_count, Noted};
+ghost use Rattle.batch.specs.Notes.{note_count};
 ghost use Rattle.scriptblock.specs.Script.{Objects};
 ghost use Rattle.zen.specs.Zen.{package_block};
 ghost use Rattle.meaning.specs.Scan.{candidate_kind};
-ghost use Rattle.packages.specs.Package.{package_in, read_in, PackageIn};
+ghost use Rattle.packages.specs.Kinds.{candidate_number};
+ghost use Rattle.packages.specs.Package.{package_in, read_in};
 ghost use Rattle.packages.specs.Row.{export_no};
 ghost use Rattle.packages.specs.Walk.{block_at, Site, Sites, AllRead};
 ghost use Rattle.resolve.specs.Marks.{first_step, marks_in, MarksIn};
@@ -16,12 +17,14 @@ ghost use Rattle.sections.specs.Written.{report_at, Ready, ReportRoom};
 
 use super::ahead::look_ahead;
 use super::row::put_row;
+use super::source::Source;
 use base::output::{put_be32, put_be64, put_byte};
 use batch::notes::{NOTES, note_names};
 use batch::texts::put_place_text;
+use packages::block::Package;
 use packages::frame::{block_at, id_at, next_at};
-use packages::package::{Parts, home_at, parts_of};
-use packages::rows::row_at;
+use packages::package::parts_of;
+use packages::rows::Candidate;
 use resolve::marks::{kind_in, mark_at, step_of};
 use resolve::rows::led_at;
 use zen::layout::layout_of;
@@ -44,219 +47,164 @@ fn behind(n: usize, z: Section) -> Section
     }
 }
 
-// The row of export i of the package with the block b, a candidate of that kind: row r is its.
+// The kind of candidate with a number, none for any other number.
+fn candidate_of(kind: u8) -> Option<Candidate>
+    ensures { kind ≤ 2 → candidate_number result ≡ kind }
+{
+    match kind {
+        1 => Some(Candidate::Variable),
+        2 => Some(Candidate::Subobject),
+        _ => None,
+    }
+}
+
+// The row of export i of a package, a candidate of that kind: row r is its.
 fn put_export(
     out: &mut [u8],
-    c: &[u8],
-    s: &[u8],
-    w: &[u8],
-    n: usize,
-    b: &[u8],
-    p: Parts,
-    names: &[u32; NOTES],
-    imported: &[u32; NOTES],
+    src: &Source,
+    p: &Package,
     i: usize,
-    kind: u8,
+    kind: Option<Candidate>,
     r: usize,
-    objects: usize,
 ) -> usize
-    requires package_in { PackageIn b.now p × Noted b.now p.names names.now × Noted b.now p.imported imported.now × (i < p.count) }
-    requires kind_value { kind ≡ candidate_kind (read_in b.now) (export_no b.now i) }
-    requires by_index { (id : ℕ) × (h : How) × ExportRoom c.now s.now n w.now objects r id b.now i out.old h }
-    ensures { ExportPut c.now s.now n w.now objects r b.now i out.old out.new result }
+    requires inside { i < p.now.parts.count }
+    requires kind_value { candidate_number kind ≡ candidate_kind (read_in p.now.bytes.now) (export_no p.now.bytes.now i) }
+    requires by_index { (id : ℕ) × (h : How)
+        × ExportRoom src.now.corpus.now src.now.script.now src.now.objects src.now.work.now src.now.limit r id p.now.bytes.now i out.old h }
+    ensures { ExportPut src.now.corpus.now src.now.script.now src.now.objects src.now.work.now src.now.limit r p.now.bytes.now i out.old out.new result }
 {
-    let v = row_at(b, p, names, i, kind);
-    let front = 48 * n;
-    let l = led_at(&w[front..], r);
-    put_row(out, c, s, w, n, b, p, names, imported, v, l, objects)
+    let v = p.block().row(p.names, i, kind);
+    let l = led_at(src.rest(), r);
+    put_row(out, src, p, &v, l)
 }
 
 // The rows of a package, the first of which is row `first` of `all`, if it has any: its exports start in a step, and a mark tells whose row it is.
 fn put_each(
     out: &mut [u8],
-    c: &[u8],
-    s: &[u8],
-    w: &[u8],
-    n: usize,
-    b: &[u8],
-    p: Parts,
-    names: &[u32; NOTES],
-    imported: &[u32; NOTES],
+    src: &Source,
+    p: &Package,
     step: usize,
     first: usize,
     all: usize,
-    objects: usize,
 ) -> Section
-    requires package_in { PackageIn b.now p × Noted b.now p.names names.now × Noted b.now p.imported imported.now }
-    requires by_index { (id : ℕ) × (h : How) × EachRoom c.now s.now n w.now objects first id b.now out.old h }
-    requires rows_marked { RowsMarked n w.now b.now step first all × (step + p.count < 2 ^ 29) }
-    ensures { EachPut c.now s.now n w.now objects first b.now out.old out.new result }
+    requires by_index { (id : ℕ) × (h : How)
+        × EachRoom src.now.corpus.now src.now.script.now src.now.objects src.now.work.now src.now.limit first id p.now.bytes.now out.old h }
+    requires rows_marked { RowsMarked src.now.objects src.now.work.now p.now.bytes.now step first all × (step + p.now.parts.count < 2 ^ 29) }
+    ensures { EachPut src.now.corpus.now src.now.script.now src.now.objects src.now.work.now src.now.limit first p.now.bytes.now out.old out.new result }
 {
-    let front = 48 * n;
-    let end = 4 * (step + p.count);
+    let end = 4 * (step + p.parts.count);
     let mut size: usize = 0;
-    let mut rows: usize = 0;
-    while first + rows < all {
-        let mark = mark_at(&w[front..], first + rows);
+    for r in first..all {
+        let mark = mark_at(src.rest(), r);
         if end <= mark {
-            return Section { size, rows };
+            return Section {
+                size,
+                rows: r - first,
+            };
         }
-        size += put_export(
-            &mut out[size..],
-            c,
-            s,
-            w,
-            n,
-            b,
-            p,
-            names,
-            imported,
-            mark / 4 - step,
-            kind_in(mark),
-            first + rows,
-            objects,
-        );
-        rows += 1;
+        let kind = candidate_of(kind_in(mark));
+        size += put_export(&mut out[size..], src, p, mark / 4 - step, kind, r);
     }
-    Section { size, rows }
+    Section {
+        size,
+        rows: all - first,
+    }
 }
 
 // The rows of a package behind their count.
 fn put_rows(
     out: &mut [u8],
-    c: &[u8],
-    s: &[u8],
-    w: &[u8],
-    n: usize,
-    b: &[u8],
-    p: Parts,
-    names: &[u32; NOTES],
-    imported: &[u32; NOTES],
+    src: &Source,
+    p: &Package,
     step: usize,
     first: usize,
     all: usize,
-    objects: usize,
 ) -> Section
-    requires package_in { PackageIn b.now p × Noted b.now p.names names.now × Noted b.now p.imported imported.now × (p.count < 2 ^ 32) }
-    requires by_index { (id : ℕ) × (h : How) × RowsRoom c.now s.now n w.now objects first id b.now out.old h }
-    requires rows_marked { RowsMarked n w.now b.now step first all × (step + p.count < 2 ^ 29) }
-    ensures { RowsPut c.now s.now n w.now objects first b.now out.old out.new result }
+    requires few { p.now.parts.count < 2 ^ 32 }
+    requires by_index { (id : ℕ) × (h : How)
+        × RowsRoom src.now.corpus.now src.now.script.now src.now.objects src.now.work.now src.now.limit first id p.now.bytes.now out.old h }
+    requires rows_marked { RowsMarked src.now.objects src.now.work.now p.now.bytes.now step first all × (step + p.now.parts.count < 2 ^ 29) }
+    ensures { RowsPut src.now.corpus.now src.now.script.now src.now.objects src.now.work.now src.now.limit first p.now.bytes.now out.old out.new result }
 {
-    let z = put_each(
-        &mut out[4..],
-        c,
-        s,
-        w,
-        n,
-        b,
-        p,
-        names,
-        imported,
-        step,
-        first,
-        all,
-        objects,
-    );
+    let z = put_each(&mut out[4..], src, p, step, first, all);
     let k = put_be32(out, z.rows as u32);
     behind(k, z)
 }
 
 // What stands before the rows: id, name, export count.
-fn put_head(out: &mut [u8], b: &[u8], p: Parts, names: &[u32; NOTES], id: u64) -> usize
-    requires { PackageIn b.now p × Noted b.now p.names names.now × (p.count < 2 ^ 32) × (length (head_of (package_in id b.now)) ≤ length out.old) }
-    ensures { Wrote out.old (head_of (package_in id b.now)) out.new result }
+fn put_head(out: &mut [u8], p: &Package, id: u64) -> usize
+    requires { (p.now.parts.count < 2 ^ 32) × (length (head_of (package_in id p.now.bytes.now)) ≤ length out.old) }
+    ensures { Wrote out.old (head_of (package_in id p.now.bytes.now)) out.new result }
 {
-    let home = home_at(b, p, names);
+    let home = p.block().home(p.names);
     let k = put_be64(out, id);
-    let n = k + put_place_text(&mut out[k..], b, home.place, home.number);
-    n + put_be32(&mut out[n..], p.count as u32)
+    let n = k + put_place_text(&mut out[k..], p.bytes, home.place, home.number);
+    n + put_be32(&mut out[n..], p.parts.count as u32)
 }
 
 // The section of the package at a place, whose first row is row `first` of `all`, if it has any.
 fn put_section(
     out: &mut [u8],
-    c: &[u8],
+    src: &Source,
     at: usize,
-    s: &[u8],
-    w: &[u8],
-    n: usize,
     first: usize,
     all: usize,
-    objects: usize,
     names: &mut [u32; NOTES],
     imported: &mut [u32; NOTES],
 ) -> Section
-    requires site { Site c.now at (block_at c.now at) × (run_block package_block (block_at c.now at) ≡ gives (read_in (block_at c.now at)))
+    requires site { Site src.now.corpus.now at (block_at src.now.corpus.now at)
+        × (run_block package_block (block_at src.now.corpus.now at) ≡ gives (read_in (block_at src.now.corpus.now at)))
         × (length names.old ≡ note_count) × (length imported.old ≡ note_count) }
-    requires section_room { (h : How) × SectionRoom c.now s.now n w.now objects first at out.old h }
-    requires rows_marked { RowsMarked n w.now (block_at c.now at) (first_step c.now at) first all }
-    ensures is { SectionPut c.now s.now n w.now objects first at out.old out.new result }
+    requires section_room { (h : How)
+        × SectionRoom src.now.corpus.now src.now.script.now src.now.objects src.now.work.now src.now.limit first at out.old h }
+    requires rows_marked { RowsMarked src.now.objects src.now.work.now (block_at src.now.corpus.now at) (first_step src.now.corpus.now at) first all }
+    ensures is { SectionPut src.now.corpus.now src.now.script.now src.now.objects src.now.work.now src.now.limit first at out.old out.new result }
     ensures notes { (length names.new ≡ note_count) × (length imported.new ≡ note_count) }
 {
-    let b = block_at(c, at);
-    let p = parts_of(layout_of(b));
-    note_names(b, p.names, names);
-    note_names(b, p.imported, imported);
-    let k = put_head(out, b, p, names, id_at(c, at));
-    let z = put_rows(
-        &mut out[k..],
-        c,
-        s,
-        w,
-        n,
-        b,
-        p,
-        names,
-        imported,
-        step_of(at, p.exports),
-        first,
-        all,
-        objects,
-    );
+    let b = block_at(src.corpus, at);
+    let parts = parts_of(layout_of(b));
+    note_names(b, parts.names, names);
+    note_names(b, parts.imported, imported);
+    let p = Package {
+        bytes: b,
+        parts,
+        names: &*names,
+        imported: &*imported,
+    };
+    let k = put_head(out, &p, id_at(src.corpus, at));
+    let step = step_of(at, parts.exports);
+    let z = put_rows(&mut out[k..], src, &p, step, first, all);
     behind(k, z)
 }
 
 // The sections of so many packages from a place on, which have `all` rows: how many bytes they take.
 fn put_sections(
     out: &mut [u8],
-    c: &[u8],
+    src: &Source,
     from: usize,
     count: usize,
-    s: &[u8],
-    w: &[u8],
-    n: usize,
     all: usize,
-    objects: usize,
     names: &mut [u32; NOTES],
     imported: &mut [u32; NOTES],
 ) -> usize
-    requires sites { Sites c.now from count × AllRead c.now from count × (length names.old ≡ note_count) × (length imported.old ≡ note_count) }
-    requires sections_room { (h : How) × SectionsRoom c.now s.now n w.now objects from count out.old h }
-    requires marks_in { MarksIn (marks_in c.now from count) (drop (48 * n) w.now) × (length (marks_in c.now from count) ≡ all) }
-    ensures { SectionsPut c.now s.now n w.now objects from count out.old out.new result }
+    requires sites { Sites src.now.corpus.now from count × AllRead src.now.corpus.now from count
+        × (length names.old ≡ note_count) × (length imported.old ≡ note_count) }
+    requires sections_room { (h : How)
+        × SectionsRoom src.now.corpus.now src.now.script.now src.now.objects src.now.work.now src.now.limit from count out.old h }
+    requires marks_in { MarksIn (marks_in src.now.corpus.now from count) (drop (48 * src.now.objects) src.now.work.now)
+        × (length (marks_in src.now.corpus.now from count) ≡ all) }
+    ensures { SectionsPut src.now.corpus.now src.now.script.now src.now.objects src.now.work.now src.now.limit from count out.old out.new result }
 {
     let mut size: usize = 0;
     let mut rows: usize = 0;
     let mut ahead: usize = 0;
     let mut at = from;
     for _ in 0..count {
-        ahead = look_ahead(c, w, n, rows, ahead, all, names);
-        let z = put_section(
-            &mut out[size..],
-            c,
-            at,
-            s,
-            w,
-            n,
-            rows,
-            all,
-            objects,
-            names,
-            imported,
-        );
+        ahead = look_ahead(src, rows, ahead, all, names);
+        let z = put_section(&mut out[size..], src, at, rows, all, names, imported);
         size += z.size;
         rows += z.rows;
-        at = next_at(c, at);
+        at = next_at(src.corpus, at);
     }
     size
 }
@@ -274,37 +222,23 @@ fn put_front(out: &mut [u8], size: u32, count: u32)
 // The report of the packages from a place of the corpus on, which have so many rows.
 pub fn put_report(
     out: &mut [u8],
-    c: &[u8],
+    src: &Source,
     at: usize,
     count: usize,
-    s: &[u8],
-    w: &[u8],
-    n: usize,
     rows: usize,
-    objects: usize,
     names: &mut [u32; NOTES],
     imported: &mut [u32; NOTES],
 ) -> usize
-    requires sites { Sites c.now at count × AllRead c.now at count × (count < 2 ^ 32) × (length names.old ≡ note_count) × (length imported.old ≡ note_count) }
-    requires report_room { ReportRoom c.now s.now n at count objects w.now out.old }
-    requires marks_in { MarksIn (marks_in c.now at count) (drop (48 * n) w.now) × (length (marks_in c.now at count) ≡ rows) }
-    ensures { (o : Objects) (lookups : ℕ) → Ready c.now s.now o n at count lookups objects w.now
-        → length (report_at (limits_of lookups objects) o c.now at count) ≤ length out.old
-        → Wrote out.old (report_at (limits_of lookups objects) o c.now at count) out.new result }
+    requires sites { Sites src.now.corpus.now at count × AllRead src.now.corpus.now at count × (count < 2 ^ 32)
+        × (length names.old ≡ note_count) × (length imported.old ≡ note_count) }
+    requires report_room { ReportRoom src.now.corpus.now src.now.script.now src.now.objects at count src.now.limit src.now.work.now out.old }
+    requires marks_in { MarksIn (marks_in src.now.corpus.now at count) (drop (48 * src.now.objects) src.now.work.now)
+        × (length (marks_in src.now.corpus.now at count) ≡ rows) }
+    ensures { (o : Objects) (lookups : ℕ) → Ready src.now.corpus.now src.now.script.now o src.now.objects at count lookups src.now.limit src.now.work.now
+        → length (report_at (limits_of lookups src.now.limit) o src.now.corpus.now at count) ≤ length out.old
+        → Wrote out.old (report_at (limits_of lookups src.now.limit) o src.now.corpus.now at count) out.new result }
 {
-    let size = put_sections(
-        &mut out[9..],
-        c,
-        at,
-        count,
-        s,
-        w,
-        n,
-        rows,
-        objects,
-        names,
-        imported,
-    );
+    let size = put_sections(&mut out[9..], src, at, count, rows, names, imported);
     put_front(out, (size + 5) as u32, count as u32);
     size + 9
 }

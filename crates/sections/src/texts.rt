@@ -1,5 +1,5 @@
 // Class and native class of a row, written as texts.
-ghost use Rattle.std.specs.Prelude.{List, ◌++◌, ◌≡◌, ℕ, ◌+◌, ◌*◌, ◌≤◌, ◌<◌, length, drop};
+ghost use Rattle.std.specs.Prelude.{List, ◌++◌, ◌≡◌, ℕ, ◌+◌, ◌*◌, ◌≤◌, ◌<◌, length, drop, MatchOption};
 ghost use Rattle.std.proofs.Math.Option.{none};
 ghost use Rattle.text.specs.Name.{text_bytes};
 ghost use Rattle.base.specs.Number.{be_bytes};
@@ -13,8 +13,9 @@ ghost use Rattle.resolve.specs.Classes.{class_no, ClassesIn};
 ghost use Rattle.resolve.specs.Rows.{limits_of};
 ghost use Rattle.sections.specs.Written.{Put, Target, native_text, both_texts, BothPut, ClassRoom, NativeRoom, BothRoom};
 
+use super::source::Source;
 use base::output::put_be32;
-use objects::path::{Path, put_path};
+use objects::path::put_path;
 use resolve::paths::put_class_path;
 use resolve::rows::Led;
 use text::plain::put_plain;
@@ -27,7 +28,8 @@ pub fn put_length(out: &mut [u8], n: usize) -> usize
     put_be32(out, (n % 4294967296) as u32)
 }
 
-// A text that may be unknown: how many bytes it takes with its length, and whether it is known.
+// A text, `?` where it is unknown: how many bytes it takes with its length, and whether it is known.
+// Kept: no Option, since an unknown text takes bytes too; the same of Texts.
 #[derive(Clone, Copy)]
 pub struct Told {
     pub size: usize,
@@ -47,56 +49,68 @@ fn put_unknown(out: &mut [u8]) -> Told
     }
 }
 
-// The native class's text, composed; w is the work buffer, with n script objects of the block s in front.
-fn compose_native(out: &mut [u8], s: &[u8], w: &[u8], n: usize, l: Led, objects: usize) -> Told
-    requires { NativeRoom s.now n objects w.now l out.old }
-    ensures { (c : List ℕ) (o : Objects) (xs : List Class) (lookups : ℕ) (r : Ref) → Target c s.now o n xs lookups objects w.now r l
-        → length (text_bytes (or_unknown (native_text (limits_of lookups objects) xs o r))) ≤ length out.old
-        → Put (native_text (limits_of lookups objects) xs o r) out.old out.new result }
+// The native class's text, composed.
+fn compose_native(out: &mut [u8], src: &Source, l: Led) -> Told
+    requires { NativeRoom src.now.script.now src.now.objects src.now.limit src.now.work.now l out.old }
+    ensures { (c : List ℕ) (o : Objects) (xs : List Class) (lookups : ℕ) (r : Ref)
+        → Target c src.now.script.now o src.now.objects xs lookups src.now.limit src.now.work.now r l
+        → length (text_bytes (or_unknown (native_text (limits_of lookups src.now.limit) xs o r))) ≤ length out.old
+        → Put (native_text (limits_of lookups src.now.limit) xs o r) out.old out.new result }
 {
     let u = l.object;
     if u.outer == 0 {
         return put_unknown(out);
     }
-    let size = 48 * n;
-    let path = put_path(&mut out[4..], s, &w[..size], u, objects);
-    match path {
-        Path::Unknown => put_unknown(out),
-        Path::Known(k, _) => {
-            put_length(out, k);
+    match put_path(&mut out[4..], src.script, src.front(), u, src.limit) {
+        None => put_unknown(out),
+        Some(path) => {
+            put_length(out, path.len);
             Told {
-                size: 4 + k,
+                size: 4 + path.len,
                 known: true,
             }
         }
     }
 }
 
-// The native class's text, as the row keeps it, or composed.
-fn put_native(out: &mut [u8], s: &[u8], w: &[u8], n: usize, l: Led, objects: usize) -> Told
-    requires { NativeRoom s.now n objects w.now l out.old }
-    ensures { (c : List ℕ) (o : Objects) (xs : List Class) (lookups : ℕ) (r : Ref) → Target c s.now o n xs lookups objects w.now r l
-        → length (text_bytes (or_unknown (native_text (limits_of lookups objects) xs o r))) ≤ length out.old
-        → Put (native_text (limits_of lookups objects) xs o r) out.old out.new result }
+// The text that a row keeps in the work buffer, if it keeps one.
+fn kept_text(w: &[u8], l: Led) -> Option<&[u8]>
+    requires { (l.size ≡ 0 → ⊥) → l.text + l.size ≤ length w.now }
+    ensures { MatchOption result (l.size ≡ 0) (λ t. (l.size ≡ 0 → ⊥) × (t.now ≡ mid l.text l.size w.now)) }
 {
-    let size = l.size;
-    if size == 0 {
-        return compose_native(out, s, w, n, l, objects);
+    if l.size == 0 {
+        return None;
     }
-    let text = l.text;
-    let end = text + size;
-    put_plain(out, &w[text..end]);
-    Told { size, known: true }
+    Some(&w[l.text..l.text + l.size])
 }
 
-// The text of class i of the table behind the n script objects.
-fn put_class(out: &mut [u8], c: &[u8], w: &[u8], n: usize, i: usize) -> usize
-    requires { ClassRoom c.now n i w.now out.old }
-    ensures { (xs : List Class) → ClassesIn c.now (4 * n) xs (drop (48 * n) w.now) → i < length xs
+// The native class's text, as the row keeps it, or composed.
+fn put_native(out: &mut [u8], src: &Source, l: Led) -> Told
+    requires { NativeRoom src.now.script.now src.now.objects src.now.limit src.now.work.now l out.old }
+    ensures { (c : List ℕ) (o : Objects) (xs : List Class) (lookups : ℕ) (r : Ref)
+        → Target c src.now.script.now o src.now.objects xs lookups src.now.limit src.now.work.now r l
+        → length (text_bytes (or_unknown (native_text (limits_of lookups src.now.limit) xs o r))) ≤ length out.old
+        → Put (native_text (limits_of lookups src.now.limit) xs o r) out.old out.new result }
+{
+    match kept_text(src.work, l) {
+        None => compose_native(out, src, l),
+        Some(text) => {
+            put_plain(out, text);
+            Told {
+                size: text.len(),
+                known: true,
+            }
+        }
+    }
+}
+
+// The text of class i of the table behind the script objects.
+fn put_class(out: &mut [u8], src: &Source, i: usize) -> usize
+    requires { ClassRoom src.now.corpus.now src.now.objects i src.now.work.now out.old }
+    ensures { (xs : List Class) → ClassesIn src.now.corpus.now (4 * src.now.objects) xs (drop (48 * src.now.objects) src.now.work.now) → i < length xs
         → Wrote out.old (text_bytes (class_no xs i).path) out.new result }
 {
-    let size = 48 * n;
-    let k = put_class_path(&mut out[4..], c, &w[size..], 4 * n, i);
+    let k = put_class_path(&mut out[4..], src.corpus, src.rest(), 4 * src.objects, i);
     put_length(out, k) + k
 }
 
@@ -105,11 +119,7 @@ fn put_again(out: &mut [u8], n: usize) -> usize
     requires { n + n ≤ length out.old }
     ensures { (old a : List ℕ) → Wrote old a out.old n → Wrote old (a ++ a) out.new result }
 {
-    let mut i: usize = 0;
-    while i < n {
-        out[n + i] = out[i];
-        i += 1;
-    }
+    out.copy_within(..n, n);
     n + n
 }
 
@@ -119,52 +129,48 @@ fn put_second(out: &mut [u8], w: &[u8], l: Led, n: usize) -> usize
     ensures { (old a : List ℕ) → Wrote old a out.old n → ((l.size ≡ 0 → ⊥) → mid l.text l.size w.now ≡ a)
         → Wrote old (a ++ a) out.new result }
 {
-    let size = l.size;
-    if size == 0 {
-        return put_again(out, n);
+    match kept_text(w, l) {
+        None => put_again(out, n),
+        Some(text) => {
+            put_plain(&mut out[n..], text);
+            n + text.len()
+        }
     }
-    let text = l.text;
-    let end = text + size;
-    put_plain(&mut out[n..], &w[text..end]);
-    n + size
 }
 
-// Class and native class: how many bytes their texts take, and whether they are known.
+// Texts of a row: how many bytes they take, and whether class and native class, which are among them, are known.
 #[derive(Clone, Copy)]
-pub struct Both {
+pub struct Texts {
     pub size: usize,
     pub class: bool,
     pub native: bool,
 }
 
 // The texts of class and native class. Without a class of the table they are the same, and the path is worked out once.
-pub fn put_both(
-    out: &mut [u8],
-    c: &[u8],
-    s: &[u8],
-    w: &[u8],
-    n: usize,
-    l: Led,
-    objects: usize,
-) -> Both
-    requires { BothRoom c.now s.now n objects w.now l out.old }
-    ensures { (o : Objects) (xs : List Class) (lookups : ℕ) (r : Ref) → Target c.now s.now o n xs lookups objects w.now r l
-        → length (both_texts (limits_of lookups objects) xs o r) ≤ length out.old
-        → BothPut (limits_of lookups objects) xs o r out.old out.new result }
+pub fn put_both(out: &mut [u8], src: &Source, l: Led) -> Texts
+    requires { BothRoom src.now.corpus.now src.now.script.now src.now.objects src.now.limit src.now.work.now l out.old }
+    ensures { (o : Objects) (xs : List Class) (lookups : ℕ) (r : Ref)
+        → Target src.now.corpus.now src.now.script.now o src.now.objects xs lookups src.now.limit src.now.work.now r l
+        → length (both_texts (limits_of lookups src.now.limit) xs o r) ≤ length out.old
+        → BothPut (limits_of lookups src.now.limit) xs o r out.old out.new result }
 {
-    if l.class == 0 {
-        let t = put_native(out, s, w, n, l, objects);
-        return Both {
-            size: put_second(out, w, l, t.size),
-            class: t.known,
-            native: t.known,
-        };
-    }
-    let first = put_class(out, c, w, n, l.class - 1);
-    let t = put_native(&mut out[first..], s, w, n, l, objects);
-    Both {
-        size: first + t.size,
-        class: true,
-        native: t.known,
+    match l.class.checked_sub(1) {
+        None => {
+            let t = put_native(out, src, l);
+            Texts {
+                size: put_second(out, src.work, l, t.size),
+                class: t.known,
+                native: t.known,
+            }
+        }
+        Some(i) => {
+            let first = put_class(out, src, i);
+            let t = put_native(&mut out[first..], src, l);
+            Texts {
+                size: first + t.size,
+                class: true,
+                native: t.known,
+            }
+        }
     }
 }

@@ -1,6 +1,7 @@
 // A table made, looked up, added to. Entries are numbered from 0; the caller says how many buckets there are, how long a record is,
 // and has for its own use what stands from byte 24 of a record on.
-ghost use Rattle.std.specs.Prelude.{◌≡◌, ℕ, ◌+◌, ◌*◌, ◌^◌, ◌≤◌, ◌<◌, length};
+ghost use Rattle.std.specs.Prelude.{◌≡◌, ℕ, ◌+◌, ◌*◌, ◌^◌, ◌≤◌, ◌<◌, length, None};
+ghost use Rattle.base.specs.OneMore.{one_more};
 ghost use Rattle.table.specs.Entries.{find};
 ghost use Rattle.table.specs.Table.{record_at, Holds, Linked, Table, cleared, attached, Added};
 
@@ -20,24 +21,18 @@ pub fn clear(w: &mut [u8], n: usize)
     requires { 4 * n ≤ length w.old }
     ensures { w.new ≡ cleared n w.old }
 {
-    let size = 4 * n;
-    let mut i = 0;
-    while i < size {
-        w[i] = 0;
-        i += 1;
-    }
+    w[..4 * n].fill(0);
 }
 
-// One more than the number of the entry that has the key, or 0: said of all entries that the table holds.
-pub fn look_up(w: &[u8], n: usize, stride: usize, lo: u64, hi: u64) -> usize
+// The number of the entry that has the key: said of all entries that the table holds.
+pub fn look_up(w: &[u8], n: usize, stride: usize, lo: u64, hi: u64) -> Option<usize>
     requires { Table n stride w.now }
-    ensures { (k : ℕ) (los his : ℕ → ℕ) → Holds n stride k los his w.now → result ≡ find los his lo hi k }
+    ensures { (k : ℕ) (los his : ℕ → ℕ) → Holds n stride k los his w.now → one_more result ≡ find los his lo hi k }
 {
     if n == 0 {
-        return 0;
+        return None;
     }
-    let s = search(w, n, stride, lo, hi);
-    s.link
+    search(w, n, stride, lo, hi).entry
 }
 
 // Fills the record at a place, and sets a link to it.
@@ -52,20 +47,17 @@ fn attach(w: &mut [u8], at: usize, lo: u64, hi: u64, place: usize, link: usize)
     set32(w, place, link);
 }
 
-// Adds entry k, unless an entry before it has its key: answers as look_up.
-pub fn add(w: &mut [u8], n: usize, stride: usize, k: usize, lo: u64, hi: u64) -> usize
+// Adds entry k, unless an entry before it has its key: answers as look_up, None where it was added.
+pub fn add(w: &mut [u8], n: usize, stride: usize, k: usize, lo: u64, hi: u64) -> Option<usize>
     requires linked { Linked n stride k w.old }
     requires n_nonzero { (0 < n) × (k + 1 < 2 ^ 32) × (record_at n stride (k + 1) ≤ length w.old) }
-    ensures found { (los his : ℕ → ℕ) → Holds n stride k los his w.old → result ≡ find los his lo hi k }
-    ensures added { result ≡ 0 → Added n stride k lo hi w.old w.new }
-    ensures kept { 0 < result → w.new ≡ w.old }
+    ensures found { (los his : ℕ → ℕ) → Holds n stride k los his w.old → one_more result ≡ find los his lo hi k }
+    ensures added { result ≡ None → Added n stride k lo hi w.old w.new }
+    ensures kept { (result ≡ None → ⊥) → w.new ≡ w.old }
 {
     let s = search(w, n, stride, lo, hi);
-    let link = s.link;
-    if link == 0 {
-        let place = s.place;
-        let at = record_at(n, stride, k);
-        attach(w, at, lo, hi, place, k + 1);
+    if s.entry.is_none() {
+        attach(w, record_at(n, stride, k), lo, hi, s.place, k + 1);
     }
-    link
+    s.entry
 }

@@ -1,19 +1,22 @@
 // Where a search for a key ends.
 ghost use Rattle.std.specs.Prelude.{◌≡◌, ◌&&◌, ℕ, ◌+◌, ◌^◌, ◌≤◌, ◌<◌, eqb, length};
 ghost use Rattle.base.specs.Number.{le_at};
-ghost use Rattle.table.specs.Tree.{bucket, next_rest};
+ghost use Rattle.base.specs.OneMore.{one_more};
+ghost use Rattle.table.specs.Tree.{bucket, turn};
 ghost use Rattle.table.specs.Table.{Holds, Table, Ended};
+
+// Kept: lo and hi are two parameters: with a struct a call reads look_up(w, n, stride, Key { lo: 0, hi: index }), which is no plainer.
+// Kept: so are w, n and stride: between two calls the caller writes its own columns of w, and would make the struct anew for each call.
 
 use super::entries::record_at;
 use super::words::{get32, get64};
-use city::word::mul;
 
 // The bucket of a key, of n.
 fn bucket_of(n: usize, lo: u64, hi: u64) -> usize
     requires { n < 2 ^ 32 }
     ensures { result ≡ bucket n lo hi }
 {
-    let x = mul(hi ^ mul(lo, 0x9e37_79b9_7f4a_7c15), 0x9e37_79b9_7f4a_7c15);
+    let x = (hi ^ lo.wrapping_mul(0x9e37_79b9_7f4a_7c15)).wrapping_mul(0x9e37_79b9_7f4a_7c15);
     ((x >> 32) * n as u64 >> 32) as usize
 }
 
@@ -22,27 +25,35 @@ fn has_key(w: &[u8], at: usize, lo: u64, hi: u64) -> bool
     requires { at + 24 ≤ length w.now }
     ensures { result ≡ (eqb (le_at 8 w.now (at + 8)) lo && eqb (le_at 8 w.now (at + 16)) hi) }
 {
-    if get64(w, at + 8) == lo {
-        return get64(w, at + 16) == hi;
-    }
-    false
+    get64(w, at + 8) == lo && get64(w, at + 16) == hi
 }
 
-// What is left of the half whose bit is next, after so many turns: from x, what was left before, or lo, the half that is taken second.
-fn next_rest(x: u64, depth: usize, lo: u64) -> u64
-    ensures { result ≡ next_rest x depth lo }
+// The side to go to after so many turns, 0 left, 1 right: the bits of hi come first, then those of lo.
+fn turn(lo: u64, hi: u64, depth: usize) -> usize
+    requires { depth < 128 }
+    ensures is { result ≡ turn depth lo hi }
+    ensures bit { result < 2 }
 {
-    if depth == 64 {
-        return lo;
+    if depth < 64 {
+        (hi >> depth) as usize % 2
+    } else {
+        (lo >> (depth - 64)) as usize % 2
     }
-    x / 2
 }
 
-// Where a search ends: the place of a link, and the link.
+// The entry that the link at a place leads to.
+fn entry_at(w: &[u8], place: usize) -> Option<usize>
+    requires { place + 4 ≤ length w.now }
+    ensures { one_more result ≡ le_at 4 w.now place }
+{
+    get32(w, place).checked_sub(1)
+}
+
+// Where a search ends: the place of a link, and the entry that it leads to.
 #[derive(Clone, Copy)]
 pub struct Spot {
     pub place: usize,
-    pub link: usize,
+    pub entry: Option<usize>,
 }
 
 // Searches for the key, whatever entries the table holds. depth counts the turns, at most 128. The bits of hi come first: the classes of a package
@@ -50,21 +61,20 @@ pub struct Spot {
 pub fn search(w: &[u8], n: usize, stride: usize, lo: u64, hi: u64) -> Spot
     requires { Table n stride w.now × (0 < n) }
     ensures { (k : ℕ) (los his : ℕ → ℕ) → Holds n stride k los his w.now
-        → Ended n stride los his w.now lo hi result.place result.link }
+        → Ended n stride los his w.now lo hi result.place (one_more result.entry) }
 {
     let mut place = 4 * bucket_of(n, lo, hi);
-    let mut link = get32(w, place);
     let mut depth: usize = 0;
-    let mut x = hi;
-    while 0 < link {
-        let at = record_at(n, stride, link - 1);
+    while let Some(i) = entry_at(w, place) {
+        let at = record_at(n, stride, i);
         if has_key(w, at, lo, hi) {
-            return Spot { place, link };
+            return Spot {
+                place,
+                entry: Some(i),
+            };
         }
-        place = at + 4 * (x % 2) as usize;
-        link = get32(w, place);
+        place = at + 4 * turn(lo, hi, depth);
         depth += 1;
-        x = next_rest(x, depth, lo);
     }
-    Spot { place, link }
+    Spot { place, entry: None }
 }

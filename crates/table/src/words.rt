@@ -21,15 +21,14 @@ pub fn get64(w: &[u8], at: usize) -> u64
     le64(w, at)
 }
 
+// Kept: two functions of one line for the two widths: over a const width each call would say it again, as store::<4>(w, at, v as u64).
+
 // Stores the four low bytes of a number from a place on.
 pub fn set32(w: &mut [u8], at: usize, v: usize)
     requires { at + 4 ≤ length w.old }
     ensures { w.new ≡ stored 4 w.old at v }
 {
-    w[at] = (v % 256) as u8;
-    w[at + 1] = (v / 256 % 256) as u8;
-    w[at + 2] = (v / 256 / 256 % 256) as u8;
-    w[at + 3] = (v / 256 / 256 / 256 % 256) as u8;
+    w[at..at + 4].copy_from_slice(&v.to_le_bytes()[..4]);
 }
 
 // Stores the eight bytes of a number from a place on.
@@ -37,6 +36,5 @@ pub fn set64(w: &mut [u8], at: usize, v: u64)
     requires { at + 8 ≤ length w.old }
     ensures { w.new ≡ stored 8 w.old at v }
 {
-    set32(w, at, (v % 4294967296) as usize);
-    set32(w, at + 4, (v / 4294967296) as usize);
+    w[at..at + 8].copy_from_slice(&v.to_le_bytes());
 }

@@ -1,5 +1,5 @@
 -- The loops that measure and write the base of a name: what a turn passes, and what is written after it. Assumes nothing.
-use mathlib.Core.Path.{◌≡◌, sym, ap, ◌∙◌}
+use mathlib.Core.Path.{◌≡◌, refl, sym, ap, ◌∙◌}
 use mathlib.Core.Bool.{Bool, true, false}
 use mathlib.Core.List.{List, [], ◌∷◌, ◌++◌, append-nil}
 use Prim.Native.Nat.{ℕ, ◌+◌, ◌-◌, ◌≤◌, ◌<◌}
@@ -7,8 +7,6 @@ use native.Mathlib.Nat.{add-zero}
 use native.Mathlib.Omega.{arith}
 use borrow.Author.Tests.{lt-ltb, le-ltb, ne_eqb}
 use lib.Dec.{eqb}
-use mir.Val.{Fits}
-use mir.Syntax.{w8}
 use lib.ListN.{length, take, drop, get_or, length-append, length-take, length-drop, take-append-drop, drop_of_length-le}
 use lib.Seq.{take_at, drop_at, take-add, take_all, take-take, drop-drop, length-take-le, get_or-drop}
 use Rattle.base.specs.NumberLaws.{Bytes}
@@ -18,18 +16,19 @@ use Rattle.text.specs.Utf16.{Decoded, is_well, scalars, more, utf16}
 use Rattle.text.specs.Utf8.{utf8_one, utf8}
 use Rattle.text.specs.Name.{decoded, base}
 use Rattle.text.specs.Units.{units_of, scalar_of}
-use Rattle.text.specs.UnitsLaws.{Words, units_of-words, scalar-single, scalar-pair, scalar-stray, scalar-lone, words-drop, decoded-units, scalar-one, scalar-two, scalar-ill, one-fits, two_fits, utf16-none, is_well-more, scalars-more}
+use Rattle.text.specs.UnitsLaws.{Words, units_of-words, scalar-single, scalar-pair, scalar-stray, scalar-lone, words-drop, decoded-units, scalar-some, scalar-ill, some-fits, utf16-none, is_well-more, scalars-more}
 use Rattle.text.specs.Affix.{all_ascii}
 use Rattle.text.specs.Utf16Cases.{Cases, none, single, pair, stray, lone, cases}
 use Rattle.text.specs.UnitLengthLaws.{units-least}
 use Rattle.text.specs.FrontLaws.{front-most, front-ascii, front-next, lows-take, lows-ascii, ascii_front_lem}
 use Rattle.text.specs.PlainLaws.{beyond}
-use Rattle.text.specs.Front.{ascii_front, beyond_front, turn_units, lows, bytes_from, well_from, Written, Passed, Held, Turned}
+use Rattle.text.specs.Front.{ascii_front, beyond_front, end_of, turn_units, lows, bytes_from, well_from, Written, Passed, Held, Turned}
 use Rattle.text.specs.declared.utf16.Scalar.{Scalar}
-use Rattle.text.specs.declared.utf16.Scalar.TheVariants.{One, Two, Ill}
+use Rattle.std.specs.Prelude.{Option, Some, None}
 
 -- a turn at i passes k units, which are the scalar value c
 pub record Turn (us : List ℕ) (i k c : ℕ) : Type 0 where
+  pub moves : 0 < k
   pub within : i + k ≤ length us
   pub small : c < 0x110000
   pub well : well_from us (i + k) ≡ true
@@ -41,38 +40,31 @@ module _ (us : List ℕ) (i : ℕ) (w : Words us) (ok : well_from us i ≡ true)
       let same : utf16 (drop i us) ≡ more c (utf16 (drop (i + k) us)) = e ∙ rw (drop-drop k i us) in
       let ok₂ : well_from us (i + k) ≡ true = sym (is_well-more c (utf16 (drop (i + k) us))) ∙ ap is_well (sym same) ∙ ok in
       record {
+        moves = z;
         within = omega (arith, length-drop i us);
         small = h;
         well = ok₂;
         is = ap (λ (d : Decoded). utf8 (scalars d)) same ∙ ap utf8 (scalars-more c (utf16 (drop (i + k) us)) ok₂);
       }
 
-  pub turn_one : {c : ℕ} → scalar_of (drop i us) ≡ One c → Turn us i 1 c
-  turn_one {c} e =
-      let f = one-fits (drop i us) (words-drop i us w) e in
-      turn 1 c f.0 (omega arith) (omega arith) (scalar-one (drop i us) e)
+  pub turn_some : {c : Scalar} → scalar_of (drop i us) ≡ Some c → Turn us i c.units c.value
+  turn_some {c} e =
+      let f = some-fits (drop i us) (words-drop i us w) e in
+      turn c.units c.value f.1 f.0 f.3 (scalar-some (drop i us) e)
 
-  pub turn_two : {c : ℕ} → scalar_of (drop i us) ≡ Two c → Turn us i 2 c
-  turn_two {c} e =
-      let f = two_fits (drop i us) (words-drop i us w) e in
-      turn 2 c f.0 (omega arith) f.1 (scalar-two (drop i us) e)
-
--- the turn at the scalar value r that the code reads at i: one unit, or two
-module _ (wide : Bool) (part : List ℕ) (b : (j : ℕ) → Fits w8 (get_or part j 0)) (i : ℕ) (ok : well_from (units_of wide part) i ≡ true) where
+-- the turn at the scalar value r that the code reads at i
+module _ (wide : Bool) (part : List ℕ) (b : Bytes part) (i : ℕ) (ok : well_from (units_of wide part) i ≡ true) where
   words : Words (units_of wide part)
-  words = units_of-words wide part (λ j. (b j).fits)
+  words = units_of-words wide part b
 
-  pub read_one : {r : Scalar} {c : ℕ} → r ≡ scalar_of (drop i (units_of wide part)) → r ≡ One c → Turn (units_of wide part) i 1 c
-  read_one e q = turn_one (units_of wide part) i words ok (sym e ∙ q)
-
-  pub read_two : {r : Scalar} {c : ℕ} → r ≡ scalar_of (drop i (units_of wide part)) → r ≡ Two c → Turn (units_of wide part) i 2 c
-  read_two e q = turn_two (units_of wide part) i words ok (sym e ∙ q)
+  pub read_some : {r : Option Scalar} {c : Scalar} → r ≡ scalar_of (drop i (units_of wide part)) → r ≡ Some c → Turn (units_of wide part) i c.units c.value
+  read_some e q = turn_some (units_of wide part) i words ok (sym e ∙ q)
 
 pub turn-length : {us : List ℕ} {i k c : ℕ} → Turn us i k c → length (bytes_from us i) ≡ length (utf8_one c) + length (bytes_from us (i + k))
 turn-length {us} {i} {k} {c} t = ap length t.is ∙ length-append (utf8_one c) (bytes_from us (i + k))
 
 -- no turn meets a surrogate with no partner
-pub turn-ill : (us : List ℕ) (i : ℕ) → well_from us i ≡ true → i < length us → scalar_of (drop i us) ≡ Ill → ⊥
+pub turn-ill : (us : List ℕ) (i : ℕ) → well_from us i ≡ true → i < length us → scalar_of (drop i us) ≡ None → ⊥
 turn-ill us i ok h e =
     let l : 0 < length (drop i us) = omega (arith, length-drop i us) in
     let f = scalar-ill (drop i us) l e in
@@ -127,43 +119,35 @@ unfolding beyond_front
 beyond-yes us u h = rw (le-ltb u 128 h) (omega arith)
 
 -- so by the first scalar value
-abbrev Beyond : Scalar → List ℕ → Type 0
-Beyond (One c) us = (c < 128 → beyond_front us ≡ 0) × (128 ≤ c → beyond_front us ≡ 1 + beyond_front (drop 1 us))
-Beyond (Two c) us = beyond_front us ≡ 2 + beyond_front (drop 2 us)
-Beyond Ill us = Unit {0}
+abbrev Beyond : Option Scalar → List ℕ → Type 0
+Beyond (Some c) us = (c.value < 128 → beyond_front us ≡ 0) × (128 ≤ c.value → beyond_front us ≡ c.units + beyond_front (drop c.units us))
+Beyond None us = Unit {0}
 
 beyond-first : {us : List ℕ} → Cases us → Beyond (scalar_of us) us
 unfolding scalar_of
 beyond-first none = tt
 beyond-first (single {u} {us} p r) = rw (scalar-single u us p) (beyond_no us u, beyond-yes us u)
 beyond-first (pair {u} {v} {us} p q r) =
-    rw (scalar-pair u v us p q, beyond-yes (v ∷ us) u (omega arith), beyond-yes us v (omega arith)) (omega arith)
+    rw (scalar-pair u v us p q, beyond-yes (v ∷ us) u (omega arith), beyond-yes us v (omega arith)) (λ h. absurd (omega arith), λ _. omega arith)
 beyond-first (stray {u} {us} p) = rw (scalar-stray u us p) tt
 beyond-first (lone {u} {us} p q) = rw (scalar-lone u us p q) tt
 
--- where the units beyond ASCII from a place on end, as a walk over them comes to i
-abbrev pub end_of : List ℕ → ℕ → ℕ
-end_of us i = i + beyond_front (drop i us)
+-- where a walk that comes to i ends
+module _ (us : List ℕ) (i : ℕ) {c : Scalar} (e : scalar_of (drop i us) ≡ Some c) where
+  first-beyond : Beyond (Some c) (drop i us)
+  first-beyond = rw e at (beyond-first (cases (drop i us)))
 
-module _ (us : List ℕ) (i : ℕ) {c : ℕ} where
-  pub end_here : scalar_of (drop i us) ≡ One c → c < 128 → end_of us i ≡ i
-  end_here e h =
-      let b : Beyond (One c) (drop i us) = rw e at (beyond-first (cases (drop i us))) in
-      rw (b.0 h) (omega arith)
+  pub end_here : c.value < 128 → end_of false us i ≡ i
+  end_here h = rw (first-beyond.0 h) (omega arith)
 
-  pub end_one : scalar_of (drop i us) ≡ One c → 128 ≤ c → end_of us i ≡ end_of us (i + 1)
-  end_one e h =
-      let b : Beyond (One c) (drop i us) = rw e at (beyond-first (cases (drop i us))) in
-      rw (b.1 h, drop-drop 1 i us) (omega arith)
+  pub end_next : (all : Bool) → (all ≡ false → 128 ≤ c.value) → end_of all us i ≡ end_of all us (i + c.units)
+  end_next true h = refl
+  end_next false h = rw (first-beyond.1 (h refl), drop-drop c.units i us) (omega arith)
 
-  pub end_two : scalar_of (drop i us) ≡ Two c → end_of us i ≡ end_of us (i + 2)
-  end_two e =
-      let b : Beyond (Two c) (drop i us) = rw e at (beyond-first (cases (drop i us))) in
-      rw (b, drop-drop 2 i us) (omega arith)
-
-pub end_last : (us : List ℕ) (i : ℕ) → length us ≤ i → end_of us i ≡ i
+pub end_last : (all : Bool) (us : List ℕ) (i : ℕ) → i ≤ length us → length us ≤ i → end_of all us i ≡ i
 unfolding beyond_front
-end_last us i h = rw (drop_of_length-le us h) (omega arith)
+end_last true us i l h = omega arith
+end_last false us i l h = rw (drop_of_length-le us h) (omega arith)
 
 -- the walk moves where it starts beyond ASCII
 beyond-moves : (us : List ℕ) → 0 < length us → 128 ≤ get_or us 0 0 → 0 < beyond_front us
@@ -186,6 +170,10 @@ pub held-wrote : {s x o : List ℕ} {n : ℕ} → Wrote s x o n → Held s x o [
 held-wrote {s} {x} {o} {n} w =
     let h : length x ≤ n = omega (arith, w.size) in
     held-written (record { wrote = wrote_as w (sym (take_all n x h)); left = drop_of_length-le x h })
+
+-- nor was anything where all units were passed
+pub held-passed : {us s o : List ℕ} {i j n : ℕ} → Passed true us s o i j n → Held s (bytes_from us i) o [] n
+held-passed {us} {s} {o} {i} {j} {n} w = held-wrote (written_all w.written (last-bytes us j (omega (arith, w.is))))
 
 pub held_none : {s x y : List ℕ} → x ≡ y → Held s x s y 0
 held_none {s} {x} {y} e = held-written (written_none e)
@@ -289,7 +277,7 @@ module _ (us : List ℕ) (i k : ℕ) (w : Words us) (ok : well_from us i ≡ tru
     pub beyond-room : length (bytes_from us (i + k)) ≤ length (take (length p - k) (drop k p))
     beyond-room = held-room (held_low v) r
 
-    pub turn-fewer : (k ≡ 8 → ⊥) → {t : List ℕ} {j m : ℕ} → Passed us (take (length p - k) (drop k p)) t (i + k) j m
+    pub turn-fewer : (k ≡ 8 → ⊥) → {t : List ℕ} {j m : ℕ} → Passed false us (take (length p - k) (drop k p)) t (i + k) j m
         → Turned us q (take k p ++ (t ++ drop (length p - k) (drop k p))) i j (k + m)
     unfolding turn_units
     turn-fewer z {t} {j} {m} d =

@@ -1,16 +1,15 @@
 -- Text, computed at its edges: each value here is another one where a definition is off by a bit, a byte or a
 -- case. Assumes nothing.
-use Rattle.std.specs.Prelude.{◌≡◌, refl, true, false, List, [], ◌∷◌, map, ℕ, ◌≤◌, ◌<◌}
+use Rattle.std.specs.Prelude.{◌≡◌, refl, true, false, List, [], ◌∷◌, map, ℕ, ◌≤◌, ◌<◌, None}
 use Rattle.std.proofs.Common.{inl, inr, arith}
 use Rattle.base.specs.Number.{be_bytes}
 use Rattle.base.specs.Literal.{quoted as text}
 use Rattle.text.specs.Utf16.{Scalar, Scalars, is_high, is_low, encode_one, encode16, well, ill, is_well, scalars, utf16, units, utf16le}
 use Rattle.text.specs.Utf8.{utf8_one, utf8, from_utf8_on, from_utf8}
-use Rattle.text.specs.Units.{units_of, scalar_of}
+use Rattle.text.specs.Units.{units_of, of_units, scalar_of}
 use Rattle.text.specs.Digits.{digits, decimal, hex}
 use Rattle.text.specs.Name.{decoded, suffix, rendered, text_bytes}
 use Rattle.text.specs.Affix.{starts_with, ends_with, all_ascii}
-use Rattle.text.specs.declared.utf16.Scalar.TheVariants.{One, Two, Ill}
 
 -- ---- text
 
@@ -58,9 +57,9 @@ pub record Utf-16 : Type 0 where
   -- two bytes to a unit, the low one first; a last odd byte is no unit
   pub units_of_lem : units (1 ∷ 2 ∷ 3 ∷ 4 ∷ 5 ∷ []) ≡ 0x0201 ∷ 0x0403 ∷ []
   pub little_endian : utf16le (0x1F600 ∷ 0x0102 ∷ []) ≡ 0x3D ∷ 0xD8 ∷ 0x00 ∷ 0xDE ∷ 0x02 ∷ 0x01 ∷ []
-  pub first-scalar : map scalar_of ([] ∷ (0xD83D ∷ []) ∷ (0xDE00 ∷ []) ∷ (0x41 ∷ []) ∷ []) ≡ Ill ∷ Ill ∷ Ill ∷ One 0x41 ∷ []
+  pub first-scalar : map scalar_of ([] ∷ (0xD83D ∷ []) ∷ (0xDE00 ∷ []) ∷ (0x41 ∷ []) ∷ []) ≡ None ∷ None ∷ None ∷ of_units 1 0x41 ∷ []
   pub first_of-two : map scalar_of ((0xD83D ∷ 0xDE00 ∷ []) ∷ (0xD83D ∷ 0x41 ∷ []) ∷ (0xDE00 ∷ 0x41 ∷ []) ∷ (0x41 ∷ 0x42 ∷ []) ∷ [])
-      ≡ Two 0x1F600 ∷ Ill ∷ Ill ∷ One 0x41 ∷ []
+      ≡ of_units 2 0x1F600 ∷ None ∷ None ∷ of_units 1 0x41 ∷ []
 
 pub utf_16 : Utf-16
 unfolding encode_one encode16 utf16 units scalar_of

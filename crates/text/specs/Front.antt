@@ -1,6 +1,6 @@
 -- Text from a unit on: how many of its first units are ASCII, what bytes it takes, and what of them is written. What the code counts and
 -- writes. Assumes nothing.
-use Rattle.std.specs.Prelude.{◌≡◌, Bool, true, cond, List, [], ◌∷◌, ℕ, zero, suc, ◌+◌, ◌%◌, ◌≤◌, ◌<◌, eqb, ltb, length, take, drop}
+use Rattle.std.specs.Prelude.{◌≡◌, Bool, true, false, cond, List, [], ◌∷◌, ℕ, zero, suc, ◌+◌, ◌%◌, ◌≤◌, ◌<◌, eqb, ltb, length, take, drop}
 use Rattle.base.specs.Output.{Wrote}
 use Rattle.text.specs.Utf16.{is_well, scalars, utf16}
 use Rattle.text.specs.Utf8.{utf8}
@@ -37,9 +37,14 @@ pub record Written (s x o rest : List ℕ) (n : ℕ) : Type 0 where
   pub wrote : Wrote s (take n x) o n
   pub left : drop n x ≡ rest
 
--- of the bytes of the units from i on, n are written, which are those of the units beyond ASCII before the unit j
-pub record Passed (us s o : List ℕ) (i j n : ℕ) : Type 0 where
-  pub is : j ≡ i + beyond_front (drop i us)
+-- where the units from i on end: all of them, or those beyond ASCII before one that is not
+abbrev pub end_of : Bool → List ℕ → ℕ → ℕ
+end_of true us i = length us
+end_of false us i = i + beyond_front (drop i us)
+
+-- of the bytes of the units from i on, n are written, which are those of the units before the unit j, where all of them or those beyond ASCII end
+pub record Passed (all : Bool) (us s o : List ℕ) (i j n : ℕ) : Type 0 where
+  pub is : j ≡ end_of all us i
   pub within : j ≤ length us
   pub well : well_from us j ≡ true
   pub written : Written s (bytes_from us i) o (bytes_from us j) n

@@ -16,6 +16,7 @@ pub mod DigitsLaws
 pub mod Name
 pub mod NameLaws
 pub mod NameLength
+pub mod Parts
 pub mod Affix
 pub mod AffixLaws
 pub mod Plain

@@ -3,6 +3,8 @@ use Rattle.std.specs.Prelude.{◌≡◌, refl, Bool, true, false, ◌&&◌, List
 use Rattle.std.proofs.Common.{sym, ◌∙◌, ap, add-one, arith, lt-ltb, le-ltb, ltb-true, ltb-false, ne_eqb, eqb-true, length-append, length-drop, take-append-drop, take-suc, take-add, take_all, drop-drop, length-take-le}
 use Rattle.std.proofs.lemmas.Bool.{eqb-false}
 use Rattle.std.specs.Int.Bits.{bit_and, bit_or, or_add_and}
+use Rattle.std.specs.List.{fold}
+use Rattle.std.proofs.Math.Bool.{and_assoc}
 use Rattle.std.proofs.lemmas.Nat.{or_lt, and_le_r, and_le_l, and_block}
 use Rattle.std.proofs.lemmas.Nat.Bits.{and_high}
 use Rattle.base.specs.Never.{never}
@@ -46,6 +48,11 @@ ascii-last s x = ascii-both s (x ∷ []) ∙ rw (and-true (ltb x 128))
 -- one byte more, or one unit
 pub ascii-next : (s : List ℕ) (i all : ℕ) → i < length s → ltb all 128 ≡ all_ascii (take i s) → ltb (bit_or all (get_or s i 0)) 128 ≡ all_ascii (take (i + 1) s)
 ascii-next s i all h e = or_ascii all (get_or s i 0) ∙ rw (add-one i, take-suc s i 0 h, ascii-last (take i s) (get_or s i 0), e)
+
+-- of the bits of all bytes together
+pub fold-ascii : (s : List ℕ) (a : ℕ) → ltb (fold bit_or a s) 128 ≡ (ltb a 128 && all_ascii s)
+fold-ascii [] a = sym (and-true (ltb a 128))
+fold-ascii (x ∷ s) a = fold-ascii s (bit_or a x) ∙ rw (or_ascii a x) (and_assoc (ltb a 128) (ltb x 128) (all_ascii s))
 
 -- ---- the test, eight bytes a turn
 

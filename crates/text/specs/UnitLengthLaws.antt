@@ -25,13 +25,21 @@ single-is {u} (inr p) = rw (le-leb 0xE000 u p) (or-true (ltb u 0xD800))
 surrogate-is : (u : ℕ) → 0xD800 ≤ u → u < 0xE000 → is_single u ≡ false
 surrogate-is u p q = rw (le-ltb u 0xD800 p, lt-leb 0xE000 u q)
 
-is_single_lem : (u : ℕ) → is_single u ≡ true → Single u
+pub is_single_lem : (u : ℕ) → is_single u ≡ true → Single u
 is_single_lem u e = go (lt_or_le u 0xD800) (lt_or_le u 0xE000)
   where
     go : (u < 0xD800) ⊎ (0xD800 ≤ u) → (u < 0xE000) ⊎ (0xE000 ≤ u) → Single u
     go (inl p) q = inl p
     go (inr p) (inl q) = let f = surrogate-is u p q in never (cc)
     go (inr p) (inr q) = inr q
+
+pub not_single_lem : (u : ℕ) → is_single u ≡ false → (0xD800 ≤ u) × (u < 0xE000)
+not_single_lem u e = go (lt_or_le u 0xD800) (lt_or_le u 0xE000)
+  where
+    go : (u < 0xD800) ⊎ (0xD800 ≤ u) → (u < 0xE000) ⊎ (0xE000 ≤ u) → (0xD800 ≤ u) × (u < 0xE000)
+    go (inl p) q = let f = single-is {u = u} (inl p) in never (cc)
+    go (inr p) (inl q) = (p, q)
+    go (inr p) (inr q) = let f = single-is {u = u} (inr q) in never (cc)
 
 -- units of which none is a surrogate are a text
 single-well : (us : List ℕ) → all_single us ≡ true → is_well (utf16 us) ≡ true

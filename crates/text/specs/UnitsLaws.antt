@@ -1,14 +1,13 @@
 -- Laws of units: what they mean, one scalar value at a time. Assumes nothing.
-use Rattle.std.specs.Prelude.{◌≡◌, refl, Bool, true, false, List, [], ◌∷◌, ℕ, zero, suc, ◌+◌, ◌*◌, ◌/◌, ◌≤◌, ◌<◌, length, drop, get_or}
+use Rattle.std.specs.Prelude.{◌≡◌, refl, Bool, true, false, List, [], ◌∷◌, ℕ, zero, suc, ◌+◌, ◌*◌, ◌/◌, ◌≤◌, ◌<◌, length, drop, get_or, Option, Some, None}
 use Rattle.std.proofs.Common.{sym, ◌∙◌, ap, inl, arith}
 use Rattle.base.specs.Never.{never}
 use Rattle.base.specs.NumberLaws.{Bytes}
 use Rattle.base.specs.Number.{le_at}
 use Rattle.text.specs.Utf16.{Decoded, well, ill, is_well, more, of_pair, utf16, units, encode16, Scalars}
 use Rattle.text.specs.Name.{decoded, base}
-use Rattle.text.specs.Units.{units_of, scalar_of}
+use Rattle.text.specs.Units.{units_of, of_units, scalar_of}
 use Rattle.text.specs.declared.utf16.Scalar.{Scalar}
-use Rattle.text.specs.declared.utf16.Scalar.TheVariants.{One, Two, Ill}
 use Rattle.text.specs.Utf16Cases.{High, Low, Single, NoLow, Cases, none, single, pair, stray, lone, cases, high, low, low-high, single-high, single-low, no_low, utf16-single, utf16-pair, utf16-stray, utf16-lone}
 use Rattle.text.specs.Utf16Laws.{decode_length}
 pub use Rattle.text.specs.Utf16Cases.{Words, words-drop, utf16-none, is_well-more, scalars-more}
@@ -77,30 +76,29 @@ units_of-at (x ∷ y ∷ part) zero h = omega arith
 units_of-at (x ∷ y ∷ part) (suc i) h = let e : 2 * suc i ≡ suc (suc (2 * i)) = omega arith in rw e (units_of-at part i (omega arith))
 
 -- scalar_of by the first units
-pub scalar-single : (u : ℕ) (us : List ℕ) → Single u → scalar_of (u ∷ us) ≡ One u
+pub scalar-single : (u : ℕ) (us : List ℕ) → Single u → scalar_of (u ∷ us) ≡ of_units 1 u
 unfolding scalar_of
 scalar-single u [] p = simp (single-high p, single-low p)
 scalar-single u (v ∷ us) p = simp (single-high p, single-low p)
 
-pub scalar-pair : (u v : ℕ) (us : List ℕ) → High u → Low v → scalar_of (u ∷ v ∷ us) ≡ Two (of_pair u v)
+pub scalar-pair : (u v : ℕ) (us : List ℕ) → High u → Low v → scalar_of (u ∷ v ∷ us) ≡ of_units 2 (of_pair u v)
 unfolding scalar_of
 scalar-pair u v us p q = simp (high p, low q)
 
-pub scalar-stray : (u : ℕ) (us : List ℕ) → Low u → scalar_of (u ∷ us) ≡ Ill
+pub scalar-stray : (u : ℕ) (us : List ℕ) → Low u → scalar_of (u ∷ us) ≡ None
 unfolding scalar_of
 scalar-stray u [] p = simp (low-high p, low p)
 scalar-stray u (v ∷ us) p = simp (low-high p, low p)
 
-pub scalar-lone : (u : ℕ) (us : List ℕ) → High u → NoLow us → scalar_of (u ∷ us) ≡ Ill
+pub scalar-lone : (u : ℕ) (us : List ℕ) → High u → NoLow us → scalar_of (u ∷ us) ≡ None
 unfolding scalar_of
 scalar-lone u [] p q = simp (high p)
 scalar-lone u (v ∷ us) p q = simp (high p, no_low q)
 
 -- the first scalar value, and the rest
-abbrev after : Scalar → List ℕ → Decoded
-after (One c) us = more c (utf16 (drop 1 us))
-after (Two c) us = more c (utf16 (drop 2 us))
-after Ill us = ill
+abbrev after : Option Scalar → List ℕ → Decoded
+after (Some s) us = more s.value (utf16 (drop s.units us))
+after None us = ill
 
 first : {u : ℕ} {us : List ℕ} → Cases (u ∷ us) → utf16 (u ∷ us) ≡ after (scalar_of (u ∷ us)) (u ∷ us)
 first (single {u} {us} p r) = rw (utf16-single u us p, scalar-single u us p)
@@ -108,39 +106,42 @@ first (pair {u} {v} {us} p q r) = rw (utf16-pair u v us p q, scalar-pair u v us 
 first (stray {u} {us} p) = rw (utf16-stray u us p, scalar-stray u us p)
 first (lone {u} {us} p q) = rw (utf16-lone u us p q, scalar-lone u us p q)
 
-scalar-first : (us : List ℕ) (s : Scalar) → 0 < length us → scalar_of us ≡ s → utf16 us ≡ after s us
+scalar-first : (us : List ℕ) (s : Option Scalar) → 0 < length us → scalar_of us ≡ s → utf16 us ≡ after s us
 scalar-first [] s l e = absurd (omega arith)
-scalar-first (u ∷ us) s l e = first (cases (u ∷ us)) ∙ ap (λ (s : Scalar). after s (u ∷ us)) e
+scalar-first (u ∷ us) s l e = first (cases (u ∷ us)) ∙ ap (λ (s : Option Scalar). after s (u ∷ us)) e
 
-pub scalar-one : (us : List ℕ) {c : ℕ} → scalar_of us ≡ One c → utf16 us ≡ more c (utf16 (drop 1 us))
+pub scalar-some : (us : List ℕ) {s : Scalar} → scalar_of us ≡ Some s → utf16 us ≡ more s.value (utf16 (drop s.units us))
 unfolding scalar_of
-scalar-one [] e = never (cc)
-scalar-one (u ∷ us) {c} e = scalar-first (u ∷ us) (One c) (omega arith) e
+scalar-some [] e = never (cc)
+scalar-some (u ∷ us) {s} e = scalar-first (u ∷ us) (Some s) (omega arith) e
 
-pub scalar-two : (us : List ℕ) {c : ℕ} → scalar_of us ≡ Two c → utf16 us ≡ more c (utf16 (drop 2 us))
-unfolding scalar_of
-scalar-two [] e = never (cc)
-scalar-two (u ∷ us) {c} e = scalar-first (u ∷ us) (Two c) (omega arith) e
+pub scalar-one : (us : List ℕ) {c : ℕ} → scalar_of us ≡ of_units 1 c → utf16 us ≡ more c (utf16 (drop 1 us))
+scalar-one us e = scalar-some us e
 
-pub scalar-ill : (us : List ℕ) → 0 < length us → scalar_of us ≡ Ill → utf16 us ≡ ill
-scalar-ill us l e = scalar-first us Ill l e
+pub scalar-two : (us : List ℕ) {c : ℕ} → scalar_of us ≡ of_units 2 c → utf16 us ≡ more c (utf16 (drop 2 us))
+scalar-two us e = scalar-some us e
+
+pub scalar-ill : (us : List ℕ) → 0 < length us → scalar_of us ≡ None → utf16 us ≡ ill
+scalar-ill us l e = scalar-first us None l e
 
 -- how many units it takes, and how large it is
-abbrev Fits : Scalar → List ℕ → Type 0
-Fits (One c) us = (1 ≤ length us) × (c < 0x10000)
-Fits (Two c) us = (2 ≤ length us) × (c < 0x110000)
-Fits Ill us = Unit {0}
+abbrev Fits : Option Scalar → List ℕ → Type 0
+Fits (Some s) us = (0 < s.units) × (s.units ≤ length us) × (s.units ≡ 1 → s.value < 0x10000) × (s.value < 0x110000)
+Fits None us = Unit {0}
 
 fits : {us : List ℕ} → Cases us → Words us → Fits (scalar_of us) us
 unfolding scalar_of
 fits none w = tt
-fits (single {u} {us} p r) w = rw (scalar-single u us p) (omega arith, w 0)
-fits (pair {u} {v} {us} p q r) w = rw (scalar-pair u v us p q) (omega arith, omega arith)
+fits (single {u} {us} p r) w = rw (scalar-single u us p) (omega arith, omega arith, λ _. w 0, omega (arith, w 0))
+fits (pair {u} {v} {us} p q r) w = rw (scalar-pair u v us p q) (omega arith, omega arith, λ e. absurd (omega arith), omega arith)
 fits (stray {u} {us} p) w = rw (scalar-stray u us p) tt
 fits (lone {u} {us} p q) w = rw (scalar-lone u us p q) tt
 
-pub one-fits : (us : List ℕ) {c : ℕ} → Words us → scalar_of us ≡ One c → (1 ≤ length us) × (c < 0x10000)
-one-fits us w e = rw e at (fits (cases us) w)
+pub some-fits : (us : List ℕ) {s : Scalar} → Words us → scalar_of us ≡ Some s → (0 < s.units) × (s.units ≤ length us) × (s.units ≡ 1 → s.value < 0x10000) × (s.value < 0x110000)
+some-fits us w e = rw e at (fits (cases us) w)
 
-pub two_fits : (us : List ℕ) {c : ℕ} → Words us → scalar_of us ≡ Two c → (2 ≤ length us) × (c < 0x110000)
-two_fits us w e = rw e at (fits (cases us) w)
+pub one-fits : (us : List ℕ) {c : ℕ} → Words us → scalar_of us ≡ of_units 1 c → (1 ≤ length us) × (c < 0x10000)
+one-fits us w e = let f = some-fits us w e in (f.1, f.2 refl)
+
+pub two_fits : (us : List ℕ) {c : ℕ} → Words us → scalar_of us ≡ of_units 2 c → (2 ≤ length us) × (c < 0x110000)
+two_fits us w e = let f = some-fits us w e in (f.1, f.3)

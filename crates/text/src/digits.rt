@@ -53,10 +53,8 @@ pub fn put_hex(out: &mut [u8], n: u64, k: usize) -> usize
     ensures { Wrote out.old (hex k n) out.new result }
 {
     let mut rest = n;
-    let mut left = k;
-    while 0 < left {
-        left -= 1;
-        out[left] = hex_digit((rest % 16) as u8);
+    for i in (0..k).rev() {
+        out[i] = hex_digit((rest % 16) as u8);
         rest = rest / 16;
     }
     k

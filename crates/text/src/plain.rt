@@ -1,15 +1,16 @@
 // Names whose one-byte text is all ASCII: its bytes are its UTF-8, and are copied as they stand; other names go the way of `name`.
-ghost use Rattle.std.specs.Prelude.{◌≡◌, true, ◌*◌, ◌^◌, ◌+◌, ◌≤◌, ◌<◌, length, take, drop};
+ghost use Rattle.std.specs.Prelude.{◌≡◌, ◌*◌, ◌^◌, ◌+◌, ◌≤◌, ◌<◌, length, take, drop};
 ghost use Rattle.std.proofs.Math.Seq.{paste};
 ghost use Rattle.text.specs.Affix.{all_ascii};
 ghost use Rattle.base.specs.Output.{Wrote};
 ghost use Rattle.text.specs.Plain.{Copied};
-ghost use Rattle.text.specs.Utf16.{is_well};
 ghost use Rattle.text.specs.Utf8.{utf8};
-ghost use Rattle.text.specs.Name.{decoded, base, rendered, text_bytes};
+ghost use Rattle.text.specs.Name.{text_bytes};
+ghost use Rattle.text.specs.Parts.{base_in, rendered_in};
 
 use super::name;
 use super::name::{put_suffix, suffix_len};
+use super::text::{Part, Text};
 use base::number::le64;
 use base::output::put_be32;
 
@@ -33,13 +34,7 @@ fn is_pair(part: &[u8], i: usize) -> bool
 fn is_short(part: &[u8]) -> bool
     ensures { result ≡ all_ascii part.now }
 {
-    let mut all: u8 = 0;
-    let mut i = 0;
-    while i < part.len() {
-        all = all | part[i];
-        i += 1;
-    }
-    all < 128
+    part.iter().fold(0, |all, b| all | *b) < 128
 }
 
 // Whether bytes are all ASCII, by the first and the last of them, which may have some in common: eight each up to 16 bytes, sixteen each from there.
@@ -66,38 +61,20 @@ pub fn is_plain(part: &[u8]) -> bool
     if n <= 32 {
         return is_ends(part);
     }
-    let last = n - 16;
-    let mut i = 0;
-    while i < last {
-        if !is_pair(part, i) {
+    for i in 0..(n - 1) / 16 {
+        if !is_pair(part, 16 * i) {
             return false;
         }
-        i += 16;
     }
-    is_pair(part, last)
+    is_pair(part, n - 16)
 }
 
-// The eight bytes of src from a place on, to the same place: all are read before one is written, so that they go as one word.
+// The eight bytes of src from a place on, to the same place, as one word.
 fn put_eight(out: &mut [u8], src: &[u8], at: usize)
     requires { (at + 8 ≤ length src.now) × (at + 8 ≤ length out.old) }
     ensures { out.new ≡ paste out.old at (drop at src.now) 8 }
 {
-    let a = src[at];
-    let b = src[at + 1];
-    let c = src[at + 2];
-    let d = src[at + 3];
-    let e = src[at + 4];
-    let f = src[at + 5];
-    let g = src[at + 6];
-    let h = src[at + 7];
-    out[at] = a;
-    out[at + 1] = b;
-    out[at + 2] = c;
-    out[at + 3] = d;
-    out[at + 4] = e;
-    out[at + 5] = f;
-    out[at + 6] = g;
-    out[at + 7] = h;
+    out[at..at + 8].copy_from_slice(&le64(src, at).to_le_bytes());
 }
 
 // The sixteen bytes of src from a place on, to the same place.
@@ -115,12 +92,9 @@ fn put_short(out: &mut [u8], part: &[u8]) -> bool
     ensures { (result ≡ all_ascii part.now) × Wrote out.old part.now out.new (length part.now) }
 {
     let mut all: u8 = 0;
-    let mut i = 0;
-    while i < part.len() {
-        let v = part[i];
-        out[i] = v;
-        all = all | v;
-        i += 1;
+    for (i, b) in part.iter().enumerate() {
+        out[i] = *b;
+        all |= *b;
     }
     all < 128
 }
@@ -153,83 +127,80 @@ pub fn put_plain(out: &mut [u8], part: &[u8]) -> bool
         put_ends(out, part);
         return is_ends(part);
     }
-    let last = n - 16;
     let mut plain = true;
-    let mut i = 0;
-    while i < last {
-        plain = plain & is_pair(part, i);
-        put_sixteen(out, part, i);
-        i += 16;
+    for i in 0..(n - 1) / 16 {
+        put_sixteen(out, part, 16 * i);
+        plain &= is_pair(part, 16 * i);
     }
-    put_sixteen(out, part, last);
-    plain & is_pair(part, last)
+    put_sixteen(out, part, n - 16);
+    plain & is_pair(part, n - 16)
 }
 
 // How many bytes of UTF-8 the base takes.
-pub fn base_len(part: &[u8], wide: bool) -> usize
-    requires { (is_well (decoded wide part.now) ≡ true) × (length part.now < 2 ^ 32) }
-    ensures { (result ≡ length (utf8 (base wide part.now))) × (result ≤ 4 * length part.now) }
+pub fn base_len(text: Text) -> usize
+    requires { length text.part.bytes.now < 2 ^ 32 }
+    ensures { (result ≡ length (utf8 (base_in text.entry.part))) × (result ≤ 4 * length text.entry.part.bytes.now) }
 {
-    if wide {
-        return name::base_len(part, wide);
+    if text.part.wide {
+        return name::base_len(text);
     }
-    if is_plain(part) {
-        return part.len();
+    if is_plain(text.part.bytes) {
+        return text.part.bytes.len();
     }
-    name::base_len(part, wide)
+    name::base_len(text)
 }
 
 // The bytes of one-byte text, and whether they are the base: not for wide text, of which none are written.
-fn put_copy(out: &mut [u8], part: &[u8], wide: bool) -> bool
-    requires { length (utf8 (base wide part.now)) ≤ length out.old }
-    ensures { Copied wide part.now out.old out.new result }
+fn put_copy(out: &mut [u8], part: Part) -> bool
+    requires { length (utf8 (base_in part)) ≤ length out.old }
+    ensures { Copied part.entry.wide part.entry.bytes.now out.old out.new result }
 {
-    if wide {
+    if part.wide {
         return false;
     }
-    put_plain(out, part)
+    put_plain(out, part.bytes)
 }
 
 // The base.
-pub fn put_base(out: &mut [u8], part: &[u8], wide: bool) -> usize
-    requires { (is_well (decoded wide part.now) ≡ true) × (length (utf8 (base wide part.now)) ≤ length out.old) }
-    ensures { Wrote out.old (utf8 (base wide part.now)) out.new result }
+pub fn put_base(out: &mut [u8], text: Text) -> usize
+    requires { length (utf8 (base_in text.part)) ≤ length out.old }
+    ensures { Wrote out.old (utf8 (base_in text.entry.part)) out.new result }
 {
-    if put_copy(out, part, wide) {
-        return part.len();
+    if put_copy(out, text.part) {
+        return text.part.bytes.len();
     }
-    name::put_base(out, part, wide)
+    name::put_base(out, text)
 }
 
 // How many bytes of UTF-8 the rendered name takes.
-pub fn name_len(part: &[u8], wide: bool, number: u32) -> usize
-    requires { (is_well (decoded wide part.now) ≡ true) × (length part.now < 2 ^ 32) }
-    ensures { (result ≡ length (utf8 (rendered wide part.now number))) × (result ≤ 4 * length part.now + 21) }
+pub fn name_len(text: Text, number: u32) -> usize
+    requires { length text.part.bytes.now < 2 ^ 32 }
+    ensures { (result ≡ length (utf8 (rendered_in text.entry.part number))) × (result ≤ 4 * length text.entry.part.bytes.now + 21) }
 {
-    base_len(part, wide) + suffix_len(number)
+    base_len(text) + suffix_len(number)
 }
 
 // The rendered name. What is not copied is written by `name` whole, suffix and all, here and below: `name::put_name` so has two callers, and
 // the compiler keeps it apart, which leaves little code where names are copied.
-pub fn put_name(out: &mut [u8], part: &[u8], wide: bool, number: u32) -> usize
-    requires { (is_well (decoded wide part.now) ≡ true) × (length (utf8 (rendered wide part.now number)) ≤ length out.old) }
-    ensures { Wrote out.old (utf8 (rendered wide part.now number)) out.new result }
+pub fn put_name(out: &mut [u8], text: Text, number: u32) -> usize
+    requires { length (utf8 (rendered_in text.part number)) ≤ length out.old }
+    ensures { Wrote out.old (utf8 (rendered_in text.entry.part number)) out.new result }
 {
-    if put_copy(out, part, wide) {
-        let n = part.len();
+    if put_copy(out, text.part) {
+        let n = text.part.bytes.len();
         return n + put_suffix(&mut out[n..], number);
     }
-    name::put_name(out, part, wide, number)
+    name::put_name(out, text, number)
 }
 
 // The rendered name as a text: its length in 4 bytes, then its bytes.
-pub fn put_name_text(out: &mut [u8], part: &[u8], wide: bool, number: u32) -> usize
-    requires { (is_well (decoded wide part.now) ≡ true) × (length (text_bytes (rendered wide part.now number)) ≤ length out.old) × (length (utf8 (rendered wide part.now number)) < 2 ^ 32) }
-    ensures { Wrote out.old (text_bytes (rendered wide part.now number)) out.new result }
+pub fn put_name_text(out: &mut [u8], text: Text, number: u32) -> usize
+    requires { (length (text_bytes (rendered_in text.part number)) ≤ length out.old) × (length (utf8 (rendered_in text.part number)) < 2 ^ 32) }
+    ensures { Wrote out.old (text_bytes (rendered_in text.entry.part number)) out.new result }
 {
-    if wide {
-        return name::put_name_text(out, part, wide, number);
+    if text.part.wide {
+        return name::put_name_text(out, text, number);
     }
-    let n = put_name(&mut out[4..], part, wide, number);
+    let n = put_name(&mut out[4..], text, number);
     put_be32(out, n as u32) + n
 }

@@ -1,26 +1,29 @@
 // A part of a block as units: the bytes of one-byte text, the 16-bit units of wide text.
 ghost use Rattle.std.specs.Prelude.{◌≡◌, ◌<◌, length, get_or};
-ghost use Rattle.text.specs.Units.{units_of};
+ghost use Rattle.text.specs.Units.{units_in};
 
+use super::text::Part;
 use base::number;
 
-// How many units a part has.
-pub fn unit_count(part: &[u8], wide: bool) -> usize
-    ensures { result ≡ length (units_of wide part.now) }
-{
-    if wide {
-        return part.len() / 2;
+impl<'a> Part<'a> {
+    // How many units it has.
+    pub fn count(self) -> usize
+        ensures { result ≡ length (units_in self.entry) }
+    {
+        if self.wide {
+            return self.bytes.len() / 2;
+        }
+        self.bytes.len()
     }
-    part.len()
-}
 
-// Unit i of a part.
-pub fn unit_at(part: &[u8], wide: bool, i: usize) -> u32
-    requires { i < length (units_of wide part.now) }
-    ensures { (result ≡ get_or (units_of wide part.now) i 0) × (result < 65536) }
-{
-    if wide {
-        return number::le16(part, 2 * i) as u32;
+    // Unit i.
+    pub fn unit(self, i: usize) -> u32
+        requires { i < length (units_in self) }
+        ensures { (result ≡ get_or (units_in self.entry) i 0) × (result < 65536) }
+    {
+        if self.wide {
+            return u32::from(number::le16(self.bytes, 2 * i));
+        }
+        u32::from(self.bytes[i])
     }
-    number::wide(part[i])
 }

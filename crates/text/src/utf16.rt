@@ -2,97 +2,86 @@
 ghost use Rattle.std.specs.Prelude.{◌≡◌, true, ◌<◌, length, drop};
 ghost use Rattle.text.specs.Utf16.{is_well};
 ghost use Rattle.text.specs.Name.{decoded};
-ghost use Rattle.text.specs.Units.{units_of, scalar_of};
+ghost use Rattle.text.specs.Units.{units_of, units_in, scalar_of};
 ghost use Rattle.text.specs.UnitLength.{is_single, all_single};
 
-use super::units::{unit_at, unit_count};
+use super::text::Part;
 
-// A scalar value of one unit or of two, or a surrogate with no partner.
+// A scalar value, and how many units it takes: one or two.
 #[derive(Clone, Copy)]
-pub enum Scalar {
-    One(u32),
-    Two(u32),
-    Ill,
+pub struct Scalar {
+    pub value: u32,
+    pub units: usize,
 }
 
-// The scalar value that starts with unit i of a part.
-pub fn scalar_at(part: &[u8], wide: bool, i: usize) -> Scalar
-    requires { i < length (units_of wide part.now) }
-    ensures { result ≡ scalar_of (drop i (units_of wide part.now)) }
+// The scalar value that starts with unit i of a part; none for a surrogate with no partner.
+pub fn scalar_at(part: Part, i: usize) -> Option<Scalar>
+    requires { i < length (units_in part) }
+    ensures { result ≡ scalar_of (drop i (units_in part.entry)) }
 {
-    let u = unit_at(part, wide, i);
-    if u < 0xD800 {
-        return Scalar::One(u);
-    }
-    if 0xE000 <= u {
-        return Scalar::One(u);
+    let u = part.unit(i);
+    if is_single(u) {
+        return Some(Scalar { value: u, units: 1 });
     }
     if 0xDC00 <= u {
-        return Scalar::Ill;
+        return None;
     }
     let next = i + 1;
-    if unit_count(part, wide) <= next {
-        return Scalar::Ill;
+    if part.count() <= next {
+        return None;
     }
-    let v = unit_at(part, wide, next);
-    if v < 0xDC00 {
-        return Scalar::Ill;
+    let v = part.unit(next);
+    if v < 0xDC00 || 0xE000 <= v {
+        return None;
     }
-    if 0xE000 <= v {
-        return Scalar::Ill;
-    }
-    Scalar::Two(0x10000 + (u - 0xD800) * 0x400 + (v - 0xDC00))
+    let value = 0x10000 + (u - 0xD800) * 0x400 + (v - 0xDC00);
+    Some(Scalar { value, units: 2 })
 }
 
 // Whether a unit is a scalar value by itself: no surrogate.
 pub fn is_single(u: u32) -> bool
     ensures { result ≡ is_single u }
 {
-    if u < 0xD800 {
-        return true;
-    }
-    0xE000 <= u
+    u < 0xD800 || 0xE000 <= u
 }
 
 // Whether no unit of wide text is a surrogate. The loop runs to the end whatever it meets, so that the compiler can take many units a turn.
-fn all_single(part: &[u8]) -> bool
-    ensures { result ≡ all_single (units_of true part.now) }
+fn all_single(bytes: &[u8]) -> bool
+    ensures { result ≡ all_single (units_of true bytes.now) }
 {
-    let n = unit_count(part, true);
+    let part = Part { bytes, wide: true };
     let mut all = true;
-    let mut i = 0;
-    while i < n {
-        all = all & is_single(unit_at(part, true, i));
-        i += 1;
+    for i in 0..part.count() {
+        all &= is_single(part.unit(i));
     }
     all
 }
 
 // Whether the surrogates of wide text pair.
-fn is_paired(part: &[u8]) -> bool
-    ensures { result ≡ is_well (decoded true part.now) }
+fn is_paired(bytes: &[u8]) -> bool
+    ensures { result ≡ is_well (decoded true bytes.now) }
 {
-    let n = unit_count(part, true);
+    let part = Part { bytes, wide: true };
+    let n = part.count();
     let mut i = 0;
     while i < n {
-        match scalar_at(part, true, i) {
-            Scalar::One(_) => i += 1,
-            Scalar::Two(_) => i += 2,
-            Scalar::Ill => return false,
-        }
+        let Some(c) = scalar_at(part, i) else {
+            return false;
+        };
+        i += c.units;
     }
     true
 }
 
 // Whether a part is a text: always for one-byte text, and for wide text where its surrogates pair. Most have none, which is asked first.
-pub fn is_text(part: &[u8], wide: bool) -> bool
-    ensures { result ≡ is_well (decoded wide part.now) }
+pub fn is_text(part: Part) -> bool
+    ensures { result ≡ is_well (decoded part.entry.wide part.entry.bytes.now) }
 {
-    if !wide {
+    if !part.wide {
         return true;
     }
-    if all_single(part) {
+    if all_single(part.bytes) {
         return true;
     }
-    is_paired(part)
+    is_paired(part.bytes)
 }

@@ -2,10 +2,17 @@
 
 #![tactic(auto)]
 
-ghost use Rattle.std.specs.Prelude.{◌≡◌, length};
+ghost use Rattle.std.specs.Prelude.{◌≡◌, true, false, length, MatchOption};
 ghost use Rattle.lower.specs.Lower.{lower};
 ghost use Rattle.city.specs.City.{city_hash64};
 ghost use Rattle.textapi.specs.Answers.{fine, id_answer, name_answer, name_after};
+
+use ids::id::name_id;
+use lower::search::lower_in;
+use rules::rules::{lower_pair, lower_quick};
+use text::name::{name_len, put_name};
+use text::text::{Part, Text};
+use text::utf16::is_text;
 
 #[unsafe(no_mangle)]
 pub extern "C" fn text_city_hash64(s: &[u8]) -> u64
@@ -21,50 +28,50 @@ pub extern "C" fn text_lower(c: u32) -> u32
     ensures { result ≡ lower c }
 {
     if c < 0x1_0000 {
-        let r = rules::rules::lower_quick(c);
-        if r < rules::rules::ASK {
+        if let Some(r) = lower_quick(c) {
             return r;
         }
-    } else {
-        if c < 0x11_0000 {
-            return rules::rules::lower_pair(c);
-        }
+    } else if c < 0x11_0000 {
+        return lower_pair(c);
     }
-    let pairs = lower::table::table();
-    lower::search::lower_in(&pairs, c)
+    lower_in(c)
 }
 
-// Whether a part is a text that the functions below take.
-fn is_fine(part: &[u8], wide: bool) -> bool
-    ensures { result ≡ fine wide part.now }
+// A part as a text that the functions below take: one of fewer than 2^32 bytes; none where it is no such text.
+fn fine_text<'a>(bytes: &'a [u8], wide: bool) -> Option<Text<'a>>
+    ensures { MatchOption result (fine wide bytes.now ≡ false)
+        (λ t. (fine wide bytes.now ≡ true) × (t.part.wide ≡ wide) × (t.part.bytes.now ≡ bytes.now)) }
 {
-    if part.len() < 0x1_0000_0000 {
-        return text::utf16::is_text(part, wide);
+    let part = Part { bytes, wide };
+    if bytes.len() < 0x1_0000_0000 && is_text(part) {
+        return Some(Text { part });
     }
-    false
+    None
 }
 
 // The id of a name; 0 where it is no text.
+// Kept: C sees a number, and no `Option<u64>`.
 #[unsafe(no_mangle)]
 pub extern "C" fn text_name_id(part: &[u8], wide: bool, number: u32) -> u64
     ensures { result ≡ id_answer wide part.now number }
 {
-    if is_fine(part, wide) {
-        return ids::id::name_id(part, wide, number);
-    }
-    0
+    let Some(name) = fine_text(part, wide) else {
+        return 0;
+    };
+    name_id(name, number)
 }
 
 // The rendered name in UTF-8 at the front of the buffer, and its length; where it is no text or has no room, 2^64 - 1 and
 // the buffer as it was.
+// Kept: C sees a number, and no `Option<u64>`.
 #[unsafe(no_mangle)]
 pub extern "C" fn text_put_name(out: &mut [u8], part: &[u8], wide: bool, number: u32) -> u64
     ensures { (result ≡ name_answer (length out.old) wide part.now number)
         × (out.new ≡ name_after out.old wide part.now number) }
 {
-    if is_fine(part, wide) {
-        if text::name::name_len(part, wide, number) <= out.len() {
-            return text::name::put_name(out, part, wide, number) as u64;
+    if let Some(name) = fine_text(part, wide) {
+        if name_len(name, number) <= out.len() {
+            return put_name(out, name, number) as u64;
         }
     }
     0xffff_ffff_ffff_ffff

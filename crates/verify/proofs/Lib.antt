@@ -1,3 +1,4 @@
-pub mod Counting
 pub mod Behind
+pub mod Bit
+pub mod Counting
 pub mod Scanned

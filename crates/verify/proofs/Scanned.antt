@@ -1,18 +1,19 @@
 -- What comparing the classes and walking over the packages came to: a key twice, or all questions but 26 are passed. Assumes nothing.
-use mathlib.Core.Path.{◌≡◌, sym, ap}
-use mathlib.Core.Bool.{true}
+use Rattle.std.specs.Prelude.{Ok, Option, Some, None}
+use mathlib.Core.Path.{◌≡◌, refl, sym, ap}
 use mathlib.Core.List.{List}
 use Prim.Native.Nat.{ℕ, ◌*◌}
 use native.Mathlib.Omega.{arith}
 use lib.ListN.{length, take}
 use lib.Seq.{length-take-le}
 use Rattle.base.specs.Answer.{refusal}
+use Rattle.base.proofs.Nonzero.{some-was, none-was}
+use Rattle.base.specs.OneMore.{nonzero}
 use Rattle.base.specs.Reading.{gives, run}
 use Rattle.scriptblock.specs.Script.{Objects, script}
 use Rattle.scriptblock.specs.ScriptAnswers.{script_answer}
 use Rattle.scriptblock.proofs.ScriptFacts.{script-facts}
 use Rattle.scriptblock.specs.declared.script.Layout.{Layout}
-use Rattle.scriptblock.specs.declared.script.Script.TheVariants.{Accepted}
 use Rattle.meaning.specs.Call.{none_twice, limits}
 use Rattle.packages.specs.declared.frame.Frame.{Frame}
 use Rattle.scan.specs.Repeats.{repeat_block}
@@ -21,6 +22,7 @@ use Rattle.walk.specs.OpenLaws.{opened-twice, opened-is, opened_by-block, opened
 use Rattle.walk.specs.Found.{Linked, State}
 use Rattle.walk.specs.FoundLaws.{found-once}
 use Rattle.walk.specs.declared.walk.Census.{Census}
+use Rattle.walk.specs.declared.walk.Entering.TheVariants.{Open, Repeated}
 use Rattle.verify.specs.Steps.{Tallied, Passed, Answered}
 use Rattle.verify.specs.StepLaws.{answered-opened}
 use Rattle.verify.specs.declared.counts.Tally.{Tally}
@@ -29,22 +31,23 @@ use Rattle.verify.specs.declared.counts.Tally.{Tally}
 pub front_length : {s : List ℕ} {n : ℕ} {w : List ℕ} → Linked s n w → length (take (48 * n) w) ≡ 48 * n
 front_length {s} {n} {w} k = length-take-le (48 * n) w (omega (arith, k.room))
 
--- ---- each class was compared with all before it: j is the block of the first whose key stands already, or 0
-pub record Compared (c : List ℕ) (f : Frame) (s : List ℕ) (l : Layout) (t : Tally) (j : ℕ) : Type 0 where
+-- ---- each class was compared with all before it: r is the block of the first whose key stands already, if there is one
+pub record Compared (c : List ℕ) (f : Frame) (s : List ℕ) (l : Layout) (t : Tally) (r : Option ℕ) : Type 0 where
   pub begun : Begun c f s
   pub packages : Packages c f
-  pub accepted : script_answer (run script 0 s) ≡ Accepted l
+  pub accepted : script_answer (run script 0 s) ≡ Ok l
   pub tally : Tallied s t
-  pub told : (o : Objects) → run script 0 s ≡ gives o → j ≡ repeat_block (first_in limits.objects o c f)
+  pub told : (o : Objects) → run script 0 s ≡ gives o → r ≡ nonzero (repeat_block (first_in limits.objects o c f))
 
-module _ {c : List ℕ} {f : Frame} {s : List ℕ} {l : Layout} {t : Tally} {j : ℕ} (z : Compared c f s l t j) where
-  pub compared-twice : {old : List ℕ} {r : ℕ} → (j ≡ 0 → ⊥) → r ≡ refusal 24 j → Answered c old old r
-  compared-twice h e =
+module _ {c : List ℕ} {f : Frame} {s : List ℕ} {l : Layout} {t : Tally} where
+  pub compared-twice : {j : ℕ} → Compared c f s l t (Some j) → {old : List ℕ} → Answered c old old (refusal 24 j)
+  compared-twice {j} z =
       let (o, x) = script-facts s l z.accepted in
-      answered-opened (opened_by-block limits c z.begun x.is z.packages (z.told o x.is) h) e
+      let (e, h) = some-was _ j (sym (z.told o x.is)) in
+      answered-opened (opened_by-block limits c z.begun x.is z.packages (sym e) (λ q. absurd (omega arith))) refl
 
-  pub compared-none : j ≡ 0 → Passed c f l.count t
-  compared-none h =
+  pub compared-none : Compared c f s l t None → Passed c f l.count t
+  compared-none z =
       let (o, x) = script-facts s l z.accepted in
       record {
         block = s;
@@ -52,7 +55,7 @@ module _ {c : List ℕ} {f : Frame} {s : List ℕ} {l : Layout} {t : Tally} {j :
         objects = o;
         read = x.is;
         packages = z.packages;
-        opens = opened-no_block limits c z.begun x.is z.packages (z.told o x.is) h;
+        opens = opened-no_block limits c z.begun x.is z.packages refl (none-was _ (sym (z.told o x.is)));
         count = sym (ap (λ (y : Layout). y.count) x.layout);
         tally = z.tally.is o x.is;
       }
@@ -69,11 +72,11 @@ module _ {c : List ℕ} {f : Frame} {s : List ℕ} {n : ℕ} {t : Tally} {k : Ce
   read : run script 0 s ≡ gives z.linked.objects
   read = z.linked.holds.all.read
 
-  pub walked-twice : {old : List ℕ} {r : ℕ} → (k.repeat ≡ 0 → ⊥) → r ≡ refusal 24 k.repeat → Answered c old old r
-  walked-twice h e = answered-opened (opened-twice limits c z.begun read z.packages (z.state.twice (omega arith)).1) e
+  pub walked-twice : (j : ℕ) → k.state ≡ Repeated j → {old : List ℕ} → Answered c old old (refusal 24 j)
+  walked-twice j h = answered-opened (opened-twice limits c z.begun read z.packages (z.state.twice j h)) refl
 
   -- all is entered, so no key stands twice
-  pub walked_all : k.open ≡ true → Passed c f n t
+  pub walked_all : k.state ≡ Open → Passed c f n t
   walked_all h =
       let once = ap none_twice (found-once (found_by limits.objects z.linked.objects c f) (z.state.holds h).tables.classes) in
       record {

@@ -1,18 +1,16 @@
 -- The counts of `verify` object by object, and the bytes before the flags. Assumes nothing.
-use Rattle.std.specs.Prelude.{cond, List, ◌∷◌, [], ◌++◌, ℕ, ◌+◌, ◌-◌, eqb}
+use Rattle.std.specs.Prelude.{cond, List, ◌∷◌, [], ◌++◌, ℕ, ◌+◌, ◌-◌, eqb, Option, Some, None}
 use Rattle.base.specs.Index.{value}
 use Rattle.base.specs.Number.{be_bytes}
 use Rattle.scriptblock.specs.Script.{Objects}
 use Rattle.meaning.specs.Verify.{Counts, is_resolved, is_match, counts_of, verify_version}
 use Rattle.meaning.proofs.VerifyLaws.{scored_to}
-use Rattle.hashes.specs.declared.path.Hashed.{Hashed}
-use Rattle.hashes.specs.declared.path.Hashed.TheVariants.{Known, Unknown}
 use Rattle.verify.specs.declared.counts.Tally.{Tally}
 
 -- an object more, by its global index and the hash of its path: resolved if it has one, a match if "the low 62 bits" are equal
-unfoldable pub tallied : Tally → ℕ → Hashed → Tally
-tallied t global Unknown = t
-tallied t global (Known hash) = record { resolved = t.resolved + 1; matches = t.matches + cond (eqb (value hash) (value global)) 1 0 }
+unfoldable pub tallied : Tally → ℕ → Option ℕ → Tally
+tallied t global None = t
+tallied t global (Some hash) = record { resolved = t.resolved + 1; matches = t.matches + cond (eqb (value hash) (value global)) 1 0 }
 
 -- the first i objects of a block, and all
 abbrev pub tally_to : ℕ → Objects → ℕ → Tally

@@ -1,7 +1,7 @@
 -- Laws of the counts object by object: one more, all of them; and that the output is what stands before the flags, and these. Assumes nothing.
-use Rattle.std.specs.Prelude.{◌≡◌, refl, cond, List, ◌∷◌, ◌++◌, ℕ, ◌+◌, ◌-◌, ◌≤◌, ◌<◌, take}
+use Rattle.std.specs.Prelude.{◌≡◌, refl, Bool, true, false, cond, List, ◌∷◌, ◌++◌, ℕ, ◌+◌, ◌-◌, ◌≤◌, ◌<◌, eqb, take, Option, Some, None}
 use Rattle.std.proofs.Common.{append_assoc, length-append, length-take-le}
-use Rattle.std.proofs.Math.Option.{Option, none, some}
+use Rattle.std.proofs.Math.Option.{Option as Maybe, none, some}
 use native.Mathlib.Omega.{arith}
 use borrow.Author.Tests.{eq-eqb, ne_eqb}
 use Rattle.std.proofs.Math.ListN.{length}
@@ -18,32 +18,40 @@ use Rattle.meaning.proofs.VerifyLaws.{scored_to, scored-more, counts_all, resolv
 use Rattle.objects.specs.Numbers.{entry_no, path_no}
 use Rattle.objects.specs.NumberLaws.{path_no_lem}
 use Rattle.hashes.specs.Hashed.{hashed_as}
-use Rattle.hashes.specs.declared.path.Hashed.{Hashed}
-use Rattle.hashes.specs.declared.path.Hashed.TheVariants.{Known, Unknown}
 use Rattle.verify.specs.Tallies.{tallied, tally_to, tally_of, counts_by, front_of}
 use Rattle.verify.specs.declared.counts.Tally.{Tally}
 
 -- ---- an object more: its path is unknown, its hash matches, it doesn't
 
-module _ (t : Tally) (global : ℕ) {path : Hashed} where
-  pub tally-unknown : path ≡ Unknown → t ≡ tallied t global path
+module _ (t : Tally) (global : ℕ) {path : Option ℕ} where
+  pub tally-unknown : path ≡ None → t ≡ tallied t global path
   unfolding tallied
   tally-unknown e = rw e
 
-  pub tally_match : {hash : ℕ} → path ≡ Known hash → value hash ≡ value global
+  pub tally_match : {hash : ℕ} → path ≡ Some hash → value hash ≡ value global
       → record { resolved = t.resolved + 1; matches = t.matches + 1 } ≡ tallied t global path
   unfolding tallied
   tally_match {hash} e h = rw (e, eq-eqb (value hash) (value global) h)
 
-  pub tally-other : {hash : ℕ} → path ≡ Known hash → (value hash ≡ value global → ⊥)
+  pub tally-other : {hash : ℕ} → path ≡ Some hash → (value hash ≡ value global → ⊥)
       → record { resolved = t.resolved + 1; matches = t.matches } ≡ tallied t global path
   unfolding tallied
   tally-other {hash} e h = let n : t.matches ≡ t.matches + 0 = omega arith in rw (e, ne_eqb (value hash) (value global) h, ← n)
 
+-- each count grows by one at most
+pub tallied-few : (t : Tally) (global : ℕ) (path : Option ℕ) → ((tallied t global path).resolved ≤ t.resolved + 1) × ((tallied t global path).matches ≤ t.matches + 1)
+unfolding tallied
+tallied-few t global None = (omega arith, omega arith)
+tallied-few t global (Some hash) = (omega arith, go (eqb (value hash) (value global)))
+  where
+    go : (b : Bool) → t.matches + cond b 1 0 ≤ t.matches + 1
+    go true = omega arith
+    go false = omega arith
+
 -- ---- the objects of a block
 
 module _ {s : List ℕ} {l : Layout} {o : Objects} (x : ScriptFacts s l o) (limit : ℕ) where
-  pub tally-more : (i : ℕ) → i < l.count → {h : Hashed} → h ≡ hashed_as (path_no limit o i)
+  pub tally-more : (i : ℕ) → i < l.count → {h : Option ℕ} → h ≡ hashed_as (path_no limit o i)
       → tallied (tally_to limit o i) (entry_no o i).global h ≡ tally_to limit o (i + 1)
   unfolding tallied
   tally-more i inside {h} e =
@@ -54,7 +62,7 @@ module _ {s : List ℕ} {l : Layout} {o : Objects} (x : ScriptFacts s l o) (limi
       same : (t : Tally) → t ≡ record { resolved = t.resolved + 0; matches = t.matches + 0 }
       same t = let a : t.resolved ≡ t.resolved + 0 = omega arith in let b : t.matches ≡ t.matches + 0 = omega arith in rw (← a, ← b)
 
-      go : (y : Option Path) → tallied (tally_to limit o i) (entry_no o i).global (hashed_as y)
+      go : (y : Maybe Path) → tallied (tally_to limit o i) (entry_no o i).global (hashed_as y)
           ≡ record {
             resolved = scored_to limit o is_resolved i + cond (is_resolved (entry_no o i).global y) 1 0;
             matches = scored_to limit o is_match i + cond (is_match (entry_no o i).global y) 1 0;

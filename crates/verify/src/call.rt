@@ -1,131 +1,134 @@
 // The call.
-ghost use Rattle.std.specs.Prelude.{◌≡◌, ◌*◌, ◌≤◌, length};
+ghost use Rattle.std.specs.Prelude.{◌≡◌, ◌*◌, ◌≤◌, length, Ok};
 ghost use Rattle.scriptblock.specs.ScriptAnswers.{opened};
-ghost use Rattle.scriptblock.specs.declared.script.Opened.TheVariants.{Open};
 ghost use Rattle.meaning.specs.Verify.{verified};
-ghost use Rattle.scan.specs.Repeats.{NotedScript};
-ghost use Rattle.walk.specs.OpenSteps.{Begun, Packages};
+ghost use Rattle.walk.specs.Answers.{answer_number};
+ghost use Rattle.walk.specs.OpenSteps.{Packages};
 ghost use Rattle.walk.specs.Found.{Linked};
 ghost use Rattle.verify.specs.Steps.{Tallied, Passed, Answered};
 
 use super::counts::{Tally, count_linked, count_scanned};
 use super::output::put_output;
-use base::answer::refuse;
+use base::refusal::{Refusal, Refused};
 use batch::notes::{NOTES, note_names};
-use packages::frame::{Frame, Framed, read_frame};
-use scan::check::{Blocks, check_packages};
+use scan::check::check_packages;
 use scan::repeats::repeat_block;
-use scriptblock::script::{Layout, Opened, Script, check_script, open_script};
+use scan::script::Script;
+use scriptblock::script::{Layout, check_script, open_script};
+use walk::corpus::Corpus;
 use walk::script::enter_script;
-use walk::walk::{Scanned, scan_packages};
+use walk::walk::{Entering, scan_packages};
 
 // "without limits of its own uses 64 lookups and 65 objects"; no class is looked up here.
 const OBJECTS: usize = 65;
 
 // 26 and the output of a corpus with n script objects.
-fn finish(c: &[u8], f: Frame, n: usize, t: Tally, out: &mut [u8]) -> u64
-    requires { Passed c.now f n t }
-    ensures { Answered c.now out.old out.new result }
+fn finish(c: &Corpus, n: usize, t: Tally, out: &mut [u8]) -> Result<usize, Refused>
+    requires { Passed c.now.bytes.now c.now.frame n t }
+    ensures { Answered c.now.bytes.now out.old out.new (answer_number result) }
 {
-    if out.len() < 25 + f.count {
-        return refuse(26, 0);
+    if out.len() < 25 + c.frame.count {
+        return Err(Refused {
+            why: Refusal::ReportRoom,
+            block: 0,
+        });
     }
-    put_output(out, c, f.end + 4, f.count, n, t) as u64
+    Ok(put_output(out, c.bytes, c.packages(), c.frame.count, n, t))
 }
 
 // 24 by comparing each class with all before it, and the rest.
-fn compare(
-    c: &[u8],
-    f: Frame,
-    s: &[u8],
-    l: Layout,
-    notes: &[u32; NOTES],
-    t: Tally,
-    out: &mut [u8],
-) -> u64
-    requires { Begun c.now f s.now × Packages c.now f × NotedScript s.now l notes.now × Tallied s.now t }
-    ensures { Answered c.now out.old out.new result }
+fn compare(c: &Corpus, s: &Script, t: Tally, out: &mut [u8]) -> Result<usize, Refused>
+    requires { Packages c.now.bytes.now c.now.frame × (s.now.block.now ≡ c.now.script.now) × Tallied c.now.script.now t }
+    ensures { Answered c.now.bytes.now out.old out.new (answer_number result) }
 {
-    let block = repeat_block(c, f.end + 4, f.count, s, l, notes, OBJECTS);
-    if block != 0 {
-        return refuse(24, block);
+    if let Some(block) = repeat_block(c.bytes, c.packages(), c.frame.count, s, OBJECTS) {
+        return Err(Refused {
+            why: Refusal::RepeatedClass,
+            block,
+        });
     }
-    finish(c, f, l.count, t, out)
+    finish(c, s.layout.count, t, out)
 }
 
 // Where the work buffer has no room for the script objects: by looking at the corpus only.
-fn without_table(c: &[u8], f: Frame, s: &[u8], out: &mut [u8]) -> u64
-    requires { Begun c.now f s.now }
-    ensures { Answered c.now out.old out.new result }
+fn without_table(c: &Corpus, out: &mut [u8]) -> Result<usize, Refused>
+    ensures { Answered c.now.bytes.now out.old out.new (answer_number result) }
 {
-    match check_script(s) {
-        Script::Rejected(q) => refuse(q, 1),
-        Script::Accepted(l) => match check_packages(c, f.end + 4, f.count) {
-            Blocks::Refused(q, block) => refuse(q, block),
-            Blocks::Fine => {
-                let mut notes = [0u32; NOTES];
-                note_names(s, l.names, &mut notes);
-                let t = count_scanned(s, l, &notes, OBJECTS);
-                compare(c, f, s, l, &notes, t, out)
-            }
-        },
-    }
+    let layout = check_script(c.script).map_err(|why| Refused { why, block: 1 })?;
+    check_packages(c.bytes, c.packages(), c.frame.count)?;
+    let mut notes = [0u32; NOTES];
+    note_names(c.script, layout.names, &mut notes);
+    let s = Script {
+        block: c.script,
+        layout,
+        notes: &notes,
+    };
+    let t = count_scanned(&s, OBJECTS);
+    compare(c, &s, t, out)
 }
 
 // The packages, 24 and the rest; w has the linked script objects in front, and t counts them.
 fn with_objects(
-    c: &[u8],
-    f: Frame,
-    s: &[u8],
-    l: Layout,
-    notes: &[u32; NOTES],
+    c: &Corpus,
+    s: &Script,
     w: &mut [u8],
     t: Tally,
     out: &mut [u8],
-) -> u64
-    requires { Begun c.now f s.now × NotedScript s.now l notes.now × Linked s.now l.count w.old × Tallied s.now t }
-    ensures { Answered c.now out.old out.new result }
+) -> Result<usize, Refused>
+    requires { (s.now.block.now ≡ c.now.script.now) × Linked c.now.script.now s.now.layout.count w.old × Tallied c.now.script.now t }
+    ensures { Answered c.now.bytes.now out.old out.new (answer_number result) }
 {
     let mut names = [0u32; NOTES];
     let mut imported = [0u32; NOTES];
-    match scan_packages(
-        c,
-        f.end + 4,
-        f.count,
-        s,
+    let k = scan_packages(
+        c.bytes,
+        c.packages(),
+        c.frame.count,
+        c.script,
         w,
-        l.count,
+        s.layout.count,
         OBJECTS,
         &mut names,
         &mut imported,
-    ) {
-        Scanned::Refused(q, block) => refuse(q, block),
-        Scanned::All(k) => {
-            if k.repeat != 0 {
-                return refuse(24, k.repeat);
-            }
-            if k.open {
-                return finish(c, f, l.count, t, out);
-            }
-            compare(c, f, s, l, notes, t, out)
-        }
+    )?;
+    match k.state {
+        Entering::Repeated(block) => Err(Refused {
+            why: Refusal::RepeatedClass,
+            block,
+        }),
+        Entering::Open => finish(c, s.layout.count, t, out),
+        Entering::Full => compare(c, s, t, out),
     }
 }
 
 // The script block's entries and the rest, where the work buffer has room for the script objects.
-fn with_table(c: &[u8], f: Frame, s: &[u8], l: Layout, w: &mut [u8], out: &mut [u8]) -> u64
-    requires { Begun c.now f s.now × (opened s.now ≡ Open l) × (64 * l.count ≤ length w.old) }
-    ensures { Answered c.now out.old out.new result }
+fn with_table(c: &Corpus, layout: Layout, w: &mut [u8], out: &mut [u8]) -> Result<usize, Refused>
+    requires { (opened c.now.script.now ≡ Ok layout) × (64 * layout.count ≤ length w.old) }
+    ensures { Answered c.now.bytes.now out.old out.new (answer_number result) }
 {
     let mut notes = [0u32; NOTES];
-    note_names(s, l.names, &mut notes);
-    let fault = enter_script(s, l, &notes, w);
-    if fault != 0 {
-        return refuse(fault, 1);
+    note_names(c.script, layout.names, &mut notes);
+    enter_script(c.script, layout, &notes, w).map_err(|why| Refused { why, block: 1 })?;
+    let size = 48 * layout.count;
+    let t = count_linked(c.script, layout, &w[..size], OBJECTS);
+    let s = Script {
+        block: c.script,
+        layout,
+        notes: &notes,
+    };
+    with_objects(c, &s, w, t, out)
+}
+
+// How much is written of the output of a corpus, or what it is refused for.
+fn answer(bytes: &[u8], w: &mut [u8], out: &mut [u8]) -> Result<usize, Refused>
+    ensures { Answered bytes.now out.old out.new (answer_number result) }
+{
+    let c = Corpus::framed(bytes)?;
+    let layout = open_script(c.script).map_err(|why| Refused { why, block: 1 })?;
+    if w.len() / 64 < layout.count {
+        return without_table(&c, out);
     }
-    let size = 48 * l.count;
-    let t = count_linked(s, l, &w[..size], OBJECTS);
-    with_objects(c, f, s, l, &notes, w, t, out)
+    with_table(&c, layout, w, out)
 }
 
 // What a corpus and an output buffer give, whatever the work buffer is.
@@ -133,20 +136,8 @@ pub fn class_verify(c: &[u8], w: &mut [u8], out: &mut [u8]) -> u64
     ensures number { result ≡ (verified c.now out.old).number }
     ensures output { out.new ≡ (verified c.now out.old).output }
 {
-    match read_frame(c) {
-        Framed::Broken(q) => refuse(q, 0),
-        Framed::Whole(f) => {
-            let end = f.end;
-            let s = &c[9..end];
-            match open_script(s) {
-                Opened::Shut(q) => refuse(q, 1),
-                Opened::Open(l) => {
-                    if w.len() / 64 < l.count {
-                        return without_table(c, f, s, out);
-                    }
-                    with_table(c, f, s, l, w, out)
-                }
-            }
-        }
+    match answer(c, w, out) {
+        Ok(n) => n as u64,
+        Err(r) => r.number(),
     }
 }

@@ -27,13 +27,9 @@ fn home_of(b: &[u8], p: Parts) -> Name
 {
     let index = u30_le(b, 8);
     let start = name_start(b, p.names.headers, p.names.strings, index);
-    let d = read_head(b, p.names.headers + 2 * index);
+    let head = read_head(b, p.names.headers + 2 * index);
     Name {
-        place: Place {
-            start,
-            size: d.size,
-            wide: d.wide,
-        },
+        place: Place::at(start, head),
         number: le32(b, 12),
     }
 }
@@ -52,10 +48,7 @@ fn flag_at(c: &[u8], at: usize) -> u8
     requires { ReadAt c.now at }
     ensures { result ≡ package_flag (package_at c.now at) }
 {
-    if home_id(block_at(c, at)) == id_at(c, at) {
-        return 1;
-    }
-    0
+    u8::from(home_id(block_at(c, at)) == id_at(c, at))
 }
 
 // The flags of so many packages from a place on, in corpus order.
@@ -64,11 +57,9 @@ pub fn put_flags(out: &mut [u8], c: &[u8], from: usize, count: usize) -> usize
     ensures { Wrote out.old (map package_flag (packages_at c.now from count)) out.new result }
 {
     let mut at = from;
-    let mut i: usize = 0;
-    while i < count {
+    for i in 0..count {
         out[i] = flag_at(c, at);
         at = next_at(c, at);
-        i += 1;
     }
-    i
+    count
 }

@@ -1,22 +1,18 @@
 -- The work buffer with the script objects in front, as they are entered and linked. Assumes nothing.
+use Rattle.std.specs.Prelude.{Ok}
 use mathlib.Core.Path.{◌≡◌, sym, ap}
 use mathlib.Core.List.{List, ◌++◌}
 use Prim.Native.Nat.{ℕ, ◌*◌, ◌≤◌}
 use native.Mathlib.Omega.{arith}
 use lib.ListN.{length, take, drop, length-append, length-drop}
-use lib.Seq.{take_at, length-take-le}
+use lib.Seq.{take_at}
 use Rattle.base.specs.Reading.{gives, run}
 use Rattle.scriptblock.specs.Script.{Objects, script}
 use Rattle.scriptblock.specs.ScriptAnswers.{script_answer}
 use Rattle.scriptblock.proofs.ScriptFacts.{script-facts}
 use Rattle.scriptblock.specs.declared.script.Layout.{Layout}
-use Rattle.scriptblock.specs.declared.script.Script.TheVariants.{Accepted}
 use Rattle.objects.specs.Work.{Entered, ObjectsIn}
 use Rattle.walk.specs.Found.{Linked}
-
--- the part that is lent
-pub front_length : (n : ℕ) (w : List ℕ) → 64 * n ≤ length w → length (take (48 * n) w) ≡ 48 * n
-front_length n w room = length-take-le (48 * n) w (omega arith)
 
 -- the buffer with another part in its place
 swapped-length : (n : ℕ) (w p : List ℕ) → 64 * n ≤ length w → length p ≡ 48 * n → length (p ++ drop (48 * n) w) ≡ length w
@@ -25,7 +21,7 @@ swapped-length n w p room e = omega (arith, length-append p (drop (48 * n) w), l
 -- the objects of an accepted block came back entered, as p, and are to be linked
 pub record Filled (s : List ℕ) (l : Layout) (w p : List ℕ) : Type 0 where
   pub room : 64 * l.count ≤ length w
-  pub accepted : script_answer (run script 0 s) ≡ Accepted l
+  pub accepted : script_answer (run script 0 s) ≡ Ok l
   pub entered : Entered s l l.count p
 
 module _ {s : List ℕ} {l : Layout} {w p : List ℕ} (z : Filled s l w p) where

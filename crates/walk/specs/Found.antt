@@ -1,6 +1,6 @@
 -- What the walk over the packages finds, export by export: classes with their blocks, what the rows' class indices mean, and how many bytes the
 -- report takes without the rows' classes and native classes. Assumes nothing.
-use Rattle.std.specs.Prelude.{◌≡◌, true, false, cond, List, [], ◌++◌, map, ℕ, zero, suc, ◌+◌, ◌*◌, ◌≤◌, ◌<◌, length, take, get_or}
+use Rattle.std.specs.Prelude.{◌≡◌, cond, List, [], ◌++◌, map, ℕ, zero, suc, ◌+◌, ◌*◌, ◌≤◌, ◌<◌, length, take, get_or}
 use Rattle.base.specs.Find.{kept}
 use Rattle.scriptblock.specs.Script.{Objects}
 use Rattle.zen.specs.Zen.{no_export, export_name, package_name}
@@ -13,6 +13,7 @@ use Rattle.objects.specs.Work.{ObjectsIn}
 use Rattle.packages.specs.Walk.{place_of, package_at}
 use Rattle.resolve.specs.Rows.{Kept}
 use Rattle.walk.specs.declared.walk.Census.{Census}
+use Rattle.walk.specs.declared.walk.Entering.TheVariants.{Open, Full, Repeated}
 
 pub record Found : Type 0 where
   pub placed : List Placed
@@ -66,8 +67,8 @@ pub record Linked (b : List ℕ) (n : ℕ) (w : List ℕ) : Type 0 where
 
 -- what is known where so much was found: as long as all is entered, that it is; else that there is no room for it, or which block repeats a key
 pub record State (s b : List ℕ) (o : Objects) (n : ℕ) (f : Found) (t : Census) (w : List ℕ) : Type 0 where
-  pub entered : t.open ≡ true → (t.classes ≡ length f.placed) × (t.rows ≡ length f.refs) × (t.size ≡ f.size)
-  pub room : t.open ≡ true → 64 * (n + count_of f) ≤ length w
-  pub holds : t.open ≡ true → Kept s b o n (classes_in f) f.refs w
-  pub full : t.open ≡ false → t.repeat ≡ 0 → length w < 64 * (n + count_of f)
-  pub twice : 0 < t.repeat → (t.open ≡ false) × (none_twice (first_repeat [] f.placed) ≡ refused_in 24 t.repeat)
+  pub entered : t.state ≡ Open → (t.classes ≡ length f.placed) × (t.rows ≡ length f.refs) × (t.size ≡ f.size)
+  pub room : t.state ≡ Open → 64 * (n + count_of f) ≤ length w
+  pub holds : t.state ≡ Open → Kept s b o n (classes_in f) f.refs w
+  pub full : t.state ≡ Full → length w < 64 * (n + count_of f)
+  pub twice : (j : ℕ) → t.state ≡ Repeated j → none_twice (first_repeat [] f.placed) ≡ refused_in 24 j

@@ -12,7 +12,7 @@ use Rattle.table.specs.Table.{record_at}
 use Rattle.table.specs.Words.{stored, put, Kept as Changed}
 use Rattle.table.specs.WordLaws.{kept_read, kept_then, kept_wider, stored-kept, stored-read}
 use Rattle.packages.specs.Meaning.{words_of}
-use Rattle.packages.specs.declared.package.Words.{Words}
+use Rattle.packages.specs.declared.entries.Words.{Words}
 use Rattle.resolve.specs.Classes.{ClassesIn, Entered}
 use Rattle.resolve.specs.ClassesLaws.{classes-kept}
 use Rattle.resolve.specs.Lent.{lent-part, lent-front, lent-rest, lent_length}

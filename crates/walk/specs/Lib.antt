@@ -6,6 +6,8 @@ pub mod Found
 pub mod Steps
 -- what is known of a corpus as it is opened
 pub mod OpenSteps
+-- the number that a call returns
+pub mod Answers
 -- ==== Laws
 pub mod FoundLaws
 pub mod RepeatLaws

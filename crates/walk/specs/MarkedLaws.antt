@@ -1,5 +1,5 @@
 -- Laws of the rows' marks as the walk goes on: one row more, a class entered, a package more, and nothing more. Assumes nothing.
-use Rattle.std.specs.Prelude.{◌≡◌, refl, true, false, List, [], ◌∷◌, ◌++◌, ℕ, ◌+◌, ◌*◌, ◌-◌, ◌/◌, ◌^◌, ◌≤◌, ◌<◌, length, drop, get_or}
+use Rattle.std.specs.Prelude.{◌≡◌, refl, List, [], ◌∷◌, ◌++◌, ℕ, ◌+◌, ◌*◌, ◌-◌, ◌/◌, ◌^◌, ◌≤◌, ◌<◌, length, drop, get_or}
 use Rattle.std.proofs.Common.{◌∙◌, inr, add-one, arith, length-append, length-drop}
 use Rattle.std.proofs.Math.Decide.{ℕ_discrete}
 use Rattle.std.proofs.Math.ListN.{get_or-append}
@@ -10,16 +10,16 @@ use Rattle.table.specs.Table.{record_at}
 use Rattle.table.specs.Words.{put, Kept as Changed}
 use Rattle.table.specs.WordLaws.{kept_read}
 use Rattle.packages.specs.Walk.{place_of}
-use Rattle.packages.specs.declared.package.Words.{Words}
+use Rattle.packages.specs.declared.entries.Words.{Words}
 use Rattle.resolve.specs.Classes.{Entered}
 use Rattle.resolve.specs.Lent.{lent-rest}
 use Rattle.resolve.specs.MarkLaws.{marks-none}
 use Rattle.resolve.specs.Marks.{marks_at, marks_in, MarksIn}
 use Rattle.resolve.specs.Rows.{row_at, worded}
 use Rattle.walk.specs.KeptLaws.{worded-kept, worded-mark}
-use Rattle.walk.specs.StateLaws.{open_not}
 use Rattle.walk.specs.Steps.{opened_as, Marked}
 use Rattle.walk.specs.declared.walk.Census.{Census}
+use Rattle.walk.specs.declared.walk.Entering.TheVariants.{Open}
 
 -- ---- the marks of rows
 
@@ -53,15 +53,15 @@ module _ {l w : List ℕ} (t : MarksIn l w) (room : 32 * (length l + 1) ≤ leng
 -- ---- as the walk goes on
 
 -- nothing more is entered
-pub marked_closed : {n : ℕ} {l : List ℕ} {t : Census} {w : List ℕ} → t.open ≡ false → Marked n l t w
-marked_closed c = record { count = λ z. open_not c z; holds = λ z. open_not c z }
+pub marked_closed : {n : ℕ} {l : List ℕ} {t : Census} {w : List ℕ} → (t.state ≡ Open → ⊥) → Marked n l t w
+marked_closed c = record { count = λ z. absurd (c z); holds = λ z. absurd (c z) }
 
 -- at the start
 pub marked-none : (n : ℕ) (s : List ℕ) (at : ℕ) (w : List ℕ) → Marked n (marks_in s at 0) (opened_as 0 0 9) w
 unfolding marks_in
 marked-none n s _ w = record { count = λ z. refl; holds = λ z. marks-none (drop (48 * n) w) }
 
-module _ {n : ℕ} {l : List ℕ} {t : Census} {w : List ℕ} (k : Marked n l t w) (a : t.open ≡ true) where
+module _ {n : ℕ} {l : List ℕ} {t : Census} {w : List ℕ} (k : Marked n l t w) (a : t.state ≡ Open) where
   -- no row more
   pub marked-same : {u : Census} → u.rows ≡ t.rows → Marked n l u w
   marked-same e = record { count = λ z. omega (arith, k.count a); holds = λ z. k.holds a }

@@ -1,6 +1,6 @@
 -- What a corpus holds, or what it is refused for before any buffer is weighed (document 01, questions 1 to 24), from what the steps that open it
 -- find. Assumes nothing.
-use Rattle.std.specs.Prelude.{◌≡◌, Bool, true, false, cond, List, [], ℕ, ◌+◌, ◌*◌, ◌-◌, ◌^◌, ◌≤◌, ◌<◌, eqb, ltb, length, take, drop}
+use Rattle.std.specs.Prelude.{◌≡◌, Bool, true, false, cond, List, [], ℕ, ◌+◌, ◌*◌, ◌-◌, ◌^◌, ◌≤◌, ◌<◌, eqb, ltb, length, take, drop, Result, Ok, Err}
 use Rattle.std.proofs.Math.Path.{refl}
 use Rattle.std.proofs.Common.{sym, ◌∙◌, ap, arith}
 use Rattle.base.specs.Never.{never}
@@ -11,8 +11,6 @@ use Rattle.scriptblock.proofs.ScriptAccepted.{rejected-objects}
 use Rattle.scriptblock.specs.ScriptAnswers.{opened as openedScript, fault_at, answer_by, script_answer}
 use Rattle.scriptblock.proofs.ScriptLaws.{script-is}
 use Rattle.scriptblock.specs.declared.script.Layout.{Layout}
-use Rattle.scriptblock.specs.declared.script.Opened.TheVariants.{Open}
-use Rattle.scriptblock.specs.declared.script.Script.TheVariants.{Accepted, Rejected}
 use Rattle.meaning.specs.Call.{refused_in, accepted, read_from, first_repeat, none_twice, holding, opened_in, opened}
 use Rattle.meaning.specs.Frame.{Corpus, framed}
 use Rattle.meaning.specs.Reference.{Package}
@@ -22,8 +20,6 @@ use Rattle.packages.specs.FramingLaws.{framed_at}
 use Rattle.packages.specs.Walk.{packages_at, Sites}
 use Rattle.packages.specs.WalkLaws.{sites, script-site, framed-small, read_some}
 use Rattle.packages.specs.declared.frame.Frame.{Frame}
-use Rattle.packages.specs.declared.frame.Framed.{Framed}
-use Rattle.packages.specs.declared.frame.Framed.TheVariants.{Whole, Broken}
 use Rattle.scan.specs.RepeatLaws.{twice-none, twice-some}
 use Rattle.scan.specs.Repeats.{repeat_block}
 use Rattle.walk.specs.FoundLaws.{found-placed}
@@ -31,7 +27,7 @@ use Rattle.walk.specs.OpenSteps.{Begun, Packages, found_by, first_in}
 
 -- ---- where the parts are
 
-pub begun : {c : List ℕ} {f : Frame} {r : Framed} → Bytes c → r ≡ framed_as (framed c) → r ≡ Whole f → Begun c f (take (f.«end» - 9) (drop 9 c))
+pub begun : {c : List ℕ} {f : Frame} {r : (Result Frame ℕ)} → Bytes c → r ≡ framed_as (framed c) → r ≡ Ok f → Begun c f (take (f.«end» - 9) (drop 9 c))
 begun y e w = record { bytes = y; frames = sym e ∙ w; block = refl }
 
 module _ {c : List ℕ} {f : Frame} {s : List ℕ} (b : Begun c f s) where
@@ -56,11 +52,11 @@ module _ {c : List ℕ} {f : Frame} {s : List ℕ} (b : Begun c f s) where
   begun-small = rw b.block (script-site c b.frames b.bytes).small
 
 -- an accepted block has the layout that it was opened with
-pub same_layout : (s : List ℕ) {l k : Layout} → openedScript s ≡ Open l → script_answer (run script 0 s) ≡ Accepted k → k ≡ l
+pub same_layout : (s : List ℕ) {l k : Layout} → openedScript s ≡ Ok l → script_answer (run script 0 s) ≡ Ok k → k ≡ l
 unfolding answer_by
 same_layout s {l} {k} q e = go (eqb (fault_at s l) 0) (ltb (l.entries + 32 * l.count) (length s)) (sym (script-is s ∙ ap (answer_by s) q) ∙ e)
   where
-    go : (a b : Bool) → cond a (cond b (Rejected 13) (Accepted l)) (Rejected (fault_at s l)) ≡ Accepted k → k ≡ l
+    go : (a b : Bool) → cond a (cond b (Err 13) (Ok l)) (Err (fault_at s l)) ≡ Ok k → k ≡ l
     go true true e = never (cc)
     go true false e = cc
     go false b e = never (cc)
@@ -69,11 +65,11 @@ same_layout s {l} {k} q e = go (eqb (fault_at s l) 0) (ltb (l.entries + 32 * l.c
 
 module _ (m : Limits) (c : List ℕ) where
   -- 1 and 2
-  pub opened-broken : {q : ℕ} → framed_as (framed c) ≡ Broken q → opened m c ≡ refused_in q 0
+  pub opened-broken : {q : ℕ} → framed_as (framed c) ≡ Err q → opened m c ≡ refused_in q 0
   unfolding framed_as opened
   opened-broken {q} e = go (framed c) refl e
     where
-      go : (x : Out Corpus) → framed c ≡ x → framed_as x ≡ Broken q → opened m c ≡ refused_in q 0
+      go : (x : Out Corpus) → framed c ≡ x → framed_as x ≡ Err q → opened m c ≡ refused_in q 0
       go (refused r) p e = let z : r ≡ q = cc in rw (p, z)
       go (gives k) p e = never (cc)
 
@@ -86,7 +82,7 @@ module _ (m : Limits) (c : List ℕ) where
     begun-is = let (k, z) = framed_at c b.frames in (k, z.frames, z.script-is ∙ sym b.block, z.parts_are)
 
     -- the script block
-    pub opened-script : {q : ℕ} → script_answer (run script 0 s) ≡ Rejected q → opened m c ≡ refused_in q 1
+    pub opened-script : {q : ℕ} → script_answer (run script 0 s) ≡ Err q → opened m c ≡ refused_in q 1
     unfolding opened opened_in
     opened-script e = let (k, x, y, z) = begun-is in rw (x, y, rejected-objects (run script 0 s) e)
 

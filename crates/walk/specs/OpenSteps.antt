@@ -1,5 +1,5 @@
 -- What the steps that open a corpus know of it: those of every call that lends one. Assumes nothing.
-use Rattle.std.specs.Prelude.{◌≡◌, List, [], ℕ, ◌+◌, ◌-◌, take, drop}
+use Rattle.std.specs.Prelude.{◌≡◌, List, [], ℕ, ◌+◌, ◌-◌, take, drop, Ok}
 use Rattle.std.proofs.Math.Option.{Option}
 use Rattle.base.specs.NumberLaws.{Bytes}
 use Rattle.scriptblock.specs.Script.{Objects}
@@ -8,13 +8,12 @@ use Rattle.meaning.specs.Frame.{framed}
 use Rattle.packages.specs.Framing.{framed_as}
 use Rattle.packages.specs.Walk.{packages_at, AllRead}
 use Rattle.packages.specs.declared.frame.Frame.{Frame}
-use Rattle.packages.specs.declared.frame.Framed.TheVariants.{Whole}
 use Rattle.walk.specs.Found.{Found, found_in}
 
 -- the corpus c is framed, and s is its script block
 pub record Begun (c : List ℕ) (f : Frame) (s : List ℕ) : Type 0 where
   pub bytes : Bytes c
-  pub frames : framed_as (framed c) ≡ Whole f
+  pub frames : framed_as (framed c) ≡ Ok f
   pub block : s ≡ take (f.«end» - 9) (drop 9 c)
 
 -- its packages are accepted

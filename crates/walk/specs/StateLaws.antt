@@ -32,7 +32,7 @@ use Rattle.table.specs.TableLaws.{cleared-kept}
 use Rattle.table.specs.Words.{put}
 use Rattle.packages.specs.Meaning.{words_of}
 use Rattle.packages.specs.Walk.{place_of, package_at}
-use Rattle.packages.specs.declared.package.Words.{Words}
+use Rattle.packages.specs.declared.entries.Words.{Words}
 use Rattle.resolve.specs.Classes.{Classes, Entered, Stands}
 use Rattle.resolve.specs.ClassesLaws.{classes-none}
 use Rattle.walk.specs.Found.{Found, classes_in, base_size, head_size, with_export, with_exports, with_package, found_in, count_of, State}
@@ -43,6 +43,7 @@ use Rattle.walk.specs.RepeatLaws.{twice-more, twice-last}
 use Rattle.resolve.specs.Rows.{worded, row_at, Kept}
 use Rattle.walk.specs.Steps.{with_row, with_class, with_own, opened_as, closed_as, Behind}
 use Rattle.walk.specs.declared.walk.Census.{Census}
+use Rattle.walk.specs.declared.walk.Entering.TheVariants.{Open, Full, Repeated}
 
 -- ---- what an export adds
 
@@ -138,23 +139,20 @@ found-next limit o s at i = rw (add-one i)
 
 -- ---- nothing more is entered
 
-pub open_not : {A : Type 0} {t : Bool} → t ≡ false → t ≡ true → A
-open_not e h = never (cc)
-
 module _ {s b : List ℕ} {o : Objects} {n : ℕ} {f : Found} {t : Census} {w : List ℕ} (k : State s b o n f t w) where
   -- it stays so whatever is found behind, and whatever the buffer holds
-  pub state_closed : t.open ≡ false → {f' : Found} → Behind f f' → {w' : List ℕ} → length w' ≡ length w → State s b o n f' t w'
+  pub state_closed : (t.state ≡ Open → ⊥) → {f' : Found} → Behind f f' → {w' : List ℕ} → length w' ≡ length w → State s b o n f' t w'
   state_closed c {f'} h {w'} e = record {
-    entered = λ z. open_not c z;
-    room = λ z. open_not c z;
-    holds = λ z. open_not c z;
-    full = λ z r. omega (arith, k.full z r, h.rows, ap length h.placed, length-append f.placed h.more);
-    twice = λ r. (c, rw h.placed (twice-more f.placed h.more 24 t.repeat (k.twice r).1));
+    entered = λ z. absurd (c z);
+    room = λ z. absurd (c z);
+    holds = λ z. absurd (c z);
+    full = λ z. omega (arith, k.full z, h.rows, ap length h.placed, length-append f.placed h.more);
+    twice = λ j z. rw h.placed (twice-more f.placed h.more 24 j (k.twice j z));
   }
 
   -- ---- as long as all is entered
 
-  module _ (a : t.open ≡ true) where
+  module _ (a : t.state ≡ Open) where
     pub state-count : length (classes_in f) ≡ t.classes
     state-count = length-map f.placed (λ (x : Placed). x.class) ∙ sym (k.entered a).0
 
@@ -162,13 +160,13 @@ module _ {s b : List ℕ} {o : Objects} {n : ℕ} {f : Found} {t : Census} {w : 
     state-classes = record { corpus = s; classes = classes_in f; count = state-count; holds = (k.holds a).tables.classes }
 
     -- no room for one more of either
-    pub state-full : {f' : Found} → length w < 64 * (n + count_of f') → {w' : List ℕ} → length w' ≡ length w → State s b o n f' (closed_as t 0) w'
+    pub state-full : {f' : Found} → length w < 64 * (n + count_of f') → {w' : List ℕ} → length w' ≡ length w → State s b o n f' (closed_as t Full) w'
     state-full h {w'} e = record {
       entered = λ z. never (cc);
       room = λ z. never (cc);
       holds = λ z. never (cc);
-      full = λ z r. omega arith;
-      twice = λ r. absurd (omega arith);
+      full = λ z. omega arith;
+      twice = λ j z. never (cc);
     }
 
     -- a section without its rows
@@ -179,14 +177,14 @@ module _ {s b : List ℕ} {o : Objects} {n : ℕ} {f : Found} {t : Census} {w : 
       entered = λ y. ((k.entered a).0, (k.entered a).1, omega (arith, k.entered a));
       room = λ y. k.room a;
       holds = λ y. k.holds a;
-      full = λ y r. never (cc);
-      twice = λ r. absurd (omega arith);
+      full = λ y. never (cc);
+      twice = λ j z. never (cc);
     }
 
     -- ---- an export's row
 
     module _ (p : Package) (i : ℕ) (c : is_candidate p.read (get_or p.read.exports i no_export) ≡ true) where
-      pub state-row-full : length w / 64 ≤ n + t.classes + t.rows → State s b o n (with_row p i f) (closed_as t 0) w
+      pub state-row-full : length w / 64 ≤ n + t.classes + t.rows → State s b o n (with_row p i f) (closed_as t Full) w
       state-row-full h =
           rw (row_more p i f c) (state-full (omega (arith, k.entered a, length-append f.refs (class_ref p (get_or p.read.exports i no_export) ∷ []))) refl)
 
@@ -208,8 +206,8 @@ module _ {s b : List ℕ} {o : Objects} {n : ℕ} {f : Found} {t : Census} {w : 
             entered = λ y. (cs, omega arith, omega arith);
             room = λ y. omega arith;
             holds = λ y. came;
-            full = λ y r. never (cc);
-            twice = λ r. absurd (omega arith);
+            full = λ y. never (cc);
+            twice = λ j z. never (cc);
           })
 
     -- ---- its class
@@ -218,7 +216,7 @@ module _ {s b : List ℕ} {o : Objects} {n : ℕ} {f : Found} {t : Census} {w : 
       abbrev own : Placed
       own = record { block = j; class = class_at p i (get_or p.read.exports i no_export) }
 
-      pub state-class-full : length w / 64 ≤ n + t.classes + t.rows → State s b o n (with_own j p i f) (closed_as t 0) w
+      pub state-class-full : length w / 64 ≤ n + t.classes + t.rows → State s b o n (with_own j p i f) (closed_as t Full) w
       unfolding with_own
       state-class-full h = state-full (omega (arith, k.entered a, length-append f.placed (own ∷ []))) refl
 
@@ -236,20 +234,20 @@ module _ {s b : List ℕ} {o : Objects} {n : ℕ} {f : Found} {t : Census} {w : 
             entered = λ y. (omega arith, rs, sz);
             room = λ y. omega arith;
             holds = λ y. rw (map-append (λ (x : Placed). x.class) f.placed (own ∷ [])) came;
-            full = λ y r. never (cc);
-            twice = λ r. absurd (omega arith);
+            full = λ y. never (cc);
+            twice = λ j z. never (cc);
           }
 
       -- a class before it has its key
-      pub state-twice : 0 < j → Stands (classes_in f) (class_at p i (get_or p.read.exports i no_export)) → {w' : List ℕ}
-          → State s b o n (with_own j p i f) (closed_as t j) w'
+      pub state-twice : Stands (classes_in f) (class_at p i (get_or p.read.exports i no_export)) → {w' : List ℕ}
+          → State s b o n (with_own j p i f) (closed_as t (Repeated j)) w'
       unfolding with_own
-      state-twice h e {w'} = record {
+      state-twice e {w'} = record {
         entered = λ y. never (cc);
         room = λ y. never (cc);
         holds = λ y. never (cc);
-        full = λ y r. absurd (omega arith);
-        twice = λ r. (refl, twice-last f.placed own (found-once f (k.holds a).tables.classes) e);
+        full = λ y. never (cc);
+        twice = λ q z. let same : j ≡ q = cc in rw (← same) (twice-last f.placed own (found-once f (k.holds a).tables.classes) e);
       }
 
 -- ---- at the start: a table with no class
@@ -280,8 +278,8 @@ state-none limit s at {b} {o} {n} w y small e h k {ys} q =
         rows = record { room = omega arith; words = λ r l. absurd (omega arith); read = λ r l. absurd (omega arith) };
         apart = rw rest (omega arith);
       };
-      full = λ z r. never (cc);
-      twice = λ r. absurd (omega arith);
+      full = λ z. never (cc);
+      twice = λ j z. never (cc);
     }
 
 -- ---- a class: its hash is not 0, and there is a script object

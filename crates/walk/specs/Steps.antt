@@ -1,6 +1,6 @@
 -- The walk's steps: what an export's row adds to what was found and what its class adds, what the steps are lent, and how far they can count.
 -- Assumes nothing.
-use Rattle.std.specs.Prelude.{◌≡◌, true, false, cond, List, [], ◌∷◌, ◌++◌, ℕ, ◌+◌, ◌*◌, ◌≤◌, length, drop, get_or}
+use Rattle.std.specs.Prelude.{◌≡◌, cond, List, [], ◌∷◌, ◌++◌, ℕ, ◌+◌, ◌*◌, ◌≤◌, length, drop, get_or}
 use Rattle.base.specs.Find.{kept}
 use Rattle.base.specs.Number.{be_at}
 use Rattle.scriptblock.specs.Script.{Objects}
@@ -13,6 +13,8 @@ use Rattle.packages.specs.Walk.{Site}
 use Rattle.resolve.specs.Marks.{MarksIn}
 use Rattle.walk.specs.Found.{Found, State, base_size}
 use Rattle.walk.specs.declared.walk.Census.{Census}
+use Rattle.walk.specs.declared.walk.Entering.{Entering}
+use Rattle.walk.specs.declared.walk.Entering.TheVariants.{Open}
 use Rattle.walk.specs.declared.walk.Visit.{Visit}
 
 -- export i of package p, which is block j, added: its row, and its class
@@ -44,11 +46,11 @@ with_own j p i f = record {
 
 -- a count as long as all is entered
 abbrev pub opened_as : ℕ → ℕ → ℕ → Census
-opened_as classes rows size = record { «open» = true; repeat = 0; classes = classes; rows = rows; size = size }
+opened_as classes rows size = record { state = Open; classes = classes; rows = rows; size = size }
 
--- a count that goes no further: there is no room, or that block repeats a key
-abbrev pub closed_as : Census → ℕ → Census
-closed_as t repeat = record { «open» = false; repeat = repeat; classes = t.classes; rows = t.rows; size = t.size }
+-- a count that goes no further, for that reason
+abbrev pub closed_as : Census → Entering → Census
+closed_as t state = record { state = state; classes = t.classes; rows = t.rows; size = t.size }
 
 -- f' was found behind f
 pub record Behind (f f' : Found) : Type 0 where
@@ -75,8 +77,8 @@ pub record SomeState (b : List ℕ) (n : ℕ) (v : Visit) (d : List ℕ) (t : Ce
 
 -- as long as all is entered, the rows have these marks, one each
 pub record Marked (n : ℕ) (marks : List ℕ) (t : Census) (w : List ℕ) : Type 0 where
-  pub count : t.open ≡ true → length marks ≡ t.rows
-  pub holds : t.open ≡ true → MarksIn marks (drop (48 * n) w)
+  pub count : t.state ≡ Open → length marks ≡ t.rows
+  pub holds : t.state ≡ Open → MarksIn marks (drop (48 * n) w)
 
 -- the most that one row takes without its class and native class, and a section without its rows
 abbrev pub row_most : ℕ

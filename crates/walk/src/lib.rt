@@ -3,4 +3,5 @@
 #![tactic(auto)]
 
 pub mod script; // the script objects, entered and linked
+pub mod corpus; // a framed corpus
 pub mod walk; // one walk over the packages

@@ -1,5 +1,5 @@
 -- What an accepted block holds, and where: the tie of a reading to its layout.
-use Rattle.std.specs.Prelude.{◌≡◌, refl, List, true, ℕ, ◌+◌, ◌*◌, ◌-◌, ◌%◌, ◌≤◌, ◌<◌, ltb, eqb, length, take, get_or}
+use Rattle.std.specs.Prelude.{◌≡◌, refl, List, true, ℕ, ◌+◌, ◌*◌, ◌-◌, ◌%◌, ◌≤◌, ◌<◌, ltb, eqb, length, take, get_or, Ok}
 use Rattle.std.proofs.Common.{sym, ◌∙◌, ap, subst, arith, div-add-mod', ltb-true, eqb-true, length-take-le}
 use Rattle.std.proofs.Math.Decide.{dec_le}
 use Rattle.base.specs.Reading.{gives, Got, bad, got, run_block, walk}
@@ -7,9 +7,9 @@ use Rattle.base.specs.ReadingLaws.{walk_bind, chain_by, pick-by, ask-by, bad-got
 use Rattle.base.specs.ReadingGives.{refused-gives}
 use Rattle.base.specs.ReadingRows.{cells, cells_at, cells-length}
 use Rattle.base.specs.Number.{le_at}
-use Rattle.base.specs.NumberLaws.{bytes-part, le_at-part, le_at-lt}
+use Rattle.base.specs.NumberLaws.{Bytes, bytes-part, le_at-part, le_at-lt}
 use Rattle.batch.specs.Batch.{batch}
-use Rattle.batch.specs.Places.{texts_at}
+use Rattle.batch.specs.Places.{Held, texts_at}
 use Rattle.batch.specs.FoundBatch.{FoundAt, found_by_lem, found_end, found-held}
 use Rattle.batch.specs.declared.names.Names.{Names}
 use Rattle.zen.specs.Zen.{Read, Tables, Imports, summary, ordered, bulk, tables, export_at, imports, content, header, lead, package_block, named, no_export}
@@ -20,8 +20,10 @@ use Rattle.zen.proofs.SummaryLaws.{order_of, summary-got}
 use Rattle.zen.proofs.BlockLaws.{block-is, block-low, block-bad, lead-got}
 use Rattle.zen.specs.ImportLaws.{imports-short, imports-is}
 use Rattle.zen.specs.declared.summary.Summary.{Summary}
+use Rattle.zen.specs.Lists.{names_in}
 use Rattle.zen.specs.declared.zen.Layout.{Layout}
-use Rattle.zen.specs.declared.zen.Package.TheVariants.{Accepted}
+use Rattle.zen.specs.declared.zen.NameList.{NameList}
+use Rattle.zen.specs.declared.zen.NameList.TheVariants.{Own, Imported}
 pub use Rattle.zen.specs.Accepted.{Parts}
 
 -- ---- what each stage's reading says
@@ -195,7 +197,7 @@ read-parts b r y =
       few-imported = omega (arith, c.behind.few);
     }
 
-pub parts : (b : List ℕ) (l : Layout) → answer (run_block package_block b) ≡ Accepted l → Parts b l
+pub parts : (b : List ℕ) (l : Layout) → answer (run_block package_block b) ≡ Ok l → Parts b l
 parts b l q =
     let (r, y, z) = accepted-got (run_block package_block b) q in
     subst (λ l. Parts b l) z (read-parts b r y)
@@ -234,3 +236,8 @@ module _ {b : List ℕ} {l : Layout} (p : Parts b l) (i : ℕ) where
   number_is h =
       rw p.numbers (cells_at (le_at 4 (take l.size b)) 4 l.imported.«end» l.imported.count i 0 h
       ∙ (le_at-part 4 0 l.size b (l.imported.«end» + 4 * i) (number-there h) ∙ ap (le_at 4 b) (omega arith)))
+
+-- either list of names is held
+pub list-held : {b : List ℕ} {l : Layout} → Parts b l → Bytes b → (list : NameList) → Held (take l.size b) (names_in l list)
+list-held p y Own = p.names-held y
+list-held p y Imported = p.imported-held y

@@ -1,5 +1,5 @@
 -- Where the parts of an accepted package are, by position: what is read of it again without asking anything. Assumes nothing.
-use Rattle.std.specs.Prelude.{◌≡◌, refl, List, [], Bool, true, false, ℕ, ◌+◌, ◌*◌, ◌-◌, ◌%◌, ◌≤◌, leb, ltb, eqb, length, take}
+use Rattle.std.specs.Prelude.{◌≡◌, refl, List, [], Bool, true, false, ℕ, ◌+◌, ◌*◌, ◌-◌, ◌%◌, ◌≤◌, leb, ltb, eqb, length, take, Ok}
 use Rattle.std.proofs.Common.{sym, ◌∙◌, ap, arith, leb-true, eqb-true, length-take-le}
 use Rattle.std.proofs.Math.Decide.{dec_le}
 use Rattle.base.specs.Choose.{pick}
@@ -18,7 +18,6 @@ use Rattle.zen.specs.TableLaws.{bulk-got, tables-is, exports_in}
 use Rattle.zen.proofs.BlockLaws.{block-is, block-low, block-bad, lead-got}
 use Rattle.zen.specs.declared.summary.Summary.{Summary}
 use Rattle.zen.specs.declared.zen.Layout.{Layout}
-use Rattle.zen.specs.declared.zen.Package.TheVariants.{Accepted}
 pub use Rattle.zen.specs.Layouts.{BatchAt, Laid, LayoutAt, header_of, layout_at, names_at, no_parts, parts_of}
 
 body-place : (s : List ℕ) (at n room : ℕ) (b : Batch) (e : ℕ) → walk (body n room) s at ≡ got b e
@@ -134,7 +133,7 @@ laid b r q = go (walk lead b 0) refl
                 record { here = omega (arith, f.1); within = omega (arith, f.1, f.2); is = rw (← f.2, ← z) c.0; parts = rw (← f.2) c.1 }
 
 -- an accepted block is laid out as its fields say
-pub accepted-laid : (b : List ℕ) (l : Layout) → answer (run_block package_block b) ≡ Accepted l → Laid b l
+pub accepted-laid : (b : List ℕ) (l : Layout) → answer (run_block package_block b) ≡ Ok l → Laid b l
 accepted-laid b l q =
     let (r, y, z) = accepted-got (run_block package_block b) q in
     rw z at (laid b r y)

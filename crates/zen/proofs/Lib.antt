@@ -1,3 +1,4 @@
+pub mod Handed
 pub mod Layouts
 pub mod PassedOver
 pub mod Refusals

@@ -1,6 +1,6 @@
 -- All that a caller needs of an accepted package, in one place: what was read of it, how much of each there is, what its names' places
 -- hold. With it the accessors' promises are about what was read, and nothing of the reading is opened. Assumes nothing.
-use Rattle.std.specs.Prelude.{◌≡◌, refl, ℕ}
+use Rattle.std.specs.Prelude.{◌≡◌, refl, ℕ, Ok}
 use Rattle.std.proofs.Math.Path.{sym, ap}
 use Rattle.std.proofs.Common.{◌∙◌}
 use mathlib.Core.List.{List, [], ◌++◌}
@@ -13,16 +13,15 @@ use Rattle.zen.specs.AnswersLaws.{accepted-got}
 use Rattle.zen.proofs.Accepted.{parts}
 use Rattle.zen.proofs.PackageLaws.{name-count, imported_count_lem, number-count, export-index, name-text, imported-text}
 use Rattle.zen.specs.declared.zen.Layout.{Layout}
-use Rattle.zen.specs.declared.zen.Package.TheVariants.{Accepted}
 pub use Rattle.zen.specs.PackageFacts.{PackageFacts, imported_place, name_place}
 
-module _ (b : List ℕ) (l : Layout) (acc : answer (run_block package_block b) ≡ Accepted l) where
+module _ (b : List ℕ) (l : Layout) (acc : answer (run_block package_block b) ≡ Ok l) where
   -- the facts of what is known to have been read
   pub read-facts : (r : Read) → run_block package_block b ≡ gives r → PackageFacts b l r
   unfolding answer exports_of hashes_of names_of imported_of numbers_of imported_name_of package_name_of
   read-facts r q =
       let p = parts b l acc in
-      let e : r.layout ≡ l = let z : Accepted r.layout ≡ Accepted l = sym (ap answer q) ∙ acc in cc in
+      let e : r.layout ≡ l = let z : Ok r.layout ≡ Ok l = sym (ap answer q) ∙ acc in cc in
       let x = ap exports_of q in
       let n = ap names_of q in
       let i = ap imported_of q in

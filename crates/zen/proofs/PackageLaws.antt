@@ -1,5 +1,5 @@
 -- What whoever reads an accepted package, or a rejected one, needs to know of it. Assumes nothing.
-use Rattle.std.specs.Prelude.{◌≡◌, true, ℕ, zero, suc, ◌<◌, ltb, length, take}
+use Rattle.std.specs.Prelude.{◌≡◌, true, ℕ, zero, suc, ◌<◌, ltb, length, take, Ok, Err}
 use Rattle.std.proofs.Common.{ap, arith, ltb-true}
 use mathlib.Core.List.{List, [], ◌∷◌, ◌++◌}
 use Rattle.std.proofs.Math.Bool.{and-eq-true_iff}
@@ -18,11 +18,10 @@ use Rattle.zen.specs.AnswersLaws.{accepted-got, rejected-got}
 use Rattle.zen.proofs.Accepted.{parts}
 use Rattle.zen.specs.declared.tables.Export.{Export}
 use Rattle.zen.specs.declared.zen.Layout.{Layout}
-use Rattle.zen.specs.declared.zen.Package.TheVariants.{Accepted, Rejected}
 
 -- ---- a rejected block
 
-pub rejected-read : (b : List ℕ) (q : ℕ) → answer (run_block package_block b) ≡ Rejected q → run_block package_block b ≡ refused q
+pub rejected-read : (b : List ℕ) (q : ℕ) → answer (run_block package_block b) ≡ Err q → run_block package_block b ≡ refused q
 rejected-read b q e = rejected-got (run_block package_block b) e
 
 -- ---- elements that passed a test
@@ -34,7 +33,7 @@ named-at n (e ∷ es) q (suc i) l = named-at n es ((and-eq-true_iff (ltb e.index
 
 -- ---- an accepted block
 
-module _ (b : List ℕ) (l : Layout) (acc : answer (run_block package_block b) ≡ Accepted l) where
+module _ (b : List ℕ) (l : Layout) (acc : answer (run_block package_block b) ≡ Ok l) where
   pub accepted-read : (r : Read) × (run_block package_block b ≡ gives r) × (r.layout ≡ l)
   accepted-read = accepted-got (run_block package_block b) acc
 

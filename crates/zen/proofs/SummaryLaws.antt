@@ -100,10 +100,20 @@ summary-got s {m} {n} q = go (dec_le 24 (length s))
             let z = sym q ∙ p.0 in
             (cc, cc, p.1)
 
--- question 17
-pub order_of : (m : Summary) (size : ℕ) → ordered m size ≡ true → Order m size
+-- question 17, step by step
+pub record Rising (m : Summary) (size : ℕ) : Type 0 where
+  pub low : 52 ≤ m.hashes
+  pub hashes : m.hashes ≤ m.imports
+  pub imports : m.imports ≤ m.exports
+  pub exports : m.exports ≤ m.bundles
+  pub bundles : m.bundles ≤ m.headers
+  pub headers : m.headers ≤ m.entries
+  pub entries : m.entries ≤ m.imported
+  pub imported : m.imported ≤ size
+
+pub rising_of : (m : Summary) (size : ℕ) → ordered m size ≡ true → Rising m size
 unfolding ordered
-order_of m size q =
+rising_of m size q =
     let (p7, h) = (and-eq-true_iff _ (leb m.imported size)).0 q in
     let (p6, g) = (and-eq-true_iff _ (leb m.entries m.imported)).0 p7 in
     let (p5, f) = (and-eq-true_iff _ (leb m.headers m.entries)).0 p6 in
@@ -111,14 +121,33 @@ order_of m size q =
     let (p3, d) = (and-eq-true_iff _ (leb m.exports m.bundles)).0 p4 in
     let (p2, c) = (and-eq-true_iff _ (leb m.imports m.exports)).0 p3 in
     let (a, b) = (and-eq-true_iff (leb 52 m.hashes) (leb m.hashes m.imports)).0 p2 in
-    let e1 = leb-true m.bundles m.headers e in
-    let e2 = leb-true m.headers m.entries f in
-    let e3 = leb-true m.entries m.imported g in
     record {
       low = leb-true 52 m.hashes a;
-      imports = leb-true m.hashes m.imports b;
-      exports = leb-true m.imports m.exports c;
-      bundles = leb-true m.exports m.bundles d;
-      imported = omega arith;
-      high = leb-true m.imported size h;
+      hashes = leb-true m.hashes m.imports b;
+      imports = leb-true m.imports m.exports c;
+      exports = leb-true m.exports m.bundles d;
+      bundles = leb-true m.bundles m.headers e;
+      headers = leb-true m.headers m.entries f;
+      entries = leb-true m.entries m.imported g;
+      imported = leb-true m.imported size h;
     }
+
+pub rising_is : {m : Summary} {size : ℕ} → Rising m size → ordered m size ≡ true
+unfolding ordered
+rising_is {m} {size} r =
+    rw (
+      le-leb 52 m.hashes r.low,
+      le-leb m.hashes m.imports r.hashes,
+      le-leb m.imports m.exports r.imports,
+      le-leb m.exports m.bundles r.exports,
+      le-leb m.bundles m.headers r.bundles,
+      le-leb m.headers m.entries r.headers,
+      le-leb m.entries m.imported r.entries,
+      le-leb m.imported size r.imported,
+    )
+
+-- question 17
+pub order_of : (m : Summary) (size : ℕ) → ordered m size ≡ true → Order m size
+order_of m size q =
+    let r = rising_of m size q in
+    record { low = r.low; imports = r.hashes; exports = r.imports; bundles = r.exports; imported = omega arith; high = r.imported }

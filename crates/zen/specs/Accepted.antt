@@ -1,11 +1,11 @@
 -- What an accepted block holds, and where: the tie of a reading to its layout.
-use Rattle.std.specs.Prelude.{◌≡◌, List, true, ℕ, ◌+◌, ◌*◌, ◌-◌, ◌^◌, ◌≤◌, ◌<◌, length, take}
+use Rattle.std.specs.Prelude.{◌≡◌, List, true, ℕ, ◌+◌, ◌*◌, ◌^◌, ◌≤◌, ◌<◌, length, take}
 use Rattle.base.specs.Reading.{run_block}
 use Rattle.base.specs.ReadingRows.{cells}
 use Rattle.base.specs.Number.{le_at}
 use Rattle.base.specs.NumberLaws.{Bytes}
 use Rattle.batch.specs.Places.{texts_at, Held}
-use Rattle.zen.specs.Zen.{summary, header, package_block, named}
+use Rattle.zen.specs.Zen.{package_block, named}
 use Rattle.zen.specs.Answers.{Order, hashes_of, exports_of, names_of, imported_of, numbers_of, hash_count, export_count}
 use Rattle.zen.specs.TableLaws.{hashes_in, exports_in}
 use Rattle.zen.specs.declared.zen.Layout.{Layout}

@@ -1,34 +1,27 @@
 -- The code's answers about a package, as functions of what a reading gives.
-use Rattle.std.specs.Prelude.{List, [], ℕ, ◌-◌, ◌/◌, ◌≤◌}
+use Rattle.batch.specs.declared.names.Names.{Names}
+use Rattle.std.specs.Prelude.{List, [], ℕ, ◌-◌, ◌/◌, ◌≤◌, Result, Ok, Err}
 use Rattle.base.specs.Reading.{Out, refused, gives, Got, bad, got}
-use Rattle.batch.specs.declared.names.NameBatch.{NameBatch}
-use Rattle.batch.specs.declared.names.NameBatch.TheVariants.{Found, Refused}
 use Rattle.zen.specs.Zen.{Read, Imports, imported_name, package_name}
 use Rattle.zen.specs.declared.summary.Summary.{Summary}
 use Rattle.zen.specs.declared.tables.Export.{Export}
 use Rattle.zen.specs.declared.zen.Layout.{Layout}
-use Rattle.zen.specs.declared.zen.Package.{Package}
-use Rattle.zen.specs.declared.zen.Package.TheVariants.{Accepted, Rejected}
-use Rattle.zen.specs.declared.lead.Lead.{Lead}
-use Rattle.zen.specs.declared.lead.Lead.TheVariants.{Header, Fault}
-use Rattle.zen.specs.declared.summary.Summed.{Summed}
-use Rattle.zen.specs.declared.summary.Summed.TheVariants.{Told, Missed}
 
-unfoldable pub led : Got ℕ → Lead
-led (bad e) = Fault e
-led (got size n) = Header size
+unfoldable pub led : Got ℕ → (Result ℕ ℕ)
+led (bad e) = Err e
+led (got size n) = Ok size
 
-unfoldable pub summed : Got Summary → Summed
-summed (bad e) = Missed e
-summed (got m n) = Told m
+unfoldable pub summed : Got Summary → Result Summary ℕ
+summed (bad e) = Err e
+summed (got m n) = Ok m
 
-unfoldable pub imported : Got Imports → NameBatch
-imported (bad e) = Refused e
-imported (got i n) = Found i.batch.place
+unfoldable pub imported : Got Imports → Result Names ℕ
+imported (bad e) = Err e
+imported (got i n) = Ok i.batch.place
 
-unfoldable pub answer : Out Read → Package
-answer (refused e) = Rejected e
-answer (gives r) = Accepted r.layout
+unfoldable pub answer : Out Read → Result Layout ℕ
+answer (refused e) = Err e
+answer (gives r) = Ok r.layout
 
 unfoldable pub exports_of : Out Read → List Export
 exports_of (refused e) = []

@@ -1,5 +1,5 @@
 -- The imported names by position (questions 3, 10 and 22).
-use Rattle.std.specs.Prelude.{◌≡◌, List, ℕ, ◌+◌, ◌*◌, ◌-◌, ◌≤◌, ◌<◌, ltb, eqb, length}
+use Rattle.std.specs.Prelude.{◌≡◌, List, ℕ, ◌+◌, ◌*◌, ◌-◌, ◌≤◌, ◌<◌, ltb, eqb, length, Err}
 use Rattle.std.proofs.Common.{◌∙◌}
 use Rattle.base.specs.Choose.{pick}
 use Rattle.base.specs.Reading.{bad, got, walk, rows}
@@ -11,12 +11,11 @@ use Rattle.batch.specs.BatchAnswers.{batched}
 use Rattle.batch.specs.FoundBatch.{FoundAt}
 use Rattle.batch.specs.BatchAnswersLaws.{batched-refused}
 use Rattle.batch.specs.declared.names.Names.{Names}
-use Rattle.batch.specs.declared.names.NameBatch.TheVariants.{Refused}
 use Rattle.zen.specs.Zen.{imports}
 
 -- the imported names, by their questions
 module _ (s : List ℕ) (at index count : ℕ) where
-  pub imports-refused : {r : ℕ} → batched (walk batch s at) ≡ Refused r → walk (imports index count) s at ≡ bad r
+  pub imports-refused : {r : ℕ} → batched (walk batch s at) ≡ Err r → walk (imports index count) s at ≡ bad r
   unfolding imports
   imports-refused q = then-bad batch _ s at (batched-refused (walk batch s at) q)
 

@@ -1,10 +1,9 @@
 -- Where the parts of an accepted package are, by position: what is read of it again without asking anything. Assumes nothing.
-use Rattle.std.specs.Prelude.{◌≡◌, List, ℕ, ◌+◌, ◌*◌, ◌-◌, ◌≤◌, eqb, length, take}
+use Rattle.std.specs.Prelude.{◌≡◌, List, ℕ, ◌+◌, ◌*◌, ◌≤◌, eqb, length, take}
 use Rattle.base.specs.Choose.{pick}
 use Rattle.base.specs.Number.{le_at}
-use Rattle.batch.specs.Batch.{strings}
 use Rattle.batch.specs.declared.names.Names.{Names}
-use Rattle.zen.specs.Zen.{summary, summary_at}
+use Rattle.zen.specs.Zen.{summary_at}
 use Rattle.zen.specs.declared.zen.Layout.{Layout}
 
 -- ---- a batch

@@ -1,6 +1,7 @@
 -- Document 01's package block: what is read, what answers it, where it stands.
 pub mod Zen
 pub mod Answers
+pub mod Lists
 pub mod Layouts
 -- Blocks of both kinds, computed at their edges.
 pub mod Examples

@@ -1,6 +1,6 @@
 -- All that a caller needs of an accepted package, in one place: what was read of it, how much of each there is, what its names' places
 -- hold. With it the accessors' promises are about what was read, and nothing of the reading is opened. Assumes nothing.
-use Rattle.std.specs.Prelude.{◌≡◌, ℕ, ◌*◌, ◌≤◌, ◌<◌, take}
+use Rattle.std.specs.Prelude.{◌≡◌, ℕ, ◌*◌, ◌≤◌, ◌<◌, take, Ok}
 use mathlib.Core.List.{List, [], ◌++◌}
 use Rattle.std.proofs.Math.ListN.{length, get_or}
 use Rattle.text.specs.Name.{suffix}
@@ -12,9 +12,8 @@ use Rattle.batch.specs.declared.places.Place.{Place}
 use Rattle.zen.specs.Zen.{Read, package_block, no_export, imported_name, package_name}
 use Rattle.zen.specs.Answers.{answer, exports_of, hashes_of, names_of, imported_of, numbers_of, imported_name_of, package_name_of, export_count, hash_count}
 use Rattle.zen.specs.declared.zen.Layout.{Layout}
-use Rattle.zen.specs.declared.zen.Package.TheVariants.{Accepted}
 
--- where name i and imported name i are: what `name_place` and `imported_place` give
+-- where name i and imported name i are: what `Package::name_place` gives of either list
 abbrev pub name_place : List ℕ → Layout → ℕ → Place
 name_place b l i = place_at (take l.size b) l.names i
 
@@ -23,7 +22,7 @@ imported_place b l i = place_at (take l.size b) l.imported i
 
 -- block b is accepted with layout l, and r is what was read of it
 pub record PackageFacts (b : List ℕ) (l : Layout) (r : Read) : Type 0 where
-  pub accepted : answer (run_block package_block b) ≡ Accepted l
+  pub accepted : answer (run_block package_block b) ≡ Ok l
   pub is : run_block package_block b ≡ gives r
   pub layout : r.layout ≡ l
   -- what the accessors speak of

@@ -1,5 +1,5 @@
 -- The same blocks by position, and what the code answers of them, computed. Assumes nothing.
-use Rattle.std.specs.Prelude.{◌≡◌, refl, true, false, List, [], ◌∷◌, ◌++◌, map, ℕ, ◌+◌}
+use Rattle.std.specs.Prelude.{◌≡◌, refl, true, false, List, [], ◌∷◌, ◌++◌, map, ℕ, ◌+◌, Result, Ok, Err, Some, None}
 use Rattle.text.specs.Digits.{decimal, digits}
 use Rattle.text.specs.Name.{decoded}
 use Rattle.base.specs.Number.{le_at}
@@ -12,21 +12,14 @@ use Rattle.batch.specs.Batch.{head_of, head_at, Batch, batch, no_names, some_nam
 use Rattle.batch.specs.Notes.{step_of}
 use Rattle.batch.specs.Places.{name_start, texts_at, place_at, part_at}
 use Rattle.batch.specs.BatchAnswers.{checked, batched}
-use Rattle.batch.specs.declared.cursor.Word.TheVariants as Word
-use Rattle.batch.specs.declared.names.Checked.TheVariants.{Passed, Failed}
-use Rattle.batch.specs.declared.names.NameBatch.TheVariants.{Found, Refused}
 use Rattle.scriptblock.specs.Script.{Objects, fresh, opening}
 use Rattle.scriptblock.specs.ScriptAnswers.{opened_by, opened, entry_at, no_entry, fault_of, fault_on, fresh_at, fault_at, answer_by, script_answer, entries_of, object_names}
 use Rattle.scriptblock.specs.declared.script.Entry.{Entry}
-use Rattle.scriptblock.specs.declared.script.Opened.TheVariants.{Open, Shut}
-use Rattle.scriptblock.specs.declared.script.Script.{Script}
-use Rattle.scriptblock.specs.declared.script.Script.TheVariants as Scripts
+use Rattle.scriptblock.specs.declared.script.Layout as Script
 use Rattle.zen.specs.Zen.{Read, Imports, summary_at, export_at, no_export, named, imported_name}
 use Rattle.zen.specs.Answers.{summed, imported, answer, exports_of, hashes_of, names_of, imported_of, numbers_of, imported_name_of, package_name_of, export_count, hash_count}
 use Rattle.zen.specs.Examples.{large-bytes, large, inner_A, two, two_objects_lem}
-use Rattle.zen.specs.declared.summary.Summed.TheVariants.{Told, Missed}
 use Rattle.zen.specs.declared.zen.Layout.{Layout}
-use Rattle.zen.specs.declared.zen.Package.TheVariants as Package
 
 -- ---- where things are
 
@@ -45,9 +38,9 @@ counted exports hashes = record {
 
 pub record ByPosition : Type 0 where
   -- "`Cursor` holds its bytes and position"
-  pub word : word_at nine 1 ≡ Word.Got 0xC5040302 5
-  pub last_word : word_at nine 5 ≡ Word.Got 0x09080706 9
-  pub no_word : word_at nine 6 ≡ Word.Short
+  pub word : word_at nine 1 ≡ Some (0xC5040302, 5)
+  pub last_word : word_at nine 5 ≡ Some (0x09080706, 9)
+  pub no_word : word_at nine 6 ≡ None
   -- "low 30 bits index the batch"
   pub low_30 : low30 nine 1 ≡ 0x05040302
   -- "Header byte 0, bit 7: UTF-16LE; its low 7 bits times 256 plus byte 1: length in units"
@@ -109,11 +102,11 @@ abbrev both : {A : Type 0} → (Out Read → A) → List A
 both f = f (refused 5) ∷ f (gives large) ∷ []
 
 pub record PackageAnswers : Type 0 where
-  pub is-checked : checked {A = Read} (bad 5) ∷ checked (got large 9) ∷ [] ≡ Failed 5 ∷ Passed ∷ []
-  pub is-summed : summed (bad 5) ∷ summed (got large.layout.summary 52) ∷ [] ≡ Missed 5 ∷ Told large.layout.summary ∷ []
-  pub is-batched : batched (bad 5) ∷ batched (got large-batch 9) ∷ [] ≡ Refused 5 ∷ Found large.layout.names ∷ []
-  pub is-imported : imported (bad 5) ∷ imported (got large-imports 9) ∷ [] ≡ Refused 5 ∷ Found large.layout.imported ∷ []
-  pub answers : both answer ≡ Package.Rejected 5 ∷ Package.Accepted large.layout ∷ []
+  pub is-checked : checked {A = Read} (bad 5) ∷ checked (got large 9) ∷ [] ≡ Err 5 ∷ (Ok tt) ∷ []
+  pub is-summed : summed (bad 5) ∷ summed (got large.layout.summary 52) ∷ [] ≡ Err 5 ∷ Ok large.layout.summary ∷ []
+  pub is-batched : batched (bad 5) ∷ batched (got large-batch 9) ∷ [] ≡ Err 5 ∷ Ok large.layout.names ∷ []
+  pub is-imported : imported (bad 5) ∷ imported (got large-imports 9) ∷ [] ≡ Err 5 ∷ Ok large.layout.imported ∷ []
+  pub answers : both answer ≡ Err 5 ∷ Ok large.layout ∷ []
   pub exports : both exports_of ≡ [] ∷ large.exports ∷ []
   pub hashes : both hashes_of ≡ [] ∷ large.hashes ∷ []
   pub names : both names_of ≡ [] ∷ large.names ∷ []
@@ -162,15 +155,15 @@ abbrev unknown : Entry
 unknown = object 0 1
 
 -- a block with these bytes behind its first entry
-abbrev answered : List ℕ → Script
+abbrev answered : List ℕ → Result Script.Layout ℕ
 answered rest = answer_by (two rest) (opened (two rest))
 
 abbrev both-scripts : {A : Type 0} → (Out Objects → A) → List A
 both-scripts f = f (refused 5) ∷ f (gives two_objects_lem) ∷ []
 
 pub record ScriptsAnswers : Type 0 where
-  pub opens : opened (two (inner_A 0x4000000000000002)) ≡ Open two_objects_lem.layout
-  pub stays_shut : opened (two []) ≡ Shut 9
+  pub opens : opened (two (inner_A 0x4000000000000002)) ≡ Ok two_objects_lem.layout
+  pub stays_shut : opened (two []) ≡ Err 9
   pub by_itself : map (λ e. fault_of e 1) (first ∷ unknown ∷ unnamed ∷ []) ≡ 0 ∷ 11 ∷ 10 ∷ []
   pub one_by_one :
       map (fault_on 1 []) ((first ∷ second ∷ []) ∷ (first ∷ first ∷ unnamed ∷ []) ∷ (first ∷ second ∷ first ∷ []) ∷ (first ∷ unknown ∷ first ∷ []) ∷ [])
@@ -180,8 +173,8 @@ pub record ScriptsAnswers : Type 0 where
       ≡ false ∷ false ∷ true ∷ []
   pub faults : map (λ g. fault_at (two (inner_A g)) two_objects_lem.layout) (0x4000000000000002 ∷ 0x4000000000000001 ∷ 1 ∷ []) ≡ 0 ∷ 12 ∷ 11 ∷ []
   pub answered-all : map answered (inner_A 0x4000000000000002 ∷ inner_A 1 ∷ (inner_A 0x4000000000000002 ++ 0 ∷ []) ∷ [] ∷ [])
-      ≡ Scripts.Accepted two_objects_lem.layout ∷ Scripts.Rejected 11 ∷ Scripts.Rejected 13 ∷ Scripts.Rejected 9 ∷ []
-  pub answers : both-scripts script_answer ≡ Scripts.Rejected 5 ∷ Scripts.Accepted two_objects_lem.layout ∷ []
+      ≡ Ok two_objects_lem.layout ∷ Err 11 ∷ Err 13 ∷ Err 9 ∷ []
+  pub answers : both-scripts script_answer ≡ Err 5 ∷ Ok two_objects_lem.layout ∷ []
   pub entries : both-scripts entries_of ≡ [] ∷ two_objects_lem.entries ∷ []
   pub names : both-scripts object_names ≡ [] ∷ two_objects_lem.names ∷ []
 

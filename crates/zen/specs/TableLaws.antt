@@ -2,7 +2,7 @@
 use Rattle.std.specs.Prelude.{◌≡◌, refl, List, false, ℕ, zero, suc, ◌+◌, ◌*◌, ◌-◌, ◌/◌, ◌%◌, ◌≤◌, ◌<◌, eqb, length, take, drop}
 use Rattle.std.proofs.Common.{sym, ◌∙◌, sub-one, div-add-mod', mul_comm, lit≤}
 use Rattle.std.proofs.Math.Path.{ap}
-use Rattle.std.proofs.Math.Bool.{true}
+use Rattle.std.proofs.Math.Bool.{true, and-false}
 use native.Mathlib.Omega.{arith}
 use borrow.Author.Tests.{le-leb, lt-ltb, le-ltb, eqb-true}
 use Rattle.std.proofs.Math.Dec.{leb}
@@ -92,6 +92,23 @@ module _ (s : List ℕ) (count : ℕ) where
   pub named_fail : (at k : ℕ) → 0 < k → count ≤ (export_at s at).index → named count (cells (export_at s) 72 at k) ≡ false
   named_fail at zero l g = absurd (omega arith)
   named_fail at (suc k) l g = rw (le-ltb _ _ g)
+
+  pub named-all : (at n : ℕ) → ((k : ℕ) → k < n → low30 s (at + 72 * k + 16) < count) → named count (cells (export_at s) 72 at n) ≡ true
+  unfolding export_at
+  named-all at zero h = refl
+  named-all at (suc n) h =
+      let here : low30 s (at + 16) < count = let e : at + 72 * 0 + 16 ≡ at + 16 = omega arith in rw e at (h 0 (omega arith)) in
+      rw (lt-ltb _ _ here) (named-all (at + 72) n (λ k l.
+      let e : at + 72 + 72 * k + 16 ≡ at + 72 * (k + 1) + 16 = omega arith in
+      rw e (h (k + 1) (omega arith))))
+
+  pub named-some : (at n k : ℕ) → k < n → count ≤ low30 s (at + 72 * k + 16) → named count (cells (export_at s) 72 at n) ≡ false
+  unfolding export_at
+  named-some at zero k l h = absurd (omega arith)
+  named-some at (suc n) zero l h = let e : at + 72 * 0 + 16 ≡ at + 16 = omega arith in rw (le-ltb _ _ (rw e at h))
+  named-some at (suc n) (suc k) l h =
+      let e : at + 72 * suc k + 16 ≡ at + 72 + 72 * k + 16 = omega arith in
+      rw (named-some (at + 72) n k (omega arith) (rw e at h)) (and-false _)
 
 -- the public hashes, and the exports
 abbrev pub hashes_in : List ℕ → Summary → List ℕ

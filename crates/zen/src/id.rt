@@ -4,12 +4,12 @@ ghost use Rattle.ids.specs.Id.{id_of};
 ghost use Rattle.batch.specs.Holds.{text_at, name_at, Holds};
 
 use batch::places::Place;
-use batch::texts::part_of;
+use batch::texts::text_of;
 
 // The id of the name.
 pub fn place_id(b: &[u8], p: Place, number: u32) -> u64
     requires { Holds b.now p (text_at b.now p) }
     ensures { result ≡ id_of (name_at b.now p number) }
 {
-    ids::id::name_id(part_of(b, p), p.wide, number)
+    ids::id::name_id(text_of(b, p), number)
 }

@@ -1,13 +1,12 @@
 // Where the parts of an accepted package are, read from its fields without asking anything again.
-ghost use Rattle.std.specs.Prelude.{◌≡◌, ◌≤◌, length};
+ghost use Rattle.std.specs.Prelude.{◌≡◌, ◌≤◌, length, Ok};
 ghost use Rattle.base.specs.Reading.{run_block};
-ghost use Rattle.zen.specs.Zen.{package_block, summary_at};
+ghost use Rattle.zen.specs.Zen.{package_block};
 ghost use Rattle.zen.specs.Answers.{answer};
 ghost use Rattle.zen.specs.Layouts.{names_at, layout_at, BatchAt, LayoutAt};
 ghost use Rattle.zen.specs.declared.zen.Layout.{Layout};
-ghost use Rattle.zen.specs.declared.zen.Package.TheVariants.{Accepted};
 
-use super::summary::Summary;
+use super::summary::summary_in;
 use super::zen::Layout;
 use batch::names::Names;
 use batch::reader;
@@ -37,30 +36,12 @@ fn batch_in(s: &[u8], at: usize) -> Names
     }
 }
 
-// The summary.
-fn summary_of(s: &[u8]) -> Summary
-    requires { 52 ≤ length s.now }
-    ensures { result ≡ summary_at s.now }
-{
-    Summary {
-        index: reader::u30_le(s, 8),
-        number: base::number::le32(s, 12),
-        hashes: reader::u32_le(s, 24),
-        imports: reader::u32_le(s, 28),
-        exports: reader::u32_le(s, 32),
-        bundles: reader::u32_le(s, 36),
-        headers: reader::u32_le(s, 40),
-        entries: reader::u32_le(s, 44),
-        imported: reader::u32_le(s, 48),
-    }
-}
-
 // The parts of a header.
 fn layout_in(s: &[u8]) -> Layout
     requires { LayoutAt s.now }
     ensures { result ≡ layout_at s.now }
 {
-    let m = summary_of(s);
+    let m = summary_in(s);
     let imported = batch_in(s, m.imported);
     Layout {
         size: s.len(),
@@ -72,9 +53,9 @@ fn layout_in(s: &[u8]) -> Layout
 
 // The parts of an accepted package.
 pub fn layout_of(b: &[u8]) -> Layout
-    requires { (l : Layout) × (answer (run_block package_block b.now) ≡ Accepted l) }
-    ensures { answer (run_block package_block b.now) ≡ Accepted result }
+    requires { (l : Layout) × (answer (run_block package_block b.now) ≡ Ok l) }
+    ensures { answer (run_block package_block b.now) ≡ Ok result }
 {
     let size = reader::u32_le(b, 4);
-    layout_in(&b[0..size])
+    layout_in(&b[..size])
 }

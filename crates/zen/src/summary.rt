@@ -1,11 +1,13 @@
 // The summary of a package header (zen.rs).
 ghost use Rattle.std.specs.Prelude.{◌≡◌, ◌+◌, ◌-◌, ◌≤◌, ◌<◌, length};
 ghost use Rattle.base.specs.Reading.{walk, rows};
+ghost use Rattle.base.specs.Refusal.{numbered};
 ghost use Rattle.batch.specs.BatchAnswers.{checked};
 ghost use Rattle.zen.specs.Zen.{offset, summary, ordered, summary_at};
 ghost use Rattle.zen.specs.Answers.{summed};
 
-use batch::names::Checked;
+use base::refusal::Refusal;
+use base::signed::le_size32;
 use batch::reader;
 
 #[derive(Clone, Copy)]
@@ -21,35 +23,24 @@ pub struct Summary {
     pub imported: usize,
 }
 
-#[derive(Clone, Copy)]
-pub enum Summed {
-    Told(Summary),
-    Missed(u8),
-}
-
 // Seven offsets: questions 3 and 16.
-fn check_offsets(s: &[u8], from: usize) -> Checked
+fn check_offsets(s: &[u8], from: usize) -> Result<(), Refusal>
     requires { from ≤ length s.now }
-    ensures { result ≡ checked (walk (rows 7 offset) s.now from) }
+    ensures { numbered result ≡ checked (walk (rows 7 offset) s.now from) }
 {
-    let mut at = from;
-    let mut left: usize = 7;
-    while 0 < left {
+    for i in 0..7usize {
+        let at = from + 4 * i;
         if s.len() - at < 4 {
-            return Checked::Failed(3);
+            return Err(Refusal::Cut);
         }
-        match base::signed::le_size32(s, at) {
-            base::signed::Size::Negative => return Checked::Failed(16),
-            base::signed::Size::Of(_) => {
-                at = at + 4;
-                left = left - 1;
-            }
-        }
+        le_size32(s, at).ok_or(Refusal::NegativeOffset)?;
     }
-    Checked::Passed
+    Ok(())
 }
 
-fn summary_in(s: &[u8]) -> Summary
+// The summary, read without asking anything.
+#[tactic(auto, unfolding(crate::specs::Zen::summary_at))]
+pub fn summary_in(s: &[u8]) -> Summary
     requires { 52 ≤ length s.now }
     ensures { result ≡ summary_at s.now }
 {
@@ -67,28 +58,22 @@ fn summary_in(s: &[u8]) -> Summary
 }
 
 // The summary behind the header size.
-pub fn read_summary(s: &[u8]) -> Summed
-    ensures { result ≡ summed (walk summary s.now 8) }
+pub fn read_summary(s: &[u8]) -> Result<Summary, Refusal>
+    ensures { numbered result ≡ summed (walk summary s.now 8) }
 {
     if s.len() < 24 {
-        return Summed::Missed(3);
+        return Err(Refusal::Cut);
     }
-    match check_offsets(s, 24) {
-        Checked::Failed(r) => Summed::Missed(r),
-        Checked::Passed => Summed::Told(summary_in(s)),
-    }
+    check_offsets(s, 24)?;
+    Ok(summary_in(s))
 }
 
 // Question 17.
 pub fn in_order(m: Summary, size: usize) -> bool
     ensures { result ≡ ordered m size }
 {
-    (52 <= m.hashes)
-        & (m.hashes <= m.imports)
-        & (m.imports <= m.exports)
-        & (m.exports <= m.bundles)
-        & (m.bundles <= m.headers)
-        & (m.headers <= m.entries)
-        & (m.entries <= m.imported)
-        & (m.imported <= size)
+    [
+        52, m.hashes, m.imports, m.exports, m.bundles, m.headers, m.entries, m.imported, size,
+    ]
+    .is_sorted()
 }

@@ -2,14 +2,17 @@
 ghost use Rattle.std.specs.Prelude.{◌≡◌, length};
 ghost use Rattle.base.specs.Reading.{run_block, walk};
 ghost use Rattle.base.specs.ReadingLaws.{out};
+ghost use Rattle.base.specs.Refusal.{numbered};
 ghost use Rattle.zen.specs.Zen.{content, header, package_block};
 ghost use Rattle.zen.specs.Answers.{answer, Order};
+ghost use Rattle.zen.specs.Lists.{names_in};
 
 use super::imports::check_imports;
-use super::lead::{Lead, read_lead};
-use super::summary::{Summary, Summed, in_order, read_summary};
+use super::lead::read_lead;
+use super::summary::{Summary, in_order, read_summary};
 use super::tables::{check_bulk, check_tables};
-use batch::names::{Checked, NameBatch, Names, read_batch};
+use base::refusal::Refusal;
+use batch::names::{Names, read_batch};
 
 // Where the parts of an accepted package are.
 #[derive(Clone, Copy)]
@@ -20,62 +23,60 @@ pub struct Layout {
     pub imported: Names,
 }
 
-#[derive(Clone, Copy)]
-pub enum Package {
-    Accepted(Layout),
-    Rejected(u8),
+// The lists of names of a package: its own, and the imported ones.
+#[derive(Clone, Copy, PartialEq, Eq)]
+pub enum NameList {
+    Own,
+    Imported,
+}
+
+impl Layout {
+    // Where a list of names is.
+    pub fn names_in(self, list: NameList) -> Names
+        ensures { result ≡ names_in self list }
+    {
+        match list {
+            NameList::Own => self.names,
+            NameList::Imported => self.imported,
+        }
+    }
 }
 
 // Behind the summary.
-fn check_content(s: &[u8], m: Summary) -> Package
-    requires { Order m (length s.now) }
-    ensures { result ≡ answer (out (walk (content (length s.now) m) s.now 52)) }
+fn check_content(s: &[u8], summary: Summary) -> Result<Layout, Refusal>
+    requires { Order summary (length s.now) }
+    ensures { numbered result ≡ answer (out (walk (content (length s.now) summary) s.now 52)) }
 {
-    match read_batch(s, 52) {
-        NameBatch::Refused(r) => Package::Rejected(r),
-        NameBatch::Found(n) => match check_bulk(s, n.end, m.hashes) {
-            Checked::Failed(r) => Package::Rejected(r),
-            Checked::Passed => match check_tables(s, m, n.count) {
-                Checked::Failed(r) => Package::Rejected(r),
-                Checked::Passed => match check_imports(s, m.imported, m.index, n.count) {
-                    NameBatch::Refused(r) => Package::Rejected(r),
-                    NameBatch::Found(i) => Package::Accepted(Layout {
-                        size: s.len(),
-                        summary: m,
-                        names: n,
-                        imported: i,
-                    }),
-                },
-            },
-        },
-    }
+    let names = read_batch(s, 52)?;
+    check_bulk(s, names.end, summary.hashes)?;
+    check_tables(s, summary, names.count)?;
+    let imported = check_imports(s, summary.imported, summary.index, names.count)?;
+    Ok(Layout {
+        size: s.len(),
+        summary,
+        names,
+        imported,
+    })
 }
 
-fn check_header(s: &[u8]) -> Package
-    ensures { result ≡ answer (out (walk (header (length s.now)) s.now 8)) }
+// Within the header size.
+fn check_header(s: &[u8]) -> Result<Layout, Refusal>
+    ensures { numbered result ≡ answer (out (walk (header (length s.now)) s.now 8)) }
 {
-    match read_summary(s) {
-        Summed::Missed(r) => Package::Rejected(r),
-        Summed::Told(m) => {
-            if in_order(m, s.len()) {
-                return check_content(s, m);
-            }
-            Package::Rejected(17)
-        }
+    let summary = read_summary(s)?;
+    if !in_order(summary, s.len()) {
+        return Err(Refusal::OffsetOrder);
     }
+    check_content(s, summary)
 }
 
 // The whole block.
-pub fn check_package(b: &[u8]) -> Package
-    ensures { result ≡ answer (run_block package_block b.now) }
+pub fn check_package(b: &[u8]) -> Result<Layout, Refusal>
+    ensures { numbered result ≡ answer (run_block package_block b.now) }
 {
-    match read_lead(b) {
-        Lead::Fault(r) => Package::Rejected(r),
-        Lead::Header(size) => {
-            if size < 8 {
-                return Package::Rejected(3);
-            }
-            check_header(&b[0..size])
-        }
+    let size = read_lead(b)?;
+    if size < 8 {
+        return Err(Refusal::Cut);
     }
+    check_header(&b[..size])
 }

@@ -1,4 +1,5 @@
 -- What the answer of `check_package` says of each exported function's answer. Assumes nothing.
+use Rattle.std.specs.Prelude.{Err, Ok}
 use mathlib.Core.Path.{◌≡◌, sym, ◌∙◌, ap}
 use mathlib.Core.List.{List, [], ◌∷◌}
 use Prim.Native.Nat.{ℕ, ◌≤◌, ◌<◌}
@@ -13,8 +14,6 @@ use Rattle.zen.proofs.PackageLaws.{rejected-read, accepted-read, name-count, imp
 use Rattle.zen.specs.Zen.{Read, no_export}
 use Rattle.zen.specs.declared.tables.Export.{Export}
 use Rattle.zen.specs.declared.zen.Layout.{Layout}
-use Rattle.zen.specs.declared.zen.Package.{Package}
-use Rattle.zen.specs.declared.zen.Package.TheVariants.{Accepted, Rejected}
 use Rattle.zenapi.specs.Answers.{package_in, none, refusal, counts, export_fields, export_answer, id_answer, ends, ends_answer}
 use Rattle.zenapi.proofs.Cells.{past, any_default, cell_at, cell-past}
 
@@ -26,10 +25,10 @@ ends_of : (b : List ℕ) (x : Out Read) (r : Read) → x ≡ gives r → ends_an
 unfolding ends_answer exports_of
 ends_of b x r y = rw y
 
-module _ (b : List ℕ) (p : Package) (e : p ≡ answer (package_in b)) where
-  module _ (q : ℕ) (d : p ≡ Rejected q) where
+module _ (b : List ℕ) where
+  module _ (q : ℕ) (d : answer (package_in b) ≡ Err q) where
     gone : package_in b ≡ refused q
-    gone = rejected-read b q (sym e ∙ d)
+    gone = rejected-read b q d
 
     pub told : q ≡ refusal (package_in b)
     unfolding refusal
@@ -55,10 +54,7 @@ module _ (b : List ℕ) (p : Package) (e : p ≡ answer (package_in b)) where
     unfolding ends_answer
     no_ends = rw gone
 
-  module _ (l : Layout) (d : p ≡ Accepted l) where
-    pub accepted : answer (package_in b) ≡ Accepted l
-    accepted = sym e ∙ d
-
+  module _ (l : Layout) (accepted : answer (package_in b) ≡ Ok l) where
     pub passed : 0 ≡ refusal (package_in b)
     unfolding refusal
     passed = let (r, y, z) = accepted-read b l accepted in rw y

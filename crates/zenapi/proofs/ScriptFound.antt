@@ -1,5 +1,6 @@
 -- What the answer of `check_script` says of each exported function's answer. Assumes nothing.
-use mathlib.Core.Path.{◌≡◌, sym, ◌∙◌}
+use Rattle.std.specs.Prelude.{Err, Ok}
+use mathlib.Core.Path.{◌≡◌}
 use mathlib.Core.List.{List, []}
 use Prim.Native.Nat.{ℕ, ◌≤◌, ◌<◌}
 use native.Mathlib.Omega.{arith}
@@ -9,15 +10,13 @@ use Rattle.scriptblock.proofs.ScriptAccepted.{accepted-objects, rejected-objects
 use Rattle.scriptblock.specs.ScriptAnswers.{script_answer, entries_of, no_entry}
 use Rattle.scriptblock.specs.declared.script.Entry.{Entry}
 use Rattle.scriptblock.specs.declared.script.Layout.{Layout}
-use Rattle.scriptblock.specs.declared.script.Script.{Script}
-use Rattle.scriptblock.specs.declared.script.Script.TheVariants.{Accepted, Rejected}
 use Rattle.zenapi.specs.Answers.{script_in, none, refusal, object_fields, object_answer}
 use Rattle.zenapi.proofs.Cells.{cell_at, cell-past}
 
-module _ (b : List ℕ) (p : Script) (e : p ≡ script_answer (script_in b)) where
-  module _ (q : ℕ) (d : p ≡ Rejected q) where
+module _ (b : List ℕ) where
+  module _ (q : ℕ) (d : script_answer (script_in b) ≡ Err q) where
     gone : script_in b ≡ refused q
-    gone = rejected-objects (script_in b) (sym e ∙ d)
+    gone = rejected-objects (script_in b) d
 
     pub told : q ≡ refusal (script_in b)
     unfolding refusal
@@ -27,10 +26,7 @@ module _ (b : List ℕ) (p : Script) (e : p ≡ script_answer (script_in b)) whe
     unfolding object_answer entries_of
     no_object_lem i k = rw gone (cell-past object_fields [] i k (omega arith))
 
-  module _ (l : Layout) (d : p ≡ Accepted l) where
-    pub accepted : script_answer (script_in b) ≡ Accepted l
-    accepted = sym e ∙ d
-
+  module _ (l : Layout) (accepted : script_answer (script_in b) ≡ Ok l) where
     pub passed : 0 ≡ refusal (script_in b)
     unfolding refusal
     passed = let (o, y, z) = accepted-objects (script_in b) accepted in rw y

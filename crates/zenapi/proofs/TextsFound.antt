@@ -1,5 +1,6 @@
 -- Texts that are looked for: where they stand, and whether they have room. Assumes nothing.
-use mathlib.Core.Path.{◌≡◌, refl, sym, ◌∙◌}
+use Rattle.std.specs.Prelude.{Err, Ok, Some, None}
+use mathlib.Core.Path.{◌≡◌, refl, ◌∙◌}
 use mathlib.Core.Bool.{true, false}
 use mathlib.Core.List.{List, [], ◌∷◌, append-nil}
 use Prim.Native.Nat.{ℕ, zero, suc, ◌≤◌, ◌<◌}
@@ -17,12 +18,8 @@ use Rattle.batch.specs.declared.places.Place.{Place}
 use Rattle.zen.specs.Answers.{answer, names_of, imported_of, numbers_of}
 use Rattle.zen.proofs.PackageLaws.{rejected-read, name-count, imported_count_lem, name-text, imported-text, imported-rendered}
 use Rattle.zen.specs.declared.zen.Layout.{Layout}
-use Rattle.zen.specs.declared.zen.Package.{Package}
-use Rattle.zen.specs.declared.zen.Package.TheVariants.{Accepted, Rejected}
 use Rattle.zenapi.specs.Answers.{package_in, none}
 use Rattle.zenapi.specs.Texts.{text_count, text_at, fits, text_answer, text_after, Found, Stands}
-use Rattle.zenapi.specs.declared.texts.Text.{Text}
-use Rattle.zenapi.specs.declared.texts.Text.TheVariants.{At, Missing}
 
 -- ---- where a text stands
 
@@ -36,35 +33,40 @@ own : {b : List ℕ} {p : Place} {t : List ℕ} → Holds b p t → Holds b p (b
 own d = rw d.text d
 
 module _ (b : List ℕ) (i : ℕ) where
-  pub no_text : (p : Package) (q which : ℕ) → p ≡ answer (package_in b) → p ≡ Rejected q → Stands b which i Missing
+  pub no_text : (q which : ℕ) → answer (package_in b) ≡ Err q → Stands b which i None
   unfolding Stands
-  no_text p q which e d = rw (rejected-read b q (sym e ∙ d), refused-count q which) (omega arith)
+  no_text q which d = rw (rejected-read b q d, refused-count q which) (omega arith)
 
-  pub no_kind : (which : ℕ) → 2 ≤ which → Stands b which i Missing
+  pub no_kind : (which : ℕ) → 2 ≤ which → Stands b which i None
   unfolding Stands text_count
   no_kind which h = rw (get_or-eq_default (length (names_of (package_in b)) ∷ length (imported_of (package_in b)) ∷ []) 0 h) (omega arith)
 
-  module _ (l : Layout) (a : answer (package_in b) ≡ Accepted l) where
-    pub no_base : l.names.count ≤ i → Stands b 0 i Missing
+  module _ (l : Layout) (a : answer (package_in b) ≡ Ok l) where
+    pub no_base : l.names.count ≤ i → Stands b 0 i None
     unfolding Stands text_count
     no_base h = rw (name-count b l a) h
 
-    pub no_imported : l.imported.count ≤ i → Stands b 1 i Missing
+    pub no_imported : l.imported.count ≤ i → Stands b 1 i None
     unfolding Stands text_count
     no_imported h = rw (imported_count_lem b l a) h
 
     module _ (y : Bytes b) (p : Place) where
-      pub base_there : i < l.names.count → p ≡ place_at (take l.size b) l.names i → Stands b 0 i (At p 0)
+      pub base_there : i < l.names.count → p ≡ place_at (take l.size b) l.names i → Stands b 0 i (Some (p, 0))
       unfolding Stands text_count text_at
       base_there h e =
           let d = name-text b l a y i p h e in
           record { here = rw (name-count b l a) h; base = own d; text = append-nil _ ∙ d.text }
 
       pub imported-there : (n : ℕ) → i < l.imported.count → p ≡ place_at (take l.size b) l.imported i → n ≡ get_or (numbers_of (package_in b)) i 0
-          → Stands b 1 i (At p n)
+          → Stands b 1 i (Some (p, n))
       unfolding Stands text_count text_at
       imported-there n h e q =
           record { here = rw (imported_count_lem b l a) h; base = own (imported-text b l a y i p h e); text = rw q (imported-rendered b l a y p i h e) }
+
+-- what is found
+pub there : {b : List ℕ} {which i : ℕ} {p : Place} {n : ℕ} → Stands b which i (Some (p, n)) → Found b which i p n
+unfolding Stands
+there s = s
 
 -- ---- whether it has room
 
@@ -73,14 +75,9 @@ module _ (old b : List ℕ) (which i : ℕ) where
   unfolding text_answer text_after
   unfit e = (rw e, rw e)
 
-  module _ (r : Text) (s : Stands b which i r) where
-    pub put-missing : r ≡ Missing → (none ≡ text_answer (length old) (package_in b) which i) × (old ≡ text_after old (package_in b) which i)
-    unfolding fits Stands
-    put-missing e = let h : text_count (package_in b) which ≤ i = rw e at s in unfit (rw (le-ltb i (text_count (package_in b) which) h))
-
-    pub there : {p : Place} {n : ℕ} → r ≡ At p n → Found b which i p n
-    unfolding Stands
-    there e = rw e at s
+  pub put-missing : Stands b which i None → (none ≡ text_answer (length old) (package_in b) which i) × (old ≡ text_after old (package_in b) which i)
+  unfolding fits Stands
+  put-missing s = unfit (rw (le-ltb i (text_count (package_in b) which) s))
 
   module _ {p : Place} {n : ℕ} (f : Found b which i p n) where
     pub put-short : length old < length (utf8 (rendered p.wide (part_at b p) n))

@@ -1,5 +1,5 @@
 -- What `zen_put_name` answers for any block, and what it looks for. Assumes nothing.
-use Rattle.std.specs.Prelude.{◌≡◌, Bool, cond, ◌&&◌, List, [], ◌∷◌, ℕ, ◌≤◌, ◌<◌, leb, ltb, length, get_or}
+use Rattle.std.specs.Prelude.{◌≡◌, Bool, cond, ◌&&◌, List, [], ◌∷◌, ℕ, ◌≤◌, ◌<◌, leb, ltb, length, get_or, Option, Some, None}
 use Rattle.text.specs.Name.{base, rendered}
 use Rattle.base.specs.Output.{over}
 use Rattle.base.specs.Reading.{Out}
@@ -10,8 +10,6 @@ use Rattle.batch.specs.declared.places.Place.{Place}
 use Rattle.zen.specs.Answers.{names_of, imported_of, imported_name_of}
 use Rattle.zen.specs.Zen.{Read}
 use Rattle.zenapi.specs.Answers.{package_in, none}
-use Rattle.zenapi.specs.declared.texts.Text.{Text}
-use Rattle.zenapi.specs.declared.texts.Text.TheVariants.{At, Missing}
 
 -- texts by `which`: 0 the bases of the names, 1 the imported names, rendered
 unfoldable pub text_count : Out Read → ℕ → ℕ
@@ -37,6 +35,6 @@ pub record Found (b : List ℕ) (which i : ℕ) (p : Place) (n : ℕ) : Type 0 w
   pub text : rendered p.wide (part_at b p) n ≡ text_at (package_in b) which i
 
 -- whether text i is there
-unfoldable pub Stands : List ℕ → ℕ → ℕ → Text → Type 0
-Stands b which i Missing = text_count (package_in b) which ≤ i
-Stands b which i (At p n) = Found b which i p n
+unfoldable pub Stands : List ℕ → ℕ → ℕ → Option (Place × ℕ) → Type 0
+Stands b which i None = text_count (package_in b) which ≤ i
+Stands b which i (Some t) = Found b which i t.0 t.1

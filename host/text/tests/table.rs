@@ -74,5 +74,5 @@ fn the_table_of_the_definition() {
 
 #[test]
 fn the_table_of_the_code() {
-    same("crates/lower/src/table.rt", "0x");
+    same("crates/lower/src/table.rt", "(0x");
 }

@@ -1,7 +1,7 @@
 -- `text_lower`: the rules where they answer, else the table. Assumes nothing.
-use native.Mathlib.Omega.{arith}
-use Rattle.rules.specs.QuickLaws.{quick-answer}
+use mathlib.Core.Path.{sym, ◌∙◌}
+use Rattle.rules.specs.QuickLaws.{quick-some}
 use Rattle.textapi.proofs.text_lower.Goals as goal
 
-pub returns-then-r-lt-ASK : goal.returns-then-r-lt-ASK
-returns-then-r-lt-ASK c = quick-answer _ c.lower_quick-r.ensures (omega arith)
+pub returns-in-Some : goal.returns-in-Some
+returns-in-Some c = quick-some _ (sym c.in-Some.is ∙ c.lower_quick.ensures)

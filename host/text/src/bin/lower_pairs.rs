@@ -8,24 +8,21 @@ use std::process::ExitCode;
 
 use corpus::name::pairs;
 
-/// How many pairs a line of a table has.
-const LINE: usize = 8;
-
-/// The lines of a table, each pair written so.
-fn table(pair: impl Fn(u32, u32) -> String) -> String {
+/// The lines of a table, each pair written so, and so many to a line.
+fn table(line: usize, pair: impl Fn(u32, u32) -> String) -> String {
     let all: Vec<String> = pairs().map(|(c, low)| pair(c.into(), low.into())).collect();
     let lines = all
-        .chunks(LINE)
+        .chunks(line)
         .map(|some| format!("    {}\n", some.join(" ")));
     lines.collect()
 }
 
 fn specs() -> String {
-    table(|c, low| format!("({c:#x}, {low:#x}) ∷"))
+    table(8, |c, low| format!("({c:#x}, {low:#x}) ∷"))
 }
 
 fn code() -> String {
-    table(|c, low| format!("{c:#x}, {low:#x},"))
+    table(1, |c, low| format!("({c:#x}, {low:#x}),"))
 }
 
 /// The version and every pair, to be read.

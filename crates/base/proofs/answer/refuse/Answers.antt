@@ -3,4 +3,4 @@ use Rattle.base.proofs.Joined.{or_refusal}
 use Rattle.base.proofs.answer.refuse.Goals as goal
 
 pub returns : goal.returns
-returns c = or_refusal c.args.question c.args.block c.ranges.question.fits c.ranges.block.fits
+returns c = rw (c.from.ensures, c.from-2.ensures) (or_refusal c.args.question c.args.block c.ranges.question.fits c.ranges.block.fits)

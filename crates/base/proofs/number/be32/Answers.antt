@@ -1,7 +1,8 @@
--- `number::be32` meets its contract: four bytes, written out. Assumes nothing.
-use mathlib.Core.Path.{sym, ◌∙◌}
-use Rattle.base.specs.NumberLaws.{be_at_4}
+-- `number::be32` meets its contract: what the machine reads is the number. Assumes nothing.
+use mathlib.Core.Path.{◌∙◌}
+use native.Mathlib.Nat.{add-zero}
+use Rattle.base.proofs.Machine.{be-sum}
 use Rattle.base.proofs.number.be32.Goals as goal
 
 pub returns : goal.returns
-returns c = c.join4.ensures ∙ sym (be_at_4 _ _ c.requires)
+returns c = c.from_be_bytes.ensures ∙ (rw add-zero at (be-sum 3 c.args.s.now c.args.at c.requires))

@@ -1,9 +1,8 @@
--- `number::le16` meets its contract: two bytes, written out. Assumes nothing.
-use native.Mathlib.Omega.{arith}
-use Rattle.base.specs.NumberLaws.{le_at_2}
+-- `number::le16` meets its contract: what the machine reads is the number. Assumes nothing.
+use mathlib.Core.Path.{◌∙◌}
+use native.Mathlib.Nat.{add-zero}
+use Rattle.base.proofs.Machine.{le-sum}
 use Rattle.base.proofs.number.le16.Goals as goal
 
 pub returns : goal.returns
-returns c =
-    let a = c.args in
-    rw (le_at_2 a.s.now a.at (omega arith)) (omega arith)
+returns c = c.from_le_bytes.ensures ∙ (rw add-zero at (le-sum 1 c.args.s.now c.args.at c.requires))

@@ -1,7 +1,8 @@
--- `number::le32` meets its contract: four bytes, written out. Assumes nothing.
-use mathlib.Core.Path.{sym, ◌∙◌}
-use Rattle.base.specs.NumberLaws.{le_at_4}
+-- `number::le32` meets its contract: what the machine reads is the number. Assumes nothing.
+use mathlib.Core.Path.{◌∙◌}
+use native.Mathlib.Nat.{add-zero}
+use Rattle.base.proofs.Machine.{le-sum}
 use Rattle.base.proofs.number.le32.Goals as goal
 
 pub returns : goal.returns
-returns c = c.join4.ensures ∙ sym (le_at_4 _ _ c.requires)
+returns c = c.from_le_bytes.ensures ∙ (rw add-zero at (le-sum 3 c.args.s.now c.args.at c.requires))

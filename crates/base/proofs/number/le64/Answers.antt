@@ -1,9 +1,8 @@
--- `number::le64` meets its contract: four bytes and then four. Assumes nothing.
-use native.Mathlib.Omega.{arith}
-use Rattle.base.specs.NumberLaws.{le_at-add}
+-- `number::le64` meets its contract: what the machine reads is the number. Assumes nothing.
+use mathlib.Core.Path.{◌∙◌}
+use native.Mathlib.Nat.{add-zero}
+use Rattle.base.proofs.Machine.{le-sum}
 use Rattle.base.proofs.number.le64.Goals as goal
 
 pub returns : goal.returns
-returns c =
-    let a = c.args in
-    rw (le_at-add 4 4 a.s.now a.at (omega arith)) (omega arith)
+returns c = c.from_le_bytes.ensures ∙ (rw add-zero at (le-sum 7 c.args.s.now c.args.at c.requires))

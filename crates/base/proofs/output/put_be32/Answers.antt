@@ -1,15 +1,11 @@
--- `output::put_be32` meets its contract: four stores at fixed places. Assumes nothing.
-use native.Mathlib.Omega.{arith}
-use lib.ListN.{length-set}
-use Rattle.base.specs.OutputLaws.{wrote_stores}
-use Rattle.base.specs.NumberLaws.{length-be_bytes, be_bytes_4}
+-- `output::put_be32` meets its contract: the bytes that the machine makes are those of the number. Assumes nothing.
+use mathlib.Core.Path.{◌∙◌}
+use Rattle.base.proofs.Machine.{high-first}
+use Rattle.base.specs.NumberLaws.{length-be_bytes}
+use Rattle.base.specs.OutputLaws.{wrote_front_copy}
 use Rattle.base.proofs.output.put_be32.Goals as goal
 
-pub bounds-out-1 : goal.bounds-out-1
-bounds-out-1 c = simp length-set (omega arith)
-
-pub bounds-out-2 : goal.bounds-out-2
-bounds-out-2 c = simp length-set (omega arith)
-
 pub returns : goal.returns
-returns c = wrote_stores (be_bytes_4 c.args.n) (rw (length-be_bytes 4 c.args.n) c.requires)
+returns c =
+    let n = c.args.n in
+    wrote_front_copy _ _ _ 4 (c.copy_from_slice.ensures.after ∙ (c.to_be_bytes.ensures ∙ high-first 4 n)) (length-be_bytes 4 n) c.requires

@@ -1,15 +1,11 @@
--- `output::put_be64` meets its contract: the four high bytes and then the four low ones. Assumes nothing.
-use mathlib.Core.Path.{sym, ◌∙◌}
-use native.Mathlib.Omega.{arith}
-use Rattle.base.specs.OutputLaws.{wrote-room, wrote-rest, wrote_as}
-use Rattle.base.specs.NumberLaws.{length-be_bytes, be_bytes-parts}
+-- `output::put_be64` meets its contract: the bytes that the machine makes are those of the number. Assumes nothing.
+use mathlib.Core.Path.{◌∙◌}
+use Rattle.base.proofs.Machine.{high-first}
+use Rattle.base.specs.NumberLaws.{length-be_bytes}
+use Rattle.base.specs.OutputLaws.{wrote_front_copy}
 use Rattle.base.proofs.output.put_be64.Goals as goal
-
-pub put_be32-requires : goal.put_be32-requires
-put_be32-requires c =
-    let w = c.put_be32-at.ensures in
-    wrote-room w 4 (omega (arith, w.size ∙ length-be_bytes 4 _))
 
 pub returns : goal.returns
 returns c =
-    wrote_as (wrote-rest c.put_be32-at.ensures c.put_be32.ensures) (sym (be_bytes-parts 4 4 c.args.n))
+    let n = c.args.n in
+    wrote_front_copy _ _ _ 8 (c.copy_from_slice.ensures.after ∙ (c.to_be_bytes.ensures ∙ high-first 8 n)) (length-be_bytes 8 n) c.requires

@@ -1,9 +1,14 @@
--- `signed::le_i32` meets its contract, by those of `le32` and `signed32`. Assumes nothing.
-use mathlib.Core.Path.{ap, ◌∙◌}
+-- `signed::le_i32` meets its contract: the machine reads the bits as the definition does. Assumes nothing.
+use mathlib.Core.Path.{refl, ap, ◌∙◌}
 use mir.Syntax.{w32}
 use mir.Facts.{to_z-of_z}
 use Rattle.base.specs.Signed.{twos}
+use Rattle.base.proofs.Signs.{to_z-twos}
 use Rattle.base.proofs.signed.le_i32.Goals as goal
 
 pub returns : goal.returns
-returns c = to_z-of_z {w = w32} {z = c.signed32.result} (record { sfits = c.signed32.type_inv }) ∙ c.signed32.ensures ∙ ap (twos 32) c.le32.ensures
+returns c =
+    to_z-of_z {w = w32} {z = c.cast_signed.result} (record { sfits = c.cast_signed.type_inv })
+    ∙ c.cast_signed.ensures
+    ∙ to_z-twos w32 refl c.le32.result (record { fits = c.le32.type_inv })
+    ∙ ap (twos 32) c.le32.ensures

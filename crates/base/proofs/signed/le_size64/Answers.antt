@@ -1,17 +1,20 @@
--- `signed::le_size64` meets its contract, by those of `le_i64` and `size64`. Assumes nothing.
-use mathlib.Core.Path.{ap, ◌∙◌}
+-- `signed::le_size64` meets its contract: what `try_from` answers is the size, or that there is none. Assumes nothing.
+use mathlib.Core.Path.{◌∙◌}
 use mir.Syntax.{w64}
 use mir.Facts.{to_z-of_z}
-use Rattle.base.specs.SignedLaws.{size-twos}
-use Rattle.base.specs.SignedSize.{size_of}
-use Rattle.base.specs.NumberLaws.{le_at-lt}
+use native.Mathlib.Omega.{arith}
 use Rattle.base.specs.Number.{le_at}
+use Rattle.base.specs.NumberLaws.{le_at-lt}
+use Rattle.base.specs.SignedLaws.{size-twos}
+use Rattle.base.proofs.Signs.{tried-size, twos-small}
 use Rattle.base.proofs.signed.le_size64.Goals as goal
 
 pub returns : goal.returns
 returns c =
-    let a = c.args in
     let z = c.le_i64 in
-    c.size64.ensures
-    ∙ ap size_of (to_z-of_z {w = w64} {z = z.result} (record { sfits = z.type_inv }) ∙ z.ensures)
-    ∙ size-twos 63 (le_at 8 a.s.now a.at) (le_at-lt 8 a.s.now a.at (λ i. (c.shared_slice_known-1.given i).fits))
+    let n = le_at 8 c.args.s.now c.args.at in
+    let fits = le_at-lt 8 c.args.s.now c.args.at (λ i. (c.type_inv.s i).fits) in
+    let is = to_z-of_z {w = w64} {z = z.result} (record { sfits = z.type_inv }) ∙ z.ensures in
+    c.ok.ensures.value
+    ∙ tried-size c.try_from.result _ (λ m e. twos-small 63 n fits (omega arith) m (rw is at e)) c.try_from.ensures
+    ∙ rw is (size-twos 63 n fits)

@@ -1,8 +1,8 @@
 -- `check_names` meets its contract: what is still to be read from here decides as the whole reading does.
-use mathlib.Core.Path.{◌≡◌, refl, sym, ◌∙◌}
+use mathlib.Core.Path.{◌≡◌, sym, ◌∙◌}
 use mathlib.Core.Bool.{Bool}
 use mathlib.Core.List.{List}
-use Prim.Native.Nat.{ℕ, ◌+◌, ◌-◌}
+use Prim.Native.Nat.{ℕ, ◌+◌, ◌*◌, ◌-◌}
 use native.Mathlib.Omega.{arith}
 use lib.ListN.{take, drop}
 use Rattle.text.specs.Utf16.{is_well}
@@ -19,50 +19,43 @@ name-is s h p d e q =
     let z : p + (head_at s h).size - p ≡ (head_at s h).size = omega arith in
     rw (e, z) at q
 
-pub loop-left-init : goal.loop-left-init
-loop-left-init c = (c.requires.0, c.requires.1, refl)
-
 pub returns-then-end-p : goal.returns-then-end-p
 returns-then-end-p c =
-    let l = c.loop-left in
+    let l = c.loop-i in
     let a = c.args in
-    sym (l.invariant.2 ∙ names-out a.s.now a.end l.left l.h l.p (omega arith) (rw c.read_head-d.ensures.0 at c.if-end-p.true))
-
-pub is_text-requires : goal.is_text-requires
-is_text-requires c = tt
+    sym (l.invariant.same ∙ names-out a.s.now a.end (a.count - l.i) (a.headers + 2 * l.i) l.p (omega arith) (rw c.read_head-d.ensures.0 at c.if-end-p.true))
 
 pub returns-then-not-is_text : goal.returns-then-not-is_text
 returns-then-not-is_text c =
-    let l = c.loop-left in
+    let l = c.loop-i in
     let a = c.args in
     let e = c.read_head-d.ensures.0 in
-    let w = name-is a.s.now l.h l.p c.read_head-d.result e
-    (sym c.is_text.ensures ∙ c.if-not-is_text.true) in
-    sym (l.invariant.2 ∙ names-ill a.s.now a.end l.left l.h l.p (omega arith) (omega arith) (omega arith)
+    let w = name-is a.s.now (a.headers + 2 * l.i) l.p c.read_head-d.result e (sym c.is_text.ensures ∙ c.if-not-is_text.true) in
+    sym (l.invariant.same ∙ names-ill a.s.now a.end (a.count - l.i) (a.headers + 2 * l.i) l.p (omega arith) (omega arith) (omega arith)
     (rw e at c.if-end-p.false) w)
 
-pub loop-left-preserved : goal.loop-left-preserved
-loop-left-preserved c =
-    let l = c.loop-left in
+pub loop-i-preserved : goal.loop-i-preserved
+loop-i-preserved c =
+    let l = c.loop-i in
     let a = c.args in
     let e = c.read_head-d.ensures.0 in
-    let w = name-is a.s.now l.h l.p c.read_head-d.result e
-    (sym c.is_text.ensures ∙ c.if-not-is_text.false) in (
-      omega arith,
-      omega arith,
-      l.invariant.2
-          ∙ rw e (names-pass a.s.now a.end l.left l.h l.p (omega arith) (omega arith) (omega arith)
-          (rw e at c.if-end-p.false) w),
-    )
+    let w = name-is a.s.now (a.headers + 2 * l.i) l.p c.read_head-d.result e (sym c.is_text.ensures ∙ c.if-not-is_text.false) in
+    let f : a.headers + 2 * (l.i + 1) ≡ a.headers + 2 * l.i + 2 = omega arith in
+    let g : a.count - (l.i + 1) ≡ a.count - l.i - 1 = omega arith in
+    record {
+      within = omega arith;
+      same = rw (f, g) (l.invariant.same
+          ∙ rw e (names-pass a.s.now a.end (a.count - l.i) (a.headers + 2 * l.i) l.p (omega arith) (omega arith) (omega arith) (rw e at c.if-end-p.false) w));
+    }
 
 pub returns-then-p-end : goal.returns-then-p-end
 returns-then-p-end c =
-    let l = c.loop-left in
+    let l = c.loop-i in
     let a = c.args in
-    sym (l.invariant.2 ∙ names-none a.s.now a.end l.left l.h l.p (omega arith) c.if-p-end.true)
+    sym (l.invariant.same ∙ names-left a.s.now a.end (a.count - l.i) (a.headers + 2 * l.i) l.p (omega arith) (omega arith) c.if-p-end.true)
 
 pub returns : goal.returns
 returns c =
-    let l = c.loop-left in
+    let l = c.loop-i in
     let a = c.args in
-    sym (l.invariant.2 ∙ names-left a.s.now a.end l.left l.h l.p (omega arith) (omega arith) c.if-p-end.false)
+    sym (l.invariant.same ∙ names-none a.s.now a.end (a.count - l.i) (a.headers + 2 * l.i) l.p (omega arith) c.if-p-end.false)

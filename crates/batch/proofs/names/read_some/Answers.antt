@@ -1,4 +1,6 @@
 -- The length of the strings, the version, then what the body says.
+use Rattle.std.specs.Prelude.{Err, Result}
+use Rattle.batch.specs.declared.names.Names.{Names}
 use mathlib.Core.Path.{◌≡◌, ◌∙◌}
 use mathlib.Core.List.{List}
 use Prim.Native.Nat.{ℕ, ◌+◌, ◌≤◌, ◌<◌}
@@ -12,24 +14,22 @@ use Rattle.base.specs.ReadingLaws.{pick-short}
 use Rattle.batch.specs.Batch.{some_names, body}
 use Rattle.batch.specs.BatchAnswers.{batched}
 use Rattle.batch.specs.BatchLaws.{some_is}
-use Rattle.batch.specs.declared.names.NameBatch.{NameBatch}
-use Rattle.batch.specs.declared.names.NameBatch.TheVariants.{Refused}
 use Rattle.batch.proofs.names.read_some.Goals as goal
 
 module _ (s : List ℕ) (at n : ℕ) where
   few : length s < at + 4 + 8 → walk (some_names n) s at ≡ bad 3
   few h = some_is s at n ∙ pick-short (leb (at + 4) (length s)) _ 3 λ a. rw (lt-leb (at + 4 + 8) (length s) h)
 
-  short : length s < at + 4 + 8 → Refused 3 ≡ batched (walk (some_names n) s at)
+  short : length s < at + 4 + 8 → Err 3 ≡ batched (walk (some_names n) s at)
   unfolding batched
   short h = rw (few h)
 
   module _ (h : at + 4 + 8 ≤ length s) (v : ℕ) (e : v ≡ le_at 8 s (at + 4)) where
-    version : (v ≡ 0xC1640000 → ⊥) → Refused 4 ≡ batched (walk (some_names n) s at)
+    version : (v ≡ 0xC1640000 → ⊥) → Err 4 ≡ batched (walk (some_names n) s at)
     unfolding batched
     version w = rw (some_is s at n, le-leb (at + 4) (length s) (omega arith), le-leb (at + 4 + 8) (length s) h, ← e, ne_eqb v 0xC1640000 w)
 
-    whole : v ≡ 0xC1640000 → (room : ℕ) → room ≡ le_at 4 s at → (x : NameBatch) → x ≡ batched (walk (body n room) s (at + 4 + 8))
+    whole : v ≡ 0xC1640000 → (room : ℕ) → room ≡ le_at 4 s at → (x : (Result Names ℕ)) → x ≡ batched (walk (body n room) s (at + 4 + 8))
         → x ≡ batched (walk (some_names n) s at)
     whole w room r x q = rw (some_is s at n, le-leb (at + 4) (length s) (omega arith), le-leb (at + 4 + 8) (length s) h, ← e, eq-eqb v 0xC1640000 w, ← r) q
 

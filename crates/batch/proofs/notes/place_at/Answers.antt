@@ -4,4 +4,4 @@ use Rattle.batch.proofs.notes.place_at.Goals as goal
 
 pub returns : goal.returns
 unfolding place_at
-returns c = rw (c.start_of-start.ensures, c.read_head-d.ensures.0)
+returns c = rw (c.at.ensures, c.start_of-start.ensures, c.read_head.ensures.0)

@@ -1,30 +1,30 @@
 -- `name_start` meets its contract: each turn goes one name on.
-use Prim.Native.Nat.{◌+◌, ◌-◌}
-use mathlib.Core.Path.{refl, sym, ◌∙◌}
+use mathlib.Core.Path.{◌≡◌, sym, ◌∙◌}
+use Prim.Native.Nat.{◌+◌, ◌*◌, ◌-◌}
 use native.Mathlib.Omega.{arith}
 use Rattle.batch.specs.Batch.{head_at}
 use Rattle.batch.specs.PlacesLaws.{start_none, start-step, start_mono}
 use Rattle.batch.proofs.places.name_start.Goals as goal
 
-pub loop-left-init : goal.loop-left-init
-loop-left-init c = (c.requires.0, c.requires.1, refl)
-
 pub overflow_add-p : goal.overflow_add-p
 overflow_add-p c =
-    let l = c.loop-left in
+    let l = c.loop-k in
     let a = c.args in
-    let z = start_mono a.s.now (l.h + 2) (l.p + (head_at a.s.now l.h).size) (l.left - 1) in
-    let y = start-step a.s.now l.h l.p l.left (omega arith) in
-    rw c.read_head-d.ensures.0 (omega (arith, l.invariant.1, l.invariant.2))
+    let h = a.from + 2 * l.k in
+    let z = start_mono a.s.now (h + 2) (l.p + (head_at a.s.now h).size) (a.i - l.k - 1) in
+    let y = start-step a.s.now h l.p (a.i - l.k) (omega arith) in
+    rw c.read_head-p.ensures.0 (omega (arith, c.requires.1, l.invariant))
 
-pub loop-left-preserved : goal.loop-left-preserved
-loop-left-preserved c =
-    let l = c.loop-left in
+pub loop-k-preserved : goal.loop-k-preserved
+loop-k-preserved c =
+    let l = c.loop-k in
     let a = c.args in
-    rw c.read_head-d.ensures.0 (omega arith, l.invariant.1, l.invariant.2 ∙ start-step a.s.now l.h l.p l.left (omega arith))
+    let e : a.from + 2 * (l.k + 1) ≡ a.from + 2 * l.k + 2 = omega arith in
+    let f : a.i - (l.k + 1) ≡ a.i - l.k - 1 = omega arith in
+    rw (c.read_head-p.ensures.0, e, f) (l.invariant ∙ start-step a.s.now (a.from + 2 * l.k) l.p (a.i - l.k) (omega arith))
 
 pub returns : goal.returns
 returns c =
-    let l = c.loop-left in
+    let l = c.loop-k in
     let a = c.args in
-    sym (l.invariant.2 ∙ start_none a.s.now l.h l.p l.left (omega arith))
+    sym (l.invariant ∙ start_none a.s.now (a.from + 2 * l.k) l.p (a.i - l.k) (omega arith))

@@ -9,6 +9,6 @@ pub returns : goal.returns
 returns c =
     let a = c.args in (
       c.name_index.ensures ∙ ap name_index c.le32.ensures
-          ∙ sym (low30-is a.s.now a.at (λ i. (c.shared_slice_known-1.given i).fits) c.requires),
+          ∙ sym (low30-is a.s.now a.at (λ i. (c.type_inv.s i).fits) c.requires),
       omega arith,
     )

@@ -1,32 +1,28 @@
--- `city::hash_longer` computes `longer`. The loop's invariant: the turns left, over the rest, give what all turns give. Assumes nothing.
-use Rattle.std.proofs.Common.{◌≡◌, ℕ, ◌-◌, List, length, take, drop, refl, arith, length-drop, length-take}
+-- `city::hash_longer` computes `longer`. The loop's invariant: the turns over the chunks left give what all turns give. Assumes nothing.
 use lib.Seq.{take-length}
-use Rattle.city.specs.City.{longer}
-use Rattle.city.specs.CityLaws.{turn-front, turns_at, turns_end}
+use Rattle.std.proofs.Common.{ℕ, List, drop, length-drop, ◌≡◌, ◌<◌, ◌-◌, ◌/◌, length, take, ap, ◌∙◌, arith}
+use Rattle.city.specs.City.{turns, finish, longer}
+use Rattle.city.specs.CityLaws.{turns_chunk, turns_done}
 use Rattle.city.proofs.city.hash_longer.Goals as goal
 
 -- `&s[at..]`
 rest : (s : List ℕ) (at : ℕ) → take (length s - at) (drop at s) ≡ drop at s
 rest s at = rw (← length-drop at s) (take-length (drop at s))
 
-pub first_state-t-requires : goal.first_state-t-requires
-first_state-t-requires c = simp (length-take, length-drop) (omega arith)
-
-pub loop-left-init : goal.loop-left-init
-loop-left-init c = (omega arith, refl)
-
-pub one_turn-t-requires : goal.one_turn-t-requires
-one_turn-t-requires c = simp (length-take, length-drop) (omega arith)
-
-pub loop-left-preserved : goal.loop-left-preserved
-loop-left-preserved c =
-    let l = c.loop-left in
-    let s = c.args.s.now in
-    (omega arith, cc (turns_at l.left s l.at l.t c.loop-left-test.true, turn-front (drop l.at s) l.t, rest s l.at))
+pub loop-chunk-preserved : goal.loop-chunk-preserved
+loop-chunk-preserved c =
+    let l = c.loop-chunk in
+    let step = c.in-Some.ensures.steps in
+    let whole : length c.in-Some.chunk.now ≡ 64 = omega arith in
+    (omega arith, cc (turns_chunk c.in-Some.chunk.now c.next.new.self.rest.now l.t whole))
 
 pub returns : goal.returns
 unfolding longer
 returns c =
-    let l = c.loop-left in
+    let l = c.loop-chunk in
     let s = c.args.s.now in
-    cc (turns_end l.left (drop l.at s) l.t c.loop-left-test.false, rest s (length s - 64))
+    let left = l.chunk-iterator.rest.now in
+    let less : length left < 64 = omega (arith, c.in-None.ensures.steps.1.0) in
+    let all : c.into_iter-chunk-iterator.result.rest.now ≡ take (length s - 1) s = cc in
+    let done = turns_done s c.into_iter-chunk-iterator.result.rest.now left l.t c.first_state-t.result all less l.invariant.1 in
+    c.last_mix.ensures ∙ ap finish (done ∙ ap (turns ((length s - 1) / 64) s) (c.first_state-t.ensures ∙ rw (rest s (length s - 64), c.le64.ensures)))

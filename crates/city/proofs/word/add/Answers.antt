@@ -1,7 +1,8 @@
 -- `word::add` computes `addw`. Assumes nothing.
+use Rattle.std.proofs.Common.{refl}
 use Rattle.city.specs.Word.{addw}
 use Rattle.city.proofs.word.add.Goals as goal
 
 pub returns : goal.returns
 unfolding addw
-returns c = c.wrapping_add_u64.ensures.value
+returns c = refl

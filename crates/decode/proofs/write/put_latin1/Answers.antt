@@ -6,8 +6,8 @@ use borrow.Author.Tests.{ltb-false}
 use mir.Val.{bool_byte}
 use lib.Dec.{ltb}
 use lib.ListN.{length, set, take, get_or}
-use lib.Seq.{length-take-le, get_or-take}
-use Rattle.base.specs.OutputLaws.{wrote_as, wrote-length}
+use lib.Seq.{length-take-le}
+use Rattle.base.specs.OutputLaws.{wrote_as}
 use Rattle.decode.proofs.NarrowLaws.{neither}
 use Rattle.decode.specs.Tails.{Filling}
 use Rattle.decode.proofs.TailsLaws.{filling_none, filling_room, filling_here, filling_then, filling_wrote}
@@ -28,17 +28,11 @@ begun : (c : Else-to-s) → let a = c.args in
 begun c =
     part-first c.args.s.now c.args.to (omega (arith, (far c).0)) c.requires.0 c.requires.1 c.requires.2 c.args.out.now c.requires.3
 
-pub slice_bounds-text-end : goal.slice_bounds-text-end
-slice_bounds-text-end c = omega (arith, length-take-le c.args.to c.args.s.now c.requires.0)
-
 pub put_each-requires : goal.put_each-requires
 put_each-requires c = let p = c.requires in (bytes_tailed _ p.1, kept-room _ p.1 p.2 _ p.3)
 
 pub returns-then-to-s : goal.returns-then-to-s
 returns-then-to-s c = let p = c.requires in wrote_as c.put_each.ensures (bytes-kept _ p.1 p.2)
-
-pub bounds-s-0 : goal.bounds-s-0
-bounds-s-0 c = omega (arith, (far (goal.at.bounds-s-0 c).Else-to-s).0)
 
 pub bounds-out-0 : goal.bounds-out-0
 bounds-out-0 c =
@@ -47,28 +41,7 @@ bounds-out-0 c =
     omega (arith, filling_room k (omega (arith, (far (goal.at.bounds-out-0 c).Else-to-s).0, length-take-le c.args.to c.args.s.now c.requires.0)), k.room)
 
 pub loop-i-init : goal.loop-i-init
-loop-i-init c = (omega arith, omega (arith, (far (goal.at.loop-i-init c).Else-to-s).0), filling_here (begun (goal.at.loop-i-init c).Else-to-s))
-
-pub put_pairs-n-requires : goal.put_pairs-n-requires
-put_pairs-n-requires c =
-    (omega arith, omega arith, omega arith, omega (arith, (far (goal.at.put_pairs-n-requires c).Else-to-s).1), filling_here c.loop-i.invariant.2)
-
-pub loop-i-preserved : goal.loop-i-preserved
-loop-i-preserved c = (omega arith, omega arith, filling_then c.loop-i.invariant.2 c.put_pairs-n.ensures)
-
-pub put_last-requires : goal.put_last-requires
-put_last-requires c =
-    let l = c.loop-i in
-    let e = length-take-le c.args.to c.args.s.now c.requires.0 in (
-      omega arith,
-      omega (arith, e),
-      omega (arith, e),
-      rw (get_or-take c.args.to c.args.s.now (l.i - 1) 0 (omega arith)) (filling_here l.invariant.2),
-    )
-
-pub shape_of-out : goal.shape_of-out
-shape_of-out c =
-    wrote-length (filling_wrote (filling_then (begun (goal.at.shape_of-out c).Else-to-s) c.loop-i.invariant.2) c.put_last.ensures)
+loop-i-init c = (omega arith, omega (arith, (far (goal.at.loop-i-init c).Else-to-s).0), rw c.from-n.ensures (filling_here (begun (goal.at.loop-i-init c).Else-to-s)))
 
 pub returns : goal.returns
 returns c =

@@ -1,7 +1,8 @@
--- `chain::chain_in`: the objects so far are in the chain, and the path is theirs behind that of the object at hand. Assumes nothing.
+-- `chain::chain_in` meets its contract. The loop's invariant: the objects so far are in the chain, and the path is theirs behind that of the object
+-- at hand. Assumes nothing.
 use mathlib.Core.Path.{◌≡◌}
 use mathlib.Core.List.{List}
-use Prim.Native.Nat.{ℕ, ◌-◌, ◌*◌, ◌≤◌, ◌<◌}
+use Prim.Native.Nat.{ℕ, ◌*◌, ◌≤◌, ◌<◌}
 use lib.ListN.{length}
 use Rattle.base.specs.NumberLaws.{Bytes}
 use Rattle.scriptblock.specs.Script.{Objects}
@@ -11,8 +12,5 @@ use Rattle.hashes.proofs.chain.chain_in.Given as goal
 
 abbrev pub invariant-loop-depth : goal.invariant-loop-depth
 invariant-loop-depth l =
-    (48 * l.at < length l.w) × (l.depth ≤ l.limit) × (length l.chain ≡ 195)
+    (48 * l.at < length l.w) × (l.depth ≤ l.limit) × (length l.chain ≡ 65)
     × ((b : List ℕ) (o : Objects) → ObjectsIn b o l.w → Bytes b → Reached b o l.limit l.i l.chain l.depth l.at)
-
-abbrev pub decreases-loop-depth : goal.decreases-loop-depth
-decreases-loop-depth l = l.limit - l.depth

@@ -1,12 +1,12 @@
--- `hash::turns_over`: the turns left, over the rest, give what all turns give. Assumes nothing.
+-- `hash::turns_over` meets its contract. The loop's invariant: the turns over the chunks left give what all turns give. Assumes nothing.
 use mathlib.Core.Path.{◌≡◌}
-use Prim.Native.Nat.{◌+◌, ◌*◌, ◌≤◌}
-use lib.ListN.{length, drop}
+use Prim.Native.Nat.{◌/◌}
+use lib.ListN.{length}
 use Rattle.city.specs.City.{turns}
 use Rattle.hashes.proofs.hash.turns_over.Given as goal
 
-abbrev pub invariant-loop-left : goal.invariant-loop-left
-invariant-loop-left l = (l.at + 64 * l.left ≤ length l.window) × (turns l.left (drop l.at l.window) l.u ≡ turns l.count l.window l.initial.u)
-
-abbrev pub decreases-loop-left : goal.decreases-loop-left
-decreases-loop-left l = l.left
+abbrev pub invariant-loop-chunk : goal.invariant-loop-chunk
+invariant-loop-chunk l =
+    let rest = l.chunk-iterator.rest.now in
+    let all = l.initial.chunk-iterator.rest.now in
+    (l.chunk-iterator.size ≡ 64) × (turns (length rest / 64) rest l.u ≡ turns (length all / 64) all l.initial.u)

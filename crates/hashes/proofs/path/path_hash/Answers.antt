@@ -1,31 +1,39 @@
--- `path::path_hash`: the chain tells the path, and its hash is the path's. Assumes nothing.
+-- `path::path_hash` meets its contract: the chain tells the path, and its hash is the path's. Assumes nothing.
 use native.Mathlib.Omega.{arith}
+use mathlib.Core.Path.{◌∙◌}
 use Rattle.scriptblock.specs.Script.{Objects}
 use Rattle.objects.specs.Numbers.{path_no}
 use Rattle.objects.specs.Work.{ObjectsIn}
 use Rattle.hashes.specs.Chain.{Tells}
-use Rattle.hashes.specs.ChainLaws.{tells-unknown, tells-known}
-use Rattle.hashes.proofs.path.path_hash.Goals.{After-chain_in-depth}
+use Rattle.hashes.specs.ChainLaws.{tells-unknown, tells-known, tells-some}
+use Rattle.hashes.proofs.path.path_hash.Goals.{After-chain_in, In_ok-depth}
 use Rattle.hashes.proofs.path.path_hash.Goals as goal
 
-tells : (c : After-chain_in-depth) (o : Objects)
-    → let a = c.args in
-    ObjectsIn a.s.now o a.w.now → Tells a.s.now c.chain_in-depth.new.chain c.chain_in-depth.result (path_no a.limit o a.i)
-tells c o t =
-    let a = c.args in
-    c.chain_in-depth.ensures.0 a.s.now o t (λ j. (c.shared_slice_known-1.given j).fits)
+tells : (c : After-chain_in) (o : Objects) → ObjectsIn c.args.s.now o c.args.w.now
+    → Tells c.args.s.now c.chain_in.new.chain c.chain_in.result (path_no c.args.limit o c.args.i)
+tells c o t = c.chain_in.ensures c.args.s.now o t (λ j. (c.type_inv.s j).fits)
 
-pub chain_in-depth-requires : goal.chain_in-depth-requires
-chain_in-depth-requires c = let p = c.requires in
-    (record { block = c.args.s.now; objects = p.0.objects; holds = p.0.holds }, p.1, p.2, p.3)
+pub chain_in-requires : goal.chain_in-requires
+chain_in-requires c = let p = c.requires in (record { block = c.args.s.now; objects = p.0.objects; holds = p.0.holds }, p.1, p.2)
 
-pub returns-then-depth-eq0 : goal.returns-then-depth-eq0
-returns-then-depth-eq0 c = (λ o t. tells-unknown _ (tells (goal.at.returns-then-depth-eq0 c).After-chain_in-depth o t) c.if-depth-eq0.true, c.chain_in-depth.ensures.1)
+pub returns-in_err-depth : goal.returns-in_err-depth
+returns-in_err-depth c =
+    let d = (goal.at.returns-in_err-depth c).After-chain_in in
+    λ o t. c.from_residual.ensures ∙ tells-unknown _ (rw c.in_err-depth.was at (tells d o t))
 
-pub chain_hash-requires : goal.chain_hash-requires
-chain_hash-requires c =
-    let p = c.requires.0 in ((tells (goal.at.chain_hash-requires c).After-chain_in-depth p.objects p.holds).named, omega arith)
+pub shared_ref_as_front-of : goal.shared_ref_as_front-of
+shared_ref_as_front-of c =
+    let p = c.requires.0 in
+    let d = (goal.at.shared_ref_as_front-of c).After-chain_in in
+    (rw c.in_ok-depth.was at (tells d p.objects p.holds)).named.0
+
+pub of-requires : goal.of-requires
+of-requires c =
+    let p = c.requires.0 in
+    let d = (goal.at.of-requires c).After-chain_in in
+    tells-some _ (rw c.in_ok-depth.was at (tells d p.objects p.holds)) (omega arith)
 
 pub returns : goal.returns
 returns c =
-    (λ o t. tells-known _ (tells (goal.at.returns c).After-chain_in-depth o t) (omega arith) c.chain_hash.ensures, c.chain_in-depth.ensures.1)
+    let d = (goal.at.returns c).After-chain_in in
+    λ o t. tells-known _ (rw c.in_ok-depth.was at (tells d o t)) (c.hash.ensures ∙ rw (c.of.ensures.names, c.of.ensures.chain))

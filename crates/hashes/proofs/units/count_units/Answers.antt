@@ -1,27 +1,20 @@
--- `units::count_units`: the names of the first k objects are counted. Assumes nothing.
-use mathlib.Core.Path.{◌≡◌, sym, ◌∙◌, ap}
-use Prim.Native.Nat.{ℕ}
+-- `units::count_units` meets its contract. The loop's invariant: the names of the objects passed are counted. Assumes nothing.
+use mathlib.Core.Path.{sym, ap}
 use native.Mathlib.Omega.{arith}
 use lib.ListN.{length}
-use Rattle.hashes.specs.Chain.{pieces}
+use Rattle.base.specs.NumberLaws.{Bytes}
 use Rattle.hashes.specs.PieceLaws.{pieces_none, count_next}
 use Rattle.hashes.proofs.units.count_units.Goals as goal
 
-pub loop-k-init : goal.loop-k-init
-loop-k-init c = (omega arith, omega arith, λ b y d. sym (ap length (pieces_none b c.args.chain.now)))
+pub loop-u-init : goal.loop-u-init
+loop-u-init c = (omega arith, sym (ap length (pieces_none c.args.names.now c.args.chain.now)))
 
-pub loop-k-preserved : goal.loop-k-preserved
-loop-k-preserved c = let l = c.loop-k in
-    let a = c.args in (
-      omega arith,
-      omega arith,
-      λ b y d.
-          count_next y a.chain.now l.k (d.holds l.k (omega arith)) l.total c.piece_count-total.result (l.invariant.2 b y d)
-          c.piece_count-total.ensures.0,
-    )
+pub piece_count-total-requires : goal.piece_count-total-requires
+piece_count-total-requires c = (c.requires.holds c.loop-u.u-index (omega arith)).small
 
-pub returns : goal.returns
-returns c = let l = c.loop-k in
+pub loop-u-preserved : goal.loop-u-preserved
+loop-u-preserved c =
+    let l = c.loop-u in
     let a = c.args in
-    let e : l.k ≡ a.depth = omega arith in
-    (λ b y d. l.invariant.2 b y d ∙ ap (λ (n : ℕ). length (pieces b a.chain.now n)) e, omega arith)
+    let y : Bytes a.names.now = λ j. (c.type_inv.names j).fits in
+    (omega arith, count_next y a.chain.now l.u-index (c.requires.holds l.u-index (omega arith)) l.total _ l.invariant.1 c.piece_count-total.ensures.0)

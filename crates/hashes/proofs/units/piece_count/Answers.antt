@@ -1,13 +1,12 @@
--- `units::piece_count`: by the lowest bit of the size. Assumes nothing.
+-- `units::piece_count` meets its contract: by whether the text is wide. Assumes nothing.
 use native.Mathlib.Omega.{arith}
-use borrow.Author.Tests.{eq-eqb, ne_eqb}
 use Rattle.hashes.specs.Chain.{piece_count}
 use Rattle.hashes.proofs.units.piece_count.Goals as goal
 
-pub returns-then-size-eq1 : goal.returns-then-size-eq1
+pub returns-then-u : goal.returns-then-u
 unfolding piece_count
-returns-then-size-eq1 c = (rw (eq-eqb _ _ c.if-size-eq1.true, c.suffix_len-more.ensures.0), omega arith)
+returns-then-u c = (rw (c.if-u.true, c.suffix_len-more.ensures.0), omega arith)
 
 pub returns : goal.returns
 unfolding piece_count
-returns c = (rw (ne_eqb _ _ c.if-size-eq1.false, c.suffix_len-more.ensures.0), omega arith)
+returns c = (rw (c.if-u.false, c.suffix_len-more.ensures.0), omega arith)

@@ -1,14 +1,13 @@
--- `units::slash_units`: what is in front, and the units left slashed, are all units slashed. Assumes nothing.
+-- `units::slash_units` meets its contract. The loop's invariant: what is in front, and the units left slashed, are all units slashed. Assumes
+-- nothing.
 use mathlib.Core.Path.{◌≡◌}
 use mathlib.Core.List.{◌++◌}
-use Prim.Native.Nat.{◌+◌, ◌*◌, ◌≤◌}
+use Prim.Native.Nat.{◌-◌, ◌*◌, ◌≤◌}
 use lib.ListN.{length, take, drop}
 use Rattle.hashes.specs.Slash.{slash_bytes}
 use Rattle.hashes.proofs.units.slash_units.Given as goal
 
-abbrev pub invariant-loop-left : goal.invariant-loop-left
-invariant-loop-left l =
-    (l.at + 2 * l.left ≤ length l.out) × (length l.out ≡ length l.initial.out) × (take l.at l.out ++ slash_bytes l.left (drop l.at l.out) ≡ slash_bytes l.n l.initial.out)
-
-abbrev pub decreases-loop-left : goal.decreases-loop-left
-decreases-loop-left l = l.left
+abbrev pub invariant-loop-i : goal.invariant-loop-i
+invariant-loop-i l =
+    (l.i ≤ l.n) × (length l.out ≡ length l.initial.out)
+    × (take (2 * l.i) l.out ++ slash_bytes (l.n - l.i) (drop (2 * l.i) l.out) ≡ slash_bytes l.n l.initial.out)

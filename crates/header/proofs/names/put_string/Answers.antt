@@ -17,9 +17,6 @@ latin c = sym c.is_latin1.ensures ∙ c.if-is_latin1.true
 wide : (c : Else-is_latin1) → let a = c.args in fits_latin1 (text_of (take a.to a.s.now)) ≡ false
 wide c = sym c.is_latin1.ensures ∙ c.if-is_latin1.false
 
-pub slice_bounds-text-end : goal.slice_bounds-text-end
-slice_bounds-text-end c = omega (arith, length-take-le c.args.to c.args.s.now c.requires.0)
-
 pub put_plain-requires : goal.put_plain-requires
 put_plain-requires c =
     plain-room (take c.args.to c.args.s.now) _ c.is_plain.ensures c.if-is_plain.true _ c.requires.2

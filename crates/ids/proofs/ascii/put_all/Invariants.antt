@@ -2,8 +2,7 @@
 use mathlib.Core.Path.{◌≡◌}
 use mathlib.Core.Bool.{true}
 use mathlib.Core.List.{map}
-use Prim.Native.Nat.{◌-◌, ◌≤◌}
-use lib.ListN.{length, take}
+use lib.ListN.{take}
 use Rattle.base.specs.Output.{Wrote}
 use Rattle.lower.specs.Ascii.{lower_ascii}
 use Rattle.text.specs.Units.{units_of}
@@ -12,8 +11,5 @@ use Rattle.ids.proofs.ascii.put_all.Given as goal
 
 abbrev pub invariant-loop-i : goal.invariant-loop-i
 invariant-loop-i l =
-    (l.i ≤ l.n) × Wrote l.initial.units (take l.i (map lower_ascii (units_of true l.part))) l.units l.i × (length l.units ≡ length l.initial.units)
-    × (l.bits ≡ bits_from 0 (take l.i (units_of true l.part)))
-
-abbrev pub decreases-loop-i : goal.decreases-loop-i
-decreases-loop-i l = l.n - l.i
+    Wrote l.initial.units (take l.i (map lower_ascii (units_of true l.text.bytes.now))) l.units l.i
+    × (l.bits ≡ bits_from 0 (take l.i (units_of true l.text.bytes.now)))

@@ -24,12 +24,12 @@ shape_of-units c = simp length-set
 
 pub returns : goal.returns
 returns c =
-    let us : List ℕ = units_of true c.args.part.now in
+    let us : List ℕ = units_of true c.args.text.bytes.now in
     let i = c.args.i in
-    let u0 = c.unit_at-a.ensures.0 in
-    let u1 = c.unit_at-b.ensures.0 in
-    let u2 = c.unit_at-c.ensures.0 in
-    let u3 = c.unit_at-d.ensures.0 in (
+    let u0 = c.unit-a.ensures.0 in
+    let u1 = c.unit-b.ensures.0 in
+    let u2 = c.unit-c.ensures.0 in
+    let u3 = c.unit-d.ensures.0 in (
       rw (u0, u1, u2, u3) (four-bits us i c.requires.0),
       rw (
         lowered-there us i c.lower_ascii.ensures u0,

@@ -14,21 +14,21 @@ use Rattle.ids.proofs.ascii.put_lowered.Goals as goal
 
 pub returns-then-n-le8 : goal.returns-then-n-le8
 returns-then-n-le8 c =
-    let us : List ℕ = units_of true c.args.part.now in
+    let us : List ℕ = units_of true c.args.text.bytes.now in
     let vs : List ℕ = map lower_ascii us in
     let l = mapped-length lower_ascii us in
-    let n : ℕ = c.args.n in
+    let n : ℕ = c.count-n.result in
     let e : n - 4 + 4 ≡ n = omega arith in
     let h : n - 4 ≤ 4 = omega arith in
     let p = c.put_four-bits.ensures in
     let q = c.put_four.ensures in
     let v = wrote-paste vs 0 4 (wrote_none c.args.units.now) (omega arith) (omega arith) (omega arith) (omega arith) in
     let w = wrote-paste vs (n - 4) 4 v h (omega arith) (omega arith) (omega arith) in (
-      λ k. fours_ascii us n c.requires.0 (omega arith) (omega arith) (rw (p.0, q.0) at k),
-      rw (q.1, p.1) (wrote_count (wrote_as w (take_all (n - 4 + 4) vs (omega arith))) e),
+      λ k. fours_ascii us n c.count-n.ensures (omega arith) (omega arith) (rw (p.0, q.0) at k),
+      rw (q.1, p.1) (wrote_count (wrote_as w (take_all (n - 4 + 4) vs (omega arith))) (omega arith)),
     )
 
 pub returns : goal.returns
 returns c =
     let p = c.put_all.ensures in
-    (λ k. (bits-ascii 0 (units_of true c.args.part.now) (rw p.0 at k)).1, p.1)
+    (λ k. (bits-ascii 0 (units_of true c.args.text.bytes.now) (rw p.0 at k)).1, p.1)

@@ -1,17 +1,14 @@
 -- `id::long_hash`: the turns left, over the bytes from here on, end where all turns end. Assumes nothing.
 use mathlib.Core.Path.{◌≡◌}
-use Prim.Native.Nat.{◌+◌, ◌*◌, ◌<◌}
+use Prim.Native.Nat.{◌-◌, ◌*◌, ◌/◌}
 use lib.ListN.{drop}
 use Rattle.text.specs.Utf16.{unit_bytes}
+use Rattle.text.specs.Parts.{base_in}
 use Rattle.city.specs.City.{turns}
-use Rattle.text.specs.Name.{base}
 use Rattle.ids.specs.LoweredUnits.{name_units}
 use Rattle.ids.proofs.id.long_hash.Given as goal
 
-abbrev pub invariant-loop-left : goal.invariant-loop-left
-invariant-loop-left l =
-    (turns l.left (drop (2 * l.from) (unit_bytes (name_units (base l.wide l.part) l.suffix))) l.t ≡ turns l.initial.left (unit_bytes (name_units (base l.wide l.part) l.suffix)) l.initial.t)
-    × (2 * l.from + 64 * l.left < 2 * l.n)
-
-abbrev pub decreases-loop-left : goal.decreases-loop-left
-decreases-loop-left l = l.left
+abbrev pub invariant-loop-k : goal.invariant-loop-k
+invariant-loop-k l =
+    turns ((2 * l.n - 1) / 64 - l.k) (drop (2 * (32 * l.k)) (unit_bytes (name_units (base_in l.name.text.part) l.name.suffix.now))) l.t
+    ≡ turns ((2 * l.n - 1) / 64) (unit_bytes (name_units (base_in l.name.text.part) l.name.suffix.now)) l.initial.t

@@ -1,4 +1,4 @@
--- `id::units_hash`: up to 32 units are hashed by the width of the text, more as a whole or by `long_hash`. Assumes nothing.
+-- `id::units_hash`: by the width of the text and how many units there are. Assumes nothing.
 use mathlib.Core.Path.{◌≡◌, sym, ◌∙◌, ap}
 use mathlib.Core.List.{List}
 use Prim.Native.Nat.{ℕ, ◌+◌}
@@ -6,53 +6,56 @@ use native.Mathlib.Omega.{arith}
 use borrow.Author.Rules.{rules}
 use lib.ListN.{length}
 use Rattle.text.specs.Utf16.{unit_bytes}
-use Rattle.city.specs.City.{city_hash64}
-use Rattle.text.specs.Name.{base}
-use Rattle.ids.specs.LoweredUnits.{name_units}
+use Rattle.text.specs.Parts.{base_in}
+use Rattle.text.specs.Units.{units_in}
 use Rattle.text.specs.UnitsLaws.{units_of_bound}
-use Rattle.ids.proofs.NameUnits.{name-length, narrow-name, narrow-count, middle-is}
+use Rattle.city.specs.City.{city_hash64}
+use Rattle.ids.specs.LoweredUnits.{name_units}
+use Rattle.ids.proofs.NameUnits.{name-length, narrow-name, narrow-count}
+use Rattle.ids.proofs.id.units_hash.Goals.{Start}
 use Rattle.ids.proofs.id.units_hash.Goals as goal
 
+-- how many units the name has
+count : (c : Start)
+    → length (name_units (base_in c.args.name.text.part) c.args.name.suffix.now) ≡ length (units_in c.args.name.text.part) + length c.args.name.suffix.now
+count c =
+    let n = c.args.name in
+    let p = n.text.part in
+    name-length p.wide p.bytes.now p.fits n.text.well n.suffix.now
+
 pub overflow_add-n : goal.overflow_add-n
-overflow_add-n c =
-    omega (arith, name-length c.args.wide c.args.part.now (λ j. (c.shared_slice_known-1.given j).fits) c.requires.0 c.args.suffix.now, units_of_bound c.args.wide c.args.part.now)
+overflow_add-n c = let p = c.args.name.text.part in omega (arith, units_of_bound p.wide p.bytes.now)
 
 pub wide_hash-requires : goal.wide_hash-requires
 wide_hash-requires c =
-    let e : c.unit_count.result + length c.args.suffix.now ≡ length (name_units (base c.args.wide c.args.part.now) c.args.suffix.now) = omega (arith, name-length c.args.wide c.args.part.now (λ j. (c.shared_slice_known-1.given j).fits) c.requires.0 c.args.suffix.now) in
-    let t = c.if-wide.true in
-    (rw t at c.requires.0, rw t at e, search rules)
-
-pub returns-then-wide : goal.returns-then-wide
-returns-then-wide c = rw c.if-wide.true c.wide_hash.ensures
-
-pub narrow_hash-requires : goal.narrow_hash-requires
-narrow_hash-requires c = (omega (arith, narrow-count c.if-wide.false c.args.part.now), search rules)
-
-pub returns-then-n-le32 : goal.returns-then-n-le32
-returns-then-n-le32 c =
-    c.narrow_hash.ensures
-    ∙ ap (λ (s : List ℕ). city_hash64 (unit_bytes s))
-    (sym (narrow-name c.if-wide.false c.args.part.now (λ j. (c.shared_slice_known-1.given j).fits) c.args.suffix.now))
-
-pub middle_hash-requires : goal.middle_hash-requires
-middle_hash-requires c =
-    let a = c.args in
-    let n = c.unit_count.result + length a.suffix.now in
-    let m = middle-is a.wide (length a.part.now) n (sym c.is_middle.ensures ∙ c.if-is_middle.true) in
-    (omega (arith, narrow-count m.0 a.part.now), search rules, m.1)
-
-pub returns-then-is_middle : goal.returns-then-is_middle
-returns-then-is_middle c =
-    let a = c.args in
-    let n = c.unit_count.result + length a.suffix.now in
-    let m = middle-is a.wide (length a.part.now) n (sym c.is_middle.ensures ∙ c.if-is_middle.true) in
-    c.middle_hash.ensures
-    ∙ ap (λ (s : List ℕ). city_hash64 (unit_bytes s))
-    (sym (narrow-name m.0 a.part.now (λ j. (c.shared_slice_known-1.given j).fits) a.suffix.now))
+    let l = rw c.if-part.true at (count (goal.at.wide_hash-requires c).Start) in
+    let e = rw c.if-part.true at c.count.ensures in
+    (omega arith, search rules)
 
 pub long_hash-requires : goal.long_hash-requires
 long_hash-requires c =
-    let n = name-length c.args.wide c.args.part.now (λ j. (c.shared_slice_known-1.given j).fits) c.requires.0 c.args.suffix.now in
-    let l = units_of_bound c.args.wide c.args.part.now in
-    (search rules, omega arith, omega arith, omega arith)
+    let p = c.args.name.text.part in
+    let l = count (goal.at.long_hash-requires c).Start in
+    (omega arith, omega arith, omega (arith, units_of_bound p.wide p.bytes.now))
+
+pub narrow_hash-requires : goal.narrow_hash-requires
+narrow_hash-requires c = omega (arith, narrow-count c.if-part.false c.args.name.text.part.bytes.now)
+
+pub returns-then-n-le32 : goal.returns-then-n-le32
+returns-then-n-le32 c =
+    let n = c.args.name in
+    let p = n.text.part in
+    c.narrow_hash.ensures
+    ∙ ap (λ (s : List ℕ). city_hash64 (unit_bytes s)) (sym (narrow-name c.if-part.false p.bytes.now p.fits n.suffix.now))
+
+pub whole_hash-requires : goal.whole_hash-requires
+whole_hash-requires c =
+    let l = narrow-count c.if-not-part.true c.args.name.text.part.bytes.now in
+    (omega arith, omega arith)
+
+pub returns-then-part-n : goal.returns-then-part-n
+returns-then-part-n c =
+    let n = c.args.name in
+    let p = n.text.part in
+    c.whole_hash.ensures
+    ∙ ap (λ (s : List ℕ). city_hash64 (unit_bytes s)) (sym (narrow-name c.if-not-part.true p.bytes.now p.fits n.suffix.now))

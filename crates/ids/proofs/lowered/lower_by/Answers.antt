@@ -1,46 +1,28 @@
 -- `lower_by` meets its contract: a unit that is a scalar value, a leading surrogate, a trailing one with the leading one before it.
-use mathlib.Core.Path.{sym, ◌∙◌, ap}
-use mathlib.Core.Logic.{inr}
-use Prim.Native.Nat.{ℕ, ◌+◌, ◌-◌, ◌%◌}
+use mathlib.Core.Path.{sym, ◌∙◌}
+use mathlib.Core.Logic.{inl, inr}
 use native.Mathlib.Omega.{arith}
-use Rattle.lower.proofs.LowerLaws.{lower-single, lower_double}
-use Rattle.text.specs.Utf16.{of_pair}
-use Rattle.ids.specs.LowerLaws.{single-lowered, high-lowered, low-lowered, below-lowered}
+use Rattle.lower.proofs.LowerLaws.{lower-single}
+use Rattle.text.specs.Utf16Cases.{Single}
+use Rattle.ids.specs.LowerLaws.{single-lowered, high-lowered}
+use Rattle.ids.proofs.WideUnits.{lowered-word}
+use Rattle.ids.proofs.lowered.lower_by.Goals.{in_default-via-then-u-lt55296, in_default-via-else-u-lt55296+else-u-lt56320+else-u-lt57344}
 use Rattle.ids.proofs.lowered.lower_by.Goals as goal
 
-pub returns-then-u-lt55296 : goal.returns-then-u-lt55296
-returns-then-u-lt55296 c =
-    let a = c.args in
-    (c.lower_in.ensures ∙ sym (below-lowered a.before a.u (omega arith)), rw c.lower_in.ensures (lower-single a.u (omega arith)))
+pub returns-in-55296-to-56319 : goal.returns-in-55296-to-56319
+returns-in-55296-to-56319 c = (sym (high-lowered c.args.before c.args.u (omega arith, omega arith)), omega arith)
 
-pub returns-then-u-lt56320 : goal.returns-then-u-lt56320
-returns-then-u-lt56320 c =
-    let a = c.args in
-    (sym (high-lowered a.before a.u (omega arith, omega arith)), omega arith)
+pub lower_trailing-requires : goal.lower_trailing-requires
+lower_trailing-requires c = ((omega arith, omega arith), c.requires.1 (omega arith, omega arith))
 
-pub returns-then-u-gt57343 : goal.returns-then-u-gt57343
-returns-then-u-gt57343 c =
-    let a = c.args in
-    (c.lower_in-then-u-gt57343.ensures ∙ sym (single-lowered a.before a.u (inr (omega arith))), rw c.lower_in-then-u-gt57343.ensures (lower-single a.u (omega arith)))
+pub returns-in-56320-to-57343 : goal.returns-in-56320-to-57343
+returns-in-56320-to-57343 c = (c.lower_trailing.ensures, rw c.lower_trailing.ensures (lowered-word c.args.before c.args.u c.requires.0))
 
-pub overflow_sub-c : goal.overflow_sub-c
-overflow_sub-c c = omega (arith, c.requires.2 (omega arith, omega arith))
-
-pub overflow_mul-c : goal.overflow_mul-c
-overflow_mul-c c = omega (arith, c.requires.2 (omega arith, omega arith))
-
-pub overflow_add-c : goal.overflow_add-c
-overflow_add-c c = omega (arith, c.requires.2 (omega arith, omega arith))
-
-pub overflow_add-c-2 : goal.overflow_add-c-2
-overflow_add-c-2 c = omega (arith, c.requires.2 (omega arith, omega arith))
-
-pub overflow_sub-result : goal.overflow_sub-result
-overflow_sub-result c =
-    let a = c.args in
-    rw c.lower_in-2.ensures (lower_double (of_pair a.before a.u) (omega arith)).0
-
-pub returns : goal.returns
-returns c =
-    let a = c.args in
-    (ap (λ (n : ℕ). 0xDC00 + (n - 0x10000) % 0x400) c.lower_in-2.ensures ∙ sym (low-lowered a.before a.u (omega arith, omega arith)), omega arith)
+pub returns-in_default : goal.returns-in_default
+returns-in_default c =
+    let k : Single c.args.u =
+    elim c.in_default.branch [
+      | in_default-via-then-u-lt55296 w ↦ inl (omega arith)
+      | in_default-via-else-u-lt55296+else-u-lt56320+else-u-lt57344 w ↦ inr (omega arith)
+    ] in
+    (c.lower_in.ensures ∙ sym (single-lowered c.args.before c.args.u k), rw c.lower_in.ensures (lower-single c.args.u c.requires.0))

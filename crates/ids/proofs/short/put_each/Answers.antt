@@ -1,6 +1,28 @@
--- `short::put_each`: the units of the base, and those of the suffix behind them. Assumes nothing.
-use Rattle.base.specs.OutputLaws.{wrote-rest}
+-- `short::put_each`: a turn puts the unit of one byte more. Assumes nothing.
+use mathlib.Core.Path.{◌≡◌, sym, ◌∙◌}
+use mathlib.Core.List.{List, map}
+use Prim.Native.Nat.{ℕ}
+use native.Mathlib.Omega.{arith}
+use lib.ListN.{length, get_or}
+use lib.Seq.{take_all}
+use Rattle.std.proofs.lemmas.List.{get_or-map}
+use Rattle.base.specs.OutputLaws.{wrote_none, wrote-copy, wrote_as}
+use Rattle.ids.proofs.WideUnits.{mapped-length}
 use Rattle.ids.proofs.short.put_each.Goals as goal
 
+pub loop-i-init : goal.loop-i-init
+loop-i-init g c f k = wrote_none _
+
+pub loop-i-preserved : goal.loop-i-preserved
+loop-i-preserved g c f k =
+    let x : List ℕ = c.args.bytes.now in
+    let i : ℕ = c.loop-i.i in
+    let e = k (get_or x i 0) c.unit.result (c.type_inv.bytes i).fits c.unit.ensures in
+    rw (e ∙ sym (get_or-map f x i 0 0 c.loop-i-test.true))
+    (wrote-copy (map f x) (c.loop-i.invariant f k) (omega (arith, mapped-length f x)) (omega arith))
+
 pub returns : goal.returns
-returns c = wrote-rest c.put_base.ensures c.put_number.ensures
+returns g c f k =
+    let x : List ℕ = c.args.bytes.now in
+    let e : length x ≡ c.loop-i.i = omega arith in
+    rw e (wrote_as (c.loop-i.invariant f k) (take_all c.loop-i.i (map f x) (omega (arith, mapped-length f x))))

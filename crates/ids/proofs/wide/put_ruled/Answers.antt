@@ -1,50 +1,73 @@
 -- `wide::put_ruled`: a turn puts one unit more, unless the table is to be asked for it. Assumes nothing.
-use mathlib.Core.Path.{refl}
-use mathlib.Core.Bool.{true}
-use mathlib.Core.List.{List, ◌∷◌}
+use mathlib.Core.Path.{◌≡◌, refl, sym, ◌∙◌}
+use mathlib.Core.Bool.{Bool, true, false, cond}
+use mathlib.Core.List.{List}
 use mathlib.Core.Logic.{inl, inr}
-use Prim.Native.Nat.{ℕ, ◌+◌, ◌<◌}
+use Prim.Native.Nat.{ℕ, ◌+◌}
 use native.Mathlib.Omega.{arith}
-use borrow.Author.Rules.{rules}
 use lib.ListN.{get_or}
+use Rattle.std.specs.Prelude.{Option, None, Some}
 use Rattle.lower.specs.Lower.{lowered}
 use Rattle.rules.specs.Quick.{asks}
-use Rattle.rules.specs.QuickLaws.{not-asked}
-use Rattle.base.specs.NumberLaws.{Bytes}
-use Rattle.base.specs.OutputLaws.{wrote_count}
+use Rattle.base.specs.Never.{never}
+use Rattle.base.specs.OutputLaws.{wrote_none}
 use Rattle.text.specs.Utf16.{encode16}
 use Rattle.text.specs.Name.{base}
 use Rattle.text.specs.Units.{units_of}
-use Rattle.text.specs.UnitsLaws.{units_of_bound, units_of-words}
-use Rattle.ids.proofs.NameUnits.{part_length, place}
-use Rattle.ids.proofs.PutUnits.{put-none, put_next, put_all}
-use Rattle.ids.proofs.WideUnits.{lowered-word, asked}
+use Rattle.text.specs.UnitsLaws.{units_of_bound}
+use Rattle.ids.proofs.NameUnits.{part_length}
+use Rattle.ids.proofs.PutUnits.{put_next}
+use Rattle.ids.proofs.WideUnits.{lowered-fits}
+use Rattle.ids.proofs.wide.put_ruled.Goals.{In-Some}
 use Rattle.ids.proofs.wide.put_ruled.Goals as goal
 
+none-asked : (t : Bool) (v : ℕ) → ◌≡◌ {A = Option ℕ} None (cond t None (Some v)) → t ≡ true
+none-asked true v e = refl
+none-asked false v e = never (cc)
+
+some-known : (t : Bool) (v : ℕ) {u : ℕ} → ◌≡◌ {A = Option ℕ} (Some u) (cond t None (Some v)) → u ≡ v
+some-known true v e = never (cc)
+some-known false v e = cc
+
 pub loop-i-init : goal.loop-i-init
-loop-i-init c = put-none
+loop-i-init c = wrote_none _
 
 pub overflow_add-from : goal.overflow_add-from
-overflow_add-from c = omega (arith, units_of_bound true c.args.part.now)
+overflow_add-from c = omega (arith, units_of_bound true c.args.text.bytes.now)
 
-pub returns-then-u-gt65535 : goal.returns-then-u-gt65535
-returns-then-u-gt65535 c =
-    let a = c.args in
-    let b : Bytes a.part.now = λ j. (c.shared_slice_known-1.given j).fits in
-    let l = c.loop-i in
-    let us : List ℕ = units_of true a.part.now in
-    let small : get_or (encode16 (lowered (base true a.part.now))) (a.from + l.i) 0 < 65536 =
-    rw (place true a.part.now b c.requires.0 (a.from + l.i) (omega arith)).0
-    (lowered-word (get_or (0 ∷ us) (a.from + l.i) 0) (get_or us (a.from + l.i) 0) (units_of-words true a.part.now b (a.from + l.i))) in
-    (l.invariant.most, wrote_count l.invariant.wrote l.invariant.place, inr (asked (asks (get_or us (a.from + l.i) 0)) c.quick_unit-u.ensures small (omega arith)))
+-- the unit that the rules give
+given : (c : In-Some) → c.in-Some.u ≡ get_or (encode16 (lowered (base true c.args.text.bytes.now))) (c.args.from + c.loop-i.i) 0
+given c =
+    let t = c.args.text in
+    let i : ℕ = c.args.from + c.loop-i.i in
+    some-known (asks (get_or (units_of true t.bytes.now) i 0)) (get_or (encode16 (lowered (base true t.bytes.now))) i 0)
+    (sym c.in-Some.is ∙ rw (c.text.ensures.0, c.text.ensures.1) at c.quick_unit.ensures)
+
+pub overflow_cast-u : goal.overflow_cast-u
+overflow_cast-u c =
+    let t = c.args.text in
+    let e = given (goal.at.overflow_cast-u c).In-Some in
+    omega (arith, lowered-fits t.bytes.now t.fits t.well (c.args.from + c.loop-i.i) (omega arith))
 
 pub loop-i-preserved : goal.loop-i-preserved
 loop-i-preserved c =
-    let a = c.args in
-    let b : Bytes a.part.now = λ j. (c.shared_slice_known-1.given j).fits in
-    let l = c.loop-i in
-    put_next l.invariant (search rules) (omega (arith, part_length true a.part.now b c.requires.0)) c.requires.2
-    (not-asked (asks (get_or (units_of true a.part.now) (a.from + l.i) 0)) c.quick_unit-u.ensures (omega arith))
+    let t = c.args.text in
+    let us : List ℕ = encode16 (lowered (base true t.bytes.now)) in
+    rw c.put_unit.ensures
+    (put_next us c.args.from c.loop-i.i c.loop-i.invariant (omega (arith, part_length true t.bytes.now t.fits t.well)) (omega arith)
+    (given (goal.at.loop-i-preserved c).In-Some))
+
+pub returns-in_default : goal.returns-in_default
+returns-in_default c =
+    let t = c.args.text in
+    let i : ℕ = c.args.from + c.loop-i.i in (
+      omega arith,
+      c.loop-i.invariant,
+      inr (none-asked (asks (get_or (units_of true t.bytes.now) i 0)) (get_or (encode16 (lowered (base true t.bytes.now))) i 0)
+          (sym c.in_default.is ∙ rw (c.text.ensures.0, c.text.ensures.1) at c.quick_unit.ensures)),
+    )
 
 pub returns : goal.returns
-returns c = (omega arith, put_all c.loop-i.invariant (search rules), inl refl)
+returns c =
+    let e : c.args.n ≡ c.loop-i.i = omega arith in
+    (omega arith, rw e c.loop-i.invariant, inl refl)

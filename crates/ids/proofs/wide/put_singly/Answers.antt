@@ -14,21 +14,21 @@ use Rattle.ids.proofs.NameUnits.{window-two, wrote-two}
 use Rattle.ids.proofs.wide.put_singly.Goals as goal
 
 pub put_ruled-k-requires : goal.put_ruled-k-requires
-put_ruled-k-requires c = (search rules, search rules, search rules)
+put_ruled-k-requires c = (search rules, search rules)
 
-pub slice_bounds-put_tabled-count : goal.slice_bounds-put_tabled-count
-slice_bounds-put_tabled-count c = omega (arith, wrote-length c.put_ruled-k.ensures.1)
+pub slice_bounds-put_lowered-count : goal.slice_bounds-put_lowered-count
+slice_bounds-put_lowered-count c = omega (arith, wrote-length c.put_ruled-k.ensures.1)
 
-pub put_tabled-requires : goal.put_tabled-requires
-put_tabled-requires c = (search rules, omega arith, wrote-room c.put_ruled-k.ensures.1 _ (omega arith))
+pub put_lowered-requires : goal.put_lowered-requires
+put_lowered-requires c = (omega arith, wrote-room c.put_ruled-k.ensures.1 _ (omega arith))
 
 pub returns-then-k-n : goal.returns-then-k-n
 returns-then-k-n c =
     let a = c.args in
     let r = c.put_ruled-k in
-    let us : List ℕ = (encode16 (lowered (base true a.part.now))) in
+    let us : List ℕ = (encode16 (lowered (base true a.text.bytes.now))) in
     let w = wrote-two (take r.result (drop a.from us)) (take (a.n - r.result) (drop (a.from + r.result) us)) (take a.n (drop a.from us))
-    r.ensures.1 c.put_tabled.ensures (window-two us a.from a.n r.result (omega arith)) in
+    r.ensures.1 c.put_lowered.ensures (window-two us a.from a.n r.result (omega arith)) in
     wrote_count w (omega arith)
 
 pub returns-else-k-n : goal.returns-else-k-n

@@ -13,7 +13,7 @@ pub returns-then-k-n : goal.returns-then-k-n
 returns-then-k-n c =
     let a = c.args in
     let p = c.put_turns-k.ensures in
-    wrote-behind (encode16 (lowered (base true a.part.now))) a.from a.n c.put_turns-k.result p.0 p.2 p.1 c.put_singly.ensures
+    wrote-behind (encode16 (lowered (base true a.text.bytes.now))) a.from a.n c.put_turns-k.result p.0 p.2 p.1 c.put_singly.ensures
 
 pub returns-else-k-n : goal.returns-else-k-n
 returns-else-k-n c =

@@ -2,7 +2,7 @@
 -- left, is. Assumes nothing.
 use mathlib.Core.List.{List}
 use mathlib.Core.Path.{◌≡◌}
-use Prim.Native.Nat.{ℕ, ◌*◌, ◌≤◌, ◌<◌}
+use Prim.Native.Nat.{ℕ, ◌*◌, ◌-◌, ◌<◌}
 use lib.ListN.{length}
 use Rattle.scriptblock.specs.Script.{Objects}
 use Rattle.meaning.specs.ClassTest.{is_known}
@@ -10,9 +10,7 @@ use Rattle.objects.specs.Numbers.{path_no}
 use Rattle.objects.specs.Work.{ObjectsIn}
 use Rattle.objects.proofs.class.known.Given as goal
 
-abbrev pub invariant-loop-left : goal.invariant-loop-left
-invariant-loop-left l =
-    (48 * l.at < length l.w) × (l.left ≤ l.limit) × ((b : List ℕ) (o : Objects) → ObjectsIn b o l.w → is_known (path_no l.limit o l.i) ≡ is_known (path_no l.left o l.at))
-
-abbrev pub decreases-loop-left : goal.decreases-loop-left
-decreases-loop-left l = l.left
+abbrev pub invariant-loop : goal.invariant-loop
+invariant-loop l =
+    (48 * l.at < length l.w)
+    × ((b : List ℕ) (o : Objects) → ObjectsIn b o l.w → is_known (path_no l.limit o l.i) ≡ is_known (path_no (l.limit - l.counter) o l.at))

@@ -1,14 +1,10 @@
 -- `enter::enter` meets its contract. The loop's invariant: the first i objects are entered, and the first fault from object i on is the first of
 -- all. Assumes nothing.
 use mathlib.Core.Path.{◌≡◌}
-use Prim.Native.Nat.{◌-◌, ◌≤◌}
 use Rattle.scriptblock.specs.ScriptAnswers.{fault_at}
 use Rattle.scriptblock.specs.ScriptFaults.{fault_from}
 use Rattle.objects.specs.Work.{Entered}
 use Rattle.objects.proofs.enter.enter.Given as goal
 
 abbrev pub invariant-loop-i : goal.invariant-loop-i
-invariant-loop-i l = (l.i ≤ l.l.count) × (fault_at l.b l.l ≡ fault_from l.b l.l l.i) × Entered l.b l.l l.i l.w
-
-abbrev pub decreases-loop-i : goal.decreases-loop-i
-decreases-loop-i l = l.l.count - l.i
+invariant-loop-i l = (fault_at l.b l.l ≡ fault_from l.b l.l l.i) × Entered l.b l.l l.i l.w

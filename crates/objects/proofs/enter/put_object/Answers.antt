@@ -5,11 +5,8 @@ use Rattle.objects.proofs.enter.put_object.Goals as goal
 
 pub place_len-len-requires : goal.place_len-len-requires
 place_len-len-requires c =
-    rw c.place_at-p.ensures (holds-own (holds-name c.args.b.now c.args.n (λ i. (c.shared_slice_known-1.given i).fits) c.requires.0 c.args.e.index c.requires.1))
+    rw c.place_at-p.ensures (holds-own (holds-name c.args.b.now c.args.n (λ i. (c.type_inv.b i).fits) c.requires.0 c.args.e.index c.requires.1))
 
 pub describe-requires : goal.describe-requires
 describe-requires c =
-    (c.requires.3, rw c.place_at-p.ensures (place-size c.args.b.now c.args.n c.args.e.index c.requires.1 (λ i. (c.shared_slice_known-1.given i).fits)))
-
-pub returns : goal.returns
-returns c = rw (← c.place_at-p.ensures, ← c.place_len-len.ensures.0) c.describe.ensures
+    (c.requires.3, rw c.place_at-p.ensures (place-size c.args.b.now c.args.n c.args.e.index c.requires.1 (λ i. (c.type_inv.b i).fits)))

@@ -1,7 +1,6 @@
 -- `path::put_next` meets its contract: the separator, and the name behind it. Assumes nothing.
 use native.Mathlib.Omega.{arith}
 use lib.ListN.{length-set}
-use Rattle.base.specs.OutputLaws.{wrote-length}
 use Rattle.objects.specs.PutLaws.{name_of}
 use Rattle.objects.specs.ToldLaws.{next-length, next-name, next-wrote}
 use Rattle.objects.proofs.path.put_next.Goals as goal
@@ -23,16 +22,6 @@ put_name-n-requires c = (
   c.requires.holds.0,
   next-name c.requires.holds.1 c.separator_of.ensures (name_of c.args.b.now c.args.u) c.args.out.now c.requires.number_in_bounds,
 )
-
-pub overflow_add-result : goal.overflow_add-result
-overflow_add-result c =
-    let w = next-wrote c.requires.holds.1 c.separator_of.ensures (name_of c.args.b.now c.args.u) c.args.out.now c.requires.number_in_bounds c.put_name-n.ensures in
-    omega (arith, w.fits)
-
-pub shape_of-out : goal.shape_of-out
-shape_of-out c =
-    wrote-length
-    (next-wrote c.requires.holds.1 c.separator_of.ensures (name_of c.args.b.now c.args.u) c.args.out.now c.requires.number_in_bounds c.put_name-n.ensures)
 
 pub returns : goal.returns
 returns c =

@@ -5,15 +5,13 @@ use Prim.Native.Nat.{ℕ, ◌-◌, ◌≤◌}
 use native.Mathlib.Omega.{arith}
 use lib.ListN.{length}
 use Rattle.base.specs.Output.{Wrote}
-use Rattle.base.specs.OutputLaws.{wrote-length, wrote-rest}
 use Rattle.scriptblock.specs.Script.{Objects}
 use Rattle.objects.specs.Numbers.{path_no}
 use Rattle.objects.specs.PathLaws.{path_end}
-use Rattle.objects.specs.Told.{path_bytes, Written}
+use Rattle.objects.specs.Told.{known, path_bytes, Written}
 use Rattle.objects.specs.ToldLaws.{written_none, written-first}
 use Rattle.objects.specs.Work.{Stands}
 use Rattle.objects.specs.PutLaws.{stands-holds, stands-top, up-stands, up_room, up-lost, up-wrote, up-deep, up_next, up_more}
-use Rattle.objects.specs.declared.path.Path.TheVariants.{Known}
 use Rattle.objects.proofs.path.put_two.Goals.{After-put_name-at}
 use Rattle.objects.proofs.path.put_two.Goals as goal
 
@@ -28,7 +26,7 @@ first : (c : After-put_name-at) (q : Objects) (w : List ℕ) (j : ℕ) → Stand
     (path_no (c.args.limit - 1) q j)
     c.args.out.now
     c.put_name-at.new.out
-    (Known c.put_name-at.result 1)
+    (known c.put_name-at.result 1)
 first c q w j st room =
     written-first (stands-top st (c.args.limit - 1) (more c.args.limit c.requires.read.some c.if-limit-eq1.false) c.requires.top) c.put_name-at.ensures
 
@@ -54,26 +52,14 @@ put_name-at-requires c =
     let r = c.requires in
     let v = up-stands r.stands r.read c.args.out.now r.room in
     let e = stands-top v (c.args.limit - 1) (more c.args.limit r.read.some c.if-limit-eq1.false) r.top in
-    (stands-holds v (λ j. (c.shared_slice_known-1.given j).fits), rw e at (up_room r.stands r.read c.args.out.now r.room))
-
-pub slice_bounds-put_next-count : goal.slice_bounds-put_next-count
-slice_bounds-put_next-count c = let w = outer-wrote (goal.at.slice_bounds-put_next-count c).After-put_name-at in omega (arith, w.fits, wrote-length w)
-
-pub slice_bounds-put_next-start : goal.slice_bounds-put_next-start
-slice_bounds-put_next-start c = let w = outer-wrote (goal.at.slice_bounds-put_next-start c).After-put_name-at in omega (arith, w.fits, wrote-length w)
+    (stands-holds v (λ j. (c.type_inv.b j).fits), rw e at (up_room r.stands r.read c.args.out.now r.room))
 
 pub put_next-n-requires : goal.put_next-n-requires
 put_next-n-requires c =
     let r = c.requires in
     let d = up-deep r.stands r.read c.args.out.now r.room (λ q j. first (goal.at.put_next-n-requires c).After-put_name-at q r.work j) _ 1 refl in
     let n = up_next r.stands r.read c.args.out.now r.room (λ q j. first (goal.at.put_next-n-requires c).After-put_name-at q r.work j) _ 1 refl in
-    record { holds = (stands-holds r.stands (λ j. (c.shared_slice_known-1.given j).fits), d.0); number_in_bounds = n }
-
-pub overflow_add-result : goal.overflow_add-result
-overflow_add-result c = omega (arith, (wrote-rest (outer-wrote (goal.at.overflow_add-result c).After-put_name-at) c.put_next-n.ensures).fits)
-
-pub shape_of-out : goal.shape_of-out
-shape_of-out c = wrote-length (wrote-rest (outer-wrote (goal.at.shape_of-out c).After-put_name-at) c.put_next-n.ensures)
+    record { holds = (stands-holds r.stands (λ j. (c.type_inv.b j).fits), d.0); number_in_bounds = n }
 
 pub returns : goal.returns
 returns c = λ o w i st a room.

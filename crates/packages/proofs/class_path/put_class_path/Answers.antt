@@ -1,10 +1,9 @@
 -- `packages::class_path::put_class_path` meets its contract: name behind name. Assumes nothing.
-use mathlib.Core.Path.{◌≡◌, refl, sym, ap}
-use mathlib.Core.Bool.{Bool, true, false}
+use Rattle.std.specs.Prelude.{Option, Some, None}
+use mathlib.Core.Path.{◌≡◌, refl, sym}
 use mathlib.Core.List.{List, ◌++◌}
 use Prim.Native.Nat.{ℕ, ◌+◌, ◌-◌, ◌≤◌}
 use lib.ListN.{length, take, drop}
-use Rattle.base.specs.Choose.{pick}
 use Rattle.base.specs.Literal.{quoted}
 use Rattle.base.specs.Output.{Wrote}
 use Rattle.base.specs.OutputLaws.{wrote_as, wrote-rest, next-room, front_fits}
@@ -15,83 +14,84 @@ use Rattle.packages.specs.declared.names.Name.{Name}
 use Rattle.packages.specs.declared.rows.Row.{Row}
 use Rattle.packages.proofs.class_path.put_class_path.Goals as goal
 
-same-fits : (a b : List ℕ) (n : ℕ) → a ≡ b → length a ≤ n → length b ≤ n
-same-fits a b n e h = rw e at h
-
-module _ (b : List ℕ) (home : Name) (w : Row) (s : List ℕ) (room : length (path_bytes b home w) ≤ length s) where
+module _ (b : List ℕ) (home : Name) (w : Row) where
   abbrev first : List ℕ
   first = utf8 (whole_at b home)
 
-  abbrev outer : List ℕ
-  outer = quoted "." ++ utf8 (whole_at b w.outer)
+  abbrev outer : Name → List ℕ
+  outer u = quoted "." ++ utf8 (whole_at b u)
 
   abbrev last : List ℕ
   last = quoted ":" ++ utf8 (whole_at b w.own)
 
-  abbrev only : List ℕ
-  only = quoted "." ++ utf8 (whole_at b w.own)
-
-  nested_is : w.nested ≡ true → path_bytes b home w ≡ (first ++ outer) ++ last
+  nested_is : (u : Name) → w.outer ≡ Some u → path_bytes b home w ≡ (first ++ outer u) ++ last
   unfolding path_bytes
-  nested_is q = ap (λ (x : Bool). pick x ((first ++ outer) ++ last) (first ++ only)) q
+  nested_is u q = rw q
 
-  alone-is : w.nested ≡ false → path_bytes b home w ≡ first ++ only
+  alone-is : w.outer ≡ None → path_bytes b home w ≡ first ++ outer w.own
   unfolding path_bytes
-  alone-is q = ap (λ (x : Bool). pick x ((first ++ outer) ++ last) (first ++ only)) q
+  alone-is q = rw q
 
-  alone-fits : w.nested ≡ false → length (first ++ only) ≤ length s
-  alone-fits q = same-fits (path_bytes b home w) (first ++ only) (length s) (alone-is q) room
+  module _ (s : List ℕ) (room : length (path_bytes b home w) ≤ length s) where
+    alone-fits : w.outer ≡ None → length (first ++ outer w.own) ≤ length s
+    alone-fits q = rw (alone-is q) at room
 
-  nested-fits : w.nested ≡ true → length ((first ++ outer) ++ last) ≤ length s
-  nested-fits q = same-fits (path_bytes b home w) ((first ++ outer) ++ last) (length s) (nested_is q) room
+    nested-fits : (u : Name) → w.outer ≡ Some u → length ((first ++ outer u) ++ last) ≤ length s
+    nested-fits u q = rw (nested_is u q) at room
 
-  two-fit : w.nested ≡ true → length (first ++ outer) ≤ length s
-  two-fit q = front_fits (first ++ outer) last (length s) (nested-fits q)
+    two-fit : (u : Name) → w.outer ≡ Some u → length (first ++ outer u) ≤ length s
+    two-fit u q = front_fits (first ++ outer u) last (length s) (nested-fits u q)
 
-  first_fits : length first ≤ length s
-  first_fits = go w.nested refl
-    where
-      go : (t : Bool) → w.nested ≡ t → length first ≤ length s
-      go true q = front_fits first outer (length s) (two-fit q)
-      go false q = front_fits first only (length s) (alone-fits q)
+    first_fits : length first ≤ length s
+    first_fits = go w.outer refl
+      where
+        go : (o : Option Name) → w.outer ≡ o → length first ≤ length s
+        go None q = front_fits first (outer w.own) (length s) (alone-fits q)
+        go (Some u) q = front_fits first (outer u) (length s) (two-fit u q)
 
-  module _ (o : List ℕ) (i : ℕ) (v : Wrote s first o i) where
-    only-fits : w.nested ≡ false → length only ≤ length (take (length o - i) (drop i o))
-    only-fits q = next-room s first only o i v (alone-fits q)
+    module _ (o : List ℕ) (i : ℕ) (v : Wrote s first o i) where
+      only-fits : w.outer ≡ None → length (outer w.own) ≤ length (take (length o - i) (drop i o))
+      only-fits q = next-room s first (outer w.own) o i v (alone-fits q)
 
-    only-done : (t : List ℕ) (j : ℕ) → w.nested ≡ false → Wrote (take (length o - i) (drop i o)) only t j
-        → Wrote s (path_bytes b home w) (take i o ++ (t ++ drop (length o - i) (drop i o))) (i + j)
-    only-done t j q x = wrote_as (wrote-rest v x) (sym (alone-is q))
+      only-done : (t : List ℕ) (j : ℕ) → w.outer ≡ None → Wrote (take (length o - i) (drop i o)) (outer w.own) t j
+          → Wrote s (path_bytes b home w) (take i o ++ (t ++ drop (length o - i) (drop i o))) (i + j)
+      only-done t j q x = wrote_as (wrote-rest v x) (sym (alone-is q))
 
-    module _ (q : w.nested ≡ true) where
-      outer-fits : length outer ≤ length (take (length o - i) (drop i o))
-      outer-fits = next-room s first outer o i v (two-fit q)
+      module _ (u : Name) (q : w.outer ≡ Some u) where
+        outer-fits : length (outer u) ≤ length (take (length o - i) (drop i o))
+        outer-fits = next-room s first (outer u) o i v (two-fit u q)
 
-      module _ (t : List ℕ) (j : ℕ) (x : Wrote (take (length o - i) (drop i o)) outer t j) where
-        abbrev both : List ℕ
-        both = take i o ++ (t ++ drop (length o - i) (drop i o))
+        module _ (t : List ℕ) (j : ℕ) (x : Wrote (take (length o - i) (drop i o)) (outer u) t j) where
+          abbrev both : List ℕ
+          both = take i o ++ (t ++ drop (length o - i) (drop i o))
 
-        last_fits : length last ≤ length (take (length both - (i + j)) (drop (i + j) both))
-        last_fits = next-room s (first ++ outer) last both (i + j) (wrote-rest v x) (nested-fits q)
+          last_fits : length last ≤ length (take (length both - (i + j)) (drop (i + j) both))
+          last_fits = next-room s (first ++ outer u) last both (i + j) (wrote-rest v x) (nested-fits u q)
 
-        done : (u : List ℕ) (k : ℕ) → Wrote (take (length both - (i + j)) (drop (i + j) both)) last u k
-            → Wrote s (path_bytes b home w) (take (i + j) both ++ (u ++ drop (length both - (i + j)) (drop (i + j) both))) (i + j + k)
-        done u k z = wrote_as (wrote-rest (wrote-rest v x) z) (sym (nested_is q))
+          done : (r : List ℕ) (k : ℕ) → Wrote (take (length both - (i + j)) (drop (i + j) both)) last r k
+              → Wrote s (path_bytes b home w) (take (i + j) both ++ (r ++ drop (length both - (i + j)) (drop (i + j) both))) (i + j + k)
+          done r k z = wrote_as (wrote-rest (wrote-rest v x) z) (sym (nested_is u q))
 
 pub put_place-first-requires : goal.put_place-first-requires
-put_place-first-requires c = (c.requires.0, search first_fits)
+put_place-first-requires c = (c.requires.0, first_fits _ _ _ _ c.requires.2)
 
 pub put_behind-requires : goal.put_behind-requires
-put_behind-requires c = (c.requires.1.outer, search outer-fits)
+put_behind-requires c =
+    let q = c.in-Some.is in
+    (c.requires.1.outer _ q, outer-fits _ _ _ _ c.requires.2 _ _ c.put_place-first.ensures _ q)
 
-pub put_behind-requires-then-w : goal.put_behind-requires-then-w
-put_behind-requires-then-w c = (c.requires.1.own, search last_fits)
+pub put_behind-requires-in-Some : goal.put_behind-requires-in-Some
+put_behind-requires-in-Some c =
+    (c.requires.1.own, last_fits _ _ _ _ c.requires.2 _ _ c.put_place-first.ensures _ c.in-Some.is _ _ c.put_behind.ensures)
 
-pub returns-then-w : goal.returns-then-w
-returns-then-w c = search done
+pub returns-in-Some : goal.returns-in-Some
+returns-in-Some c =
+    let q = c.in-Some.is in
+    done _ _ _ _ c.requires.2 _ _ c.put_place-first.ensures _ q _ _ c.put_behind.ensures _ _ c.put_behind-in-Some.ensures
 
-pub put_behind-requires-2 : goal.put_behind-requires-2
-put_behind-requires-2 c = (c.requires.1.own, search only-fits)
+pub put_behind-requires-in-None : goal.put_behind-requires-in-None
+put_behind-requires-in-None c = (c.requires.1.own, only-fits _ _ _ _ c.requires.2 _ _ c.put_place-first.ensures c.in-None.is)
 
-pub returns : goal.returns
-returns c = search only-done
+pub returns-in-None : goal.returns-in-None
+returns-in-None c =
+    only-done _ _ _ _ c.requires.2 _ _ c.put_place-first.ensures _ _ c.in-None.is c.put_behind-in-None.ensures

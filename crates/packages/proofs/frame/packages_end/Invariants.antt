@@ -1,7 +1,7 @@
--- `packages::frame::packages_end` meets its contract. What is left from here on ends where all of it does. Assumes nothing.
+-- The loop's invariant: what is left from here on ends where all of it does.
 use mathlib.Core.Path.{◌≡◌}
 use mathlib.Core.List.{List}
-use Prim.Native.Nat.{ℕ, ◌≤◌, ◌<◌}
+use Prim.Native.Nat.{ℕ, ◌-◌, ◌≤◌, ◌<◌}
 use lib.ListN.{length}
 use Rattle.packages.specs.Framing.{packages_end}
 use Rattle.packages.proofs.frame.packages_end.Given as goal
@@ -12,8 +12,5 @@ pub record Left (s : List ℕ) (from count at left : ℕ) : Type 0 where
   pub in_it : at ≤ length s
   pub same : packages_end s at left ≡ packages_end s from count
 
-abbrev pub invariant-loop-left : goal.invariant-loop-left
-invariant-loop-left l = Left l.c l.from l.count l.at l.left
-
-abbrev pub decreases-loop-left : goal.decreases-loop-left
-decreases-loop-left l = l.left
+abbrev pub invariant-loop : goal.invariant-loop
+invariant-loop l = Left l.c l.from l.count l.at (l.count - l.counter)

@@ -55,25 +55,25 @@ module _ (b : List ℕ) (w : Row) (place : Place) (h : Holds b place (instance_b
           → Wrote s (names_at b w) (take (i + j) both ++ (u ++ drop (length both - (i + j)) (drop (i + j) both))) (i + j + k)
       done u k z = rw is (wrote-rest (wrote-rest v x) z)
 
-pub instance-place-requires : goal.instance-place-requires
-instance-place-requires c = instance-room c.requires.0
+pub instance-requires : goal.instance-requires
+instance-requires c = instance-room c.requires.0
 
 pub put_place_text-first-requires : goal.put_place_text-first-requires
 put_place_text-first-requires c =
-    let h = (held _ _ _ c.requires.0 (λ j. (c.shared_slice_known-1.given j).fits) c.instance-place.ensures) in
+    let h = (held _ _ _ c.requires.0 (λ j. (c.type_inv.b j).fits) c.instance.ensures) in
     (holds-own h, first_fits _ _ _ h c.args.out.now c.requires.1)
 
 pub put_place_text-requires : goal.put_place_text-requires
 put_place_text-requires c =
-    let h = (held _ _ _ c.requires.0 (λ j. (c.shared_slice_known-1.given j).fits) c.instance-place.ensures) in
+    let h = (held _ _ _ c.requires.0 (λ j. (c.type_inv.b j).fits) c.instance.ensures) in
     (c.requires.0.own, second_fits _ _ _ h _ c.requires.1 _ _ c.put_place_text-first.ensures)
 
 pub put_outer-requires : goal.put_outer-requires
 put_outer-requires c =
-    let h = (held _ _ _ c.requires.0 (λ j. (c.shared_slice_known-1.given j).fits) c.instance-place.ensures) in
+    let h = (held _ _ _ c.requires.0 (λ j. (c.type_inv.b j).fits) c.instance.ensures) in
     (c.requires.0, third-fits _ _ _ h _ c.requires.1 _ _ c.put_place_text-first.ensures _ _ c.put_place_text.ensures)
 
 pub returns : goal.returns
 returns c =
-    let h = (held _ _ _ c.requires.0 (λ j. (c.shared_slice_known-1.given j).fits) c.instance-place.ensures) in
+    let h = (held _ _ _ c.requires.0 (λ j. (c.type_inv.b j).fits) c.instance.ensures) in
     done _ _ _ h _ c.requires.1 _ _ c.put_place_text-first.ensures _ _ c.put_place_text.ensures _ _ c.put_outer.ensures

@@ -1,22 +1,17 @@
 -- `compose::compose` meets its contract: the path behind the first four bytes, then its length in these. Assumes nothing.
-use mathlib.Core.Path.{refl, sym, ◌∙◌}
+use mathlib.Core.Path.{◌≡◌, sym, ◌∙◌}
 use native.Mathlib.Omega.{arith}
 use Rattle.base.specs.NumberLaws.{length-be_bytes}
-use Rattle.pool.specs.ComposeLaws.{compose_roomy, compose_text}
+use Rattle.objects.specs.Numbers.{path_no}
+use Rattle.objects.specs.Told.{known, told}
+use Rattle.pool.specs.ComposeLaws.{compose_text}
 use Rattle.pool.proofs.compose.compose.Goals as goal
 
-pub returns-then-len-gt252 : goal.returns-then-len-gt252
-returns-then-len-gt252 c = record { few = omega arith; is = λ ne o i st. absurd (ne refl) }
+pub returns-clause-few : goal.returns-clause-few
+returns-clause-few c = omega (arith, c.put_be32.ensures.size, length-be_bytes 4 c.in_ok-path.path.len)
 
-pub put_path-requires : goal.put_path-requires
-put_path-requires c =
-    let st = c.requires.0.stands in
-    compose_roomy c.args.limit c.args.out.now c.requires.2 st (sym c.in-Known.is ∙ c.measure-path.ensures _ _ st) (omega arith)
-
-pub returns-in-Unknown : goal.returns-in-Unknown
-returns-in-Unknown c = record { few = omega arith; is = λ ne o i st. absurd (ne refl) }
-
-pub returns-else-len-gt252 : goal.returns-else-len-gt252
-returns-else-len-gt252 c =
-    let v = c.put_be32.ensures in
-    record { few = omega (arith, v.size, length-be_bytes 4 c.in-Known.len); is = λ ne o i st. compose_text c.args.limit c.args.out.now c.requires.2 st (sym c.in-Known.is ∙ c.measure-path.ensures o i st) (omega (arith, c.if-len-gt252.false)) c.put_path.ensures v }
+pub returns-clause-is : goal.returns-clause-is
+returns-clause-is c = λ o i st.
+    let p = c.in_ok-path.path in
+    let q : known p.len p.objects ≡ told (path_no c.args.limit o i) = sym c.in_ok-path.was ∙ c.measure.ensures o i st in
+    compose_text c.args.limit c.args.out.now c.requires.2 st q (omega (arith, c.if-path-gt252.false)) c.put_path.ensures c.put_be32.ensures

@@ -4,9 +4,6 @@ use Rattle.resolve.specs.MarkLaws.{marks_then}
 use Rattle.pool.specs.PoolLaws.{left-resolved, left-marks}
 use Rattle.pool.proofs.rows.pool_texts.Goals as goal
 
-pub clear_slots-requires : goal.clear_slots-requires
-clear_slots-requires c = c.requires.0.room
-
 pub pool_rows-requires : goal.pool_rows-requires
 pool_rows-requires c =
     let p = c.requires.0 in
@@ -25,8 +22,9 @@ pool_rows-requires c =
       c.requires.1,
     )
 
-pub returns : goal.returns
-returns c =
-    let p = c.requires.0 in
-    let l = c.clear_slots.ensures in
-    let e = c.pool_rows.ensures in record { is = λ q o xs lookups refs t x y. e.is q o xs lookups refs (left-resolved t (omega arith) y (omega (arith, p.room)) l) x y; marks = marks_then (left-marks c.args.n l (omega (arith, p.room))) e.marks }
+pub returns-clause-is : goal.returns-clause-is
+returns-clause-is c = λ q o xs lookups refs t x y.
+    c.pool_rows.ensures.is q o xs lookups refs (left-resolved t (omega arith) y (omega (arith, c.requires.0.room)) c.clear_slots.ensures) x y
+
+pub returns-clause-marks : goal.returns-clause-marks
+returns-clause-marks c = marks_then (left-marks c.args.n c.clear_slots.ensures (omega (arith, c.requires.0.room))) c.pool_rows.ensures.marks

@@ -1,31 +1,54 @@
--- `report::call::with_table` meets its contract.
-use mathlib.Core.Path.{refl}
+-- `report::call::with_table` meets its contract. Assumes nothing.
+use Rattle.std.specs.Prelude.{Ok, Err}
+use Rattle.std.proofs.lemmas.Result.{err_from_is_err_and}
+use mathlib.Core.Path.{◌≡◌, refl}
+use lib.ListN.{length}
+use borrow.Author.Rules.{rules}
+use Rattle.base.specs.Reading.{run}
+use Rattle.base.specs.Refusal.{number}
+use Rattle.scriptblock.specs.Script.{script}
+use Rattle.scriptblock.specs.ScriptAnswers.{script_answer}
 use Rattle.objects.specs.EnterLaws.{open_held}
+use Rattle.resolve.specs.Rows.{limits_of}
+use Rattle.walk.specs.Found.{Linked}
 use Rattle.walk.specs.OpenLaws.{begun-bytes, begun-small, opened-script}
 use Rattle.report.specs.CallLaws.{refused-opened, answered-refused}
+use Rattle.report.proofs.call.with_table.Goals.{In_err-map_err, In_ok-map_err}
 use Rattle.report.proofs.call.with_table.Goals as goal
 
+-- the script objects, entered and linked, or what the block is refused for
+entered : (c : In_ok-map_err) → let a = c.args in
+    (script_answer (run script 0 a.c.now.script.now) ≡ Ok a.layout) × Linked a.c.now.script.now a.layout.count c.enter_script.new.w
+    × (length c.enter_script.new.w ≡ length a.w.now)
+entered c = search rules
+
+script-refused : (c : In_err-map_err) → let e = c.in_err-map_err.field-0.0 in
+    (script_answer (run script 0 c.args.c.now.script.now) ≡ Err (number e.why)) × (e.block ≡ 1)
+script-refused c = search rules
+
 pub note_names-requires : goal.note_names-requires
-note_names-requires c =
-    let (b, q, r, l) = c.requires in
-    (open_held _ q (begun-bytes b), refl)
+note_names-requires c = (open_held _ c.requires.0 (begun-bytes c.args.c.now.begun), refl)
 
-pub enter_script-fault-requires : goal.enter_script-fault-requires
-enter_script-fault-requires c =
-    let (b, q, r, l) = c.requires in
-    (q, c.note_names.ensures.0, r, begun-small b)
+pub enter_script-requires : goal.enter_script-requires
+enter_script-requires c =
+    let (q, r) = c.requires in
+    (q, c.note_names.ensures.0, r, begun-small c.args.c.now.begun)
 
-pub returns-then-fault-ne0 : goal.returns-then-fault-ne0
-returns-then-fault-ne0 c =
-    let (b, q, r, l) = c.requires in
-    answered-refused (refused-opened (opened-script _ _ b (c.enter_script-fault.ensures.refused c.if-fault-ne0.true)) c.refuse.ensures)
+pub returns-in_err-map_err : goal.returns-in_err-map_err
+returns-in_err-map_err c =
+    let a = c.args in
+    let p = err_from_is_err_and c.from_residual.result c.from_residual.ensures.1 in
+    let (e, b) = script-refused (goal.at.returns-in_err-map_err c).In_err-map_err in
+    let opens = opened-script (limits_of a.m.lookups a.m.objects) _ a.c.now.begun e in
+    rw (p.1, p.2) (answered-refused (refused-opened opens (rw b)))
+
+pub invariant_of-s : goal.invariant_of-s
+invariant_of-s c =
+    let (a, k, n) = entered (goal.at.invariant_of-s c).In_ok-map_err in
+    record { noted = (a, c.note_names.ensures.0); fits = begun-bytes c.args.c.now.begun }
 
 pub with_objects-requires : goal.with_objects-requires
-with_objects-requires c =
-    let (b, q, r, l) = c.requires in
-    let (a, k, n) = c.enter_script-fault.ensures.entered c.if-fault-ne0.false in
-    (b, (a, c.note_names.ensures.0), k, l)
+with_objects-requires c = let (a, k, n) = entered (goal.at.with_objects-requires c).In_ok-map_err in (refl, k)
 
 pub returns : goal.returns
-returns c =
-    rw (c.enter_script-fault.ensures.entered c.if-fault-ne0.false).2 at c.with_objects.ensures
+returns c = rw (entered (goal.at.returns c).In_ok-map_err).2 at c.with_objects.ensures

@@ -1,11 +1,8 @@
 -- `chain::class_at` meets its contract. Assumes nothing.
 use mathlib.Core.Path.{◌∙◌}
-use Rattle.resolve.specs.ClassesLaws.{classes-table, look-number}
+use Rattle.resolve.specs.ClassesLaws.{look-number}
 use Rattle.resolve.specs.Lent.{lent-part}
 use Rattle.resolve.proofs.chain.class_at.Goals as goal
-
-pub look_up-requires : goal.look_up-requires
-look_up-requires c = rw (lent-part) (classes-table c.requires.0.holds.classes)
 
 pub returns : goal.returns
 returns c = λ s b o xs t.

@@ -2,6 +2,7 @@
 use mathlib.Core.List.{List}
 use mathlib.Core.Path.{◌≡◌}
 use Prim.Native.Nat.{ℕ}
+use Rattle.base.specs.OneMore.{one_more}
 use Rattle.scriptblock.specs.Script.{Objects}
 use Rattle.meaning.specs.Reference.{Ref}
 use Rattle.meaning.specs.Scan.{Class}
@@ -9,10 +10,11 @@ use Rattle.resolve.specs.ChainLaws.{Onward}
 use Rattle.resolve.specs.Rows.{class_number, Keeps, Tables, SomeClasses}
 use Rattle.resolve.proofs.chain.end_of.Given as goal
 
-abbrev pub invariant-loop-k : goal.invariant-loop-k
-invariant-loop-k l =
-    SomeClasses l.n l.k l.w
-    × ((s b : List ℕ) (o : Objects) (xs : List Class) (r : Ref) → Tables s b o l.n xs l.w → Keeps xs l.lo l.hi r → l.class ≡ class_number xs r → Onward l.lookups xs o r l.x l.y l.k l.left)
+abbrev pub invariant-loop-next : goal.invariant-loop-next
+invariant-loop-next l =
+    SomeClasses l.n (one_more l.next) l.w
+    × ((s b : List ℕ) (o : Objects) (xs : List Class) (r : Ref) → Tables s b o l.n xs l.w → Keeps xs l.lo l.hi r → one_more l.fn.class ≡ class_number xs r
+    → Onward l.lookups xs o r l.x l.y (one_more l.next) l.left)
 
-abbrev pub decreases-loop-k : goal.decreases-loop-k
-decreases-loop-k l = l.left
+abbrev pub decreases-loop-next : goal.decreases-loop-next
+decreases-loop-next l = l.left

@@ -1,51 +1,45 @@
 -- `classes::enter_class` meets its contract: the key is added, and the record filled in; or the table has the key. Assumes nothing.
-use mathlib.Core.Path.{◌≡◌, sym, ◌∙◌}
-use mathlib.Core.Bool.{false≢true}
+use Rattle.std.specs.Prelude.{Option, Some, None, is_some}
+use mathlib.Core.Path.{◌≡◌, refl, sym}
+use mathlib.Core.Bool.{true, false, false≢true}
+use Prim.Native.Nat.{ℕ, ◌<◌}
 use native.Mathlib.Omega.{arith}
-use Rattle.base.specs.NumberLaws.{Bytes}
+use Rattle.base.specs.OneMore.{one_more}
 use Rattle.packages.specs.ClassPath.{home-holds}
 use Rattle.packages.specs.RowLaws.{class-holds}
-use Rattle.table.specs.TableLaws.{holds-linked}
 use Rattle.resolve.specs.ClassesEntered.{class-keyed, class-entered, class-stands}
 use Rattle.resolve.specs.Classes.{class_from}
 use Rattle.resolve.proofs.classes.enter_class.Goals as goal
 
-pub add-requires : goal.add-requires
-add-requires c =
-    let t = c.requires.classes in
-    record { linked = rw t.0.count at (holds-linked t.0.holds.keys); n_nonzero = (t.1, t.2, t.3) }
+found : (x : Option ℕ) → true ≡ is_some x → 0 < one_more x
+found None e = absurd (false≢true (sym e))
+found (Some k) e = omega arith
 
-pub returns-then-add-gt0 : goal.returns-then-add-gt0
-returns-then-add-gt0 c =
-    let a = c.args in record { new = λ e. absurd (false≢true e); old = λ e s xs z q t k. class-stands a.k (class_from s a.at a.i) k t (class-keyed a.i z q c.export_at-e.ensures) c.add.ensures.found c.if-add-gt0.true; size = c.add.auto.w }
+missing : (x : Option ℕ) → false ≡ is_some x → x ≡ None
+missing None e = refl
+missing (Some k) e = absurd (false≢true e)
+
+pub returns-then-is_some-clause-old : goal.returns-then-is_some-clause-old
+returns-then-is_some-clause-old c =
+    let a = c.args in
+    let g = rw c.block-b.ensures.0 at c.export-e.ensures in
+    λ e s xs z q t k. class-stands a.k (class_from s a.at a.i) k t (class-keyed a.i z q g) c.add.ensures.found (found c.add.result c.if-is_some.ensures)
 
 pub class_path_len-len-requires : goal.class_path_len-len-requires
 class_path_len-len-requires c =
-    let b = c.args.b.now in
-    let y : Bytes b = λ i. (c.shared_slice_known-1.given i).fits in
-    let p = c.requires.package_in in
-    (rw c.home_at-home.ensures (home-holds p.0 y), rw c.row_at-row.ensures (class-holds p.0 y c.args.i p.3))
+    let p = c.args.p.now in
+    let (e, f) = c.block-b.ensures in (
+      rw (c.home-home.ensures, e, f) (home-holds p.accepted p.fits),
+      rw (c.row-row.ensures, e, f) (class-holds p.accepted p.fits c.args.i c.requires.export.0),
+    )
 
-pub meaning-m-requires : goal.meaning-m-requires
-meaning-m-requires c = let p = c.requires.package_in in (p.0, p.2)
-
-pub record_at-requires : goal.record_at-requires
-record_at-requires c =
-    omega (arith, c.requires.classes.3)
-
-pub describe-requires : goal.describe-requires
-describe-requires c =
-    omega (arith, c.requires.classes.3, c.record_at.ensures, c.add.auto.w)
-
-pub returns : goal.returns
-returns c =
+pub returns-clause-new : goal.returns-clause-new
+returns-clause-new c =
     let a = c.args in
-    let p = c.requires.package_in in
-    let y : Bytes a.b.now = λ i. (c.shared_slice_known-1.given i).fits in
-    let none : c.add.result ≡ 0 = omega (arith, c.if-add-gt0.false) in record {
-      new = λ e s xs z q t l. class-entered p.0 y a.i p.3 z q c.export_at-e.ensures p.4
-          c.home_at-home.ensures c.row_at-row.ensures c.meaning-m.ensures (omega (arith, c.meaning-m.type_inv)) (omega (arith, c.meaning-m.type_inv))
-          c.class_path_len-len.ensures.0 c.class_path_len-len.ensures.1 t l (c.add.ensures.added none) c.record_at.ensures c.describe.ensures;
-      old = λ e. absurd (false≢true (sym e));
-      size = c.describe.auto.w ∙ c.add.auto.w;
-    }
+    let p = a.p.now in
+    let q = c.requires.export in
+    let (e, f) = c.block-b.ensures in
+    let (n, short) = c.class_path_len-len.ensures in
+    λ z s xs x i t l. class-entered p.accepted p.fits a.i q.0 x i (rw e at c.export-e.ensures) q.1
+    (rw (e, f) at c.home-home.ensures) (rw (e, f) at c.row-row.ensures) (rw e at c.meaning-m.ensures) (omega (arith, c.meaning-m.type_inv)) (omega (arith, c.meaning-m.type_inv))
+    n short t l (c.add.ensures.added (missing c.add.result c.if-is_some.ensures)) c.record_at.ensures c.describe.ensures

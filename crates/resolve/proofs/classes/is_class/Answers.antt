@@ -4,6 +4,8 @@ use mathlib.Core.Bool.{Bool, true, false, not, ◌&&◌}
 use borrow.Author.Tests.{eq-eqb, ne_eqb}
 use lib.Dec.{eqb}
 use Rattle.base.specs.Index.{kind}
+use Rattle.base.specs.declared.index.Kind.TheVariants.{Script, Null}
+use Rattle.base.proofs.Numbers.{kind-same}
 use Rattle.meaning.specs.ClassTest.{names_class}
 use Rattle.meaning.specs.Path.{path_of}
 use Rattle.meaning.specs.Scan.{is_class}
@@ -32,19 +34,19 @@ returns-then-e-eq0 c = λ o t.
     no_hash (eqb (kind s.e.class) 1) (eqb (kind s.e.parent) 3) (eqb s.e.hash 0) (names_class (path_of s.limit o s.e.class))
     (eq-eqb s.e.hash 0 c.if-e-eq0.true)
 
-pub returns-then-index_kind-ne1 : goal.returns-then-index_kind-ne1
+pub returns-in_default : goal.returns-in_default
 unfolding is_class
-returns-then-index_kind-ne1 c = λ o t.
+returns-in_default c = λ o t.
     let s = c.args in
     no_class_lem (eqb (kind s.e.class) 1) (eqb (kind s.e.parent) 3) (eqb s.e.hash 0) (names_class (path_of s.limit o s.e.class))
-    (ne_eqb (kind s.e.class) 1 (λ z. c.if-index_kind-ne1.true (c.index_kind.ensures ∙ z)))
+    (ne_eqb (kind s.e.class) 1 (λ z. c.in_default.not-Script (kind-same _ Script (c.index_kind.ensures ∙ z))))
 
-pub returns-then-index_kind-eq3 : goal.returns-then-index_kind-eq3
+pub returns-in-Null : goal.returns-in-Null
 unfolding is_class
-returns-then-index_kind-eq3 c = λ o t.
+returns-in-Null c = λ o t.
     let s = c.args in
     no_parent (eqb (kind s.e.class) 1) (eqb (kind s.e.parent) 3) (eqb s.e.hash 0) (names_class (path_of s.limit o s.e.class))
-    (eq-eqb (kind s.e.parent) 3 (sym c.index_kind-2.ensures ∙ c.if-index_kind-eq3.true))
+    (eq-eqb (kind s.e.parent) 3 (sym c.in-Null.ensures))
 
 pub returns : goal.returns
 unfolding is_class
@@ -52,6 +54,6 @@ returns c = λ o t.
     let s = c.args in
     c.is_class.ensures o t
     ∙ by-path (eqb (kind s.e.class) 1) (eqb (kind s.e.parent) 3) (eqb s.e.hash 0) (names_class (path_of s.limit o s.e.class))
-    (eq-eqb (kind s.e.class) 1 (sym c.index_kind.ensures ∙ c.if-index_kind-ne1.false))
-    (ne_eqb (kind s.e.parent) 3 (λ z. c.if-index_kind-eq3.false (c.index_kind-2.ensures ∙ z)))
+    (eq-eqb (kind s.e.class) 1 (sym c.in-Script.ensures))
+    (ne_eqb (kind s.e.parent) 3 (λ z. c.in_default-index_kind.not-Null (kind-same _ Null (c.index_kind-2.ensures ∙ z))))
     (ne_eqb s.e.hash 0 c.if-e-eq0.false)

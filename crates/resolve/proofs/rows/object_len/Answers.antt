@@ -1,40 +1,33 @@
 -- `rows::object_len` meets its contract. Assumes nothing.
-use mathlib.Core.Path.{◌≡◌, sym, ◌∙◌, ap}
-use Prim.Native.Nat.{ℕ, suc, ◌-◌}
+use mathlib.Core.Path.{sym, ap}
 use native.Mathlib.Omega.{arith}
-use Rattle.meaning.specs.Report.{or_unknown, size}
-use Rattle.meaning.specs.Resolve.{path_text}
+use Rattle.base.specs.OneMore.{one_more}
 use Rattle.objects.specs.Numbers.{path_no}
 use Rattle.objects.specs.PathLength.{path-short}
-use Rattle.resolve.specs.Rows.{path_by}
 use Rattle.resolve.specs.ResolvingLaws.{unknown-size, told-unknown, told-known}
 use Rattle.resolve.proofs.rows.object_len.Goals as goal
 
-pub returns-then-k-eq0 : goal.returns-then-k-eq0
-returns-then-k-eq0 c = (λ s b o xs t. rw c.if-k-eq0.true (sym unknown-size), omega arith)
+pub returns-in_default : goal.returns-in_default
+returns-in_default c = (λ s b o xs t. rw c.in_default.is (sym unknown-size), omega arith)
 
-pub returns-in-Unknown : goal.returns-in-Unknown
-returns-in-Unknown c = (
-  λ s b o xs t.
-      let a = c.args in
-      let z : a.k ≡ suc (a.k - 1) = omega arith in
-      sym (told-unknown (path_no a.objects o (a.k - 1)) (c.path_len-p.ensures b o t.objects) c.in-Unknown.is)
-      ∙ ap (λ (k : ℕ). size (or_unknown (path_text (path_by a.objects o k)))) (sym z),
-  omega arith,
-)
-
-pub returns-in-Known : goal.returns-in-Known
-returns-in-Known c =
+pub returns-in-Some-path_len : goal.returns-in-Some-path_len
+returns-in-Some-path_len c =
     let a = c.args in
-    let t = c.requires.0.holds in
-    let r = c.path_len-p in (
-      λ s b o xs t.
-          let z : a.k ≡ suc (a.k - 1) = omega arith in
-          (told-known (path_no a.objects o (a.k - 1)) (r.ensures b o t.objects) _ _ c.in-Known.is).0
-          ∙ ap (λ (k : ℕ). size (or_unknown (path_text (path_by a.objects o k)))) (sym z),
+    let i = c.in-Some.i in
+    let p = c.in-Some-path_len in
+    let own = c.requires.0 in
+    let r = c.path_len.ensures in (
+      λ s b o xs t. rw c.in-Some.is (told-known (path_no a.objects o i) (r b o t.objects) p.path p.is).0,
       omega (
         arith,
-        (told-known (path_no a.objects c.requires.0.objects (a.k - 1)) (r.ensures c.requires.0.block c.requires.0.objects t.objects) _ _ c.in-Known.is).1,
-        path-short t.objects t.bytes a.objects (a.k - 1) (omega (arith, t.count)),
+        (told-known (path_no a.objects own.objects i) (r own.block own.objects own.holds.objects) p.path p.is).1,
+        path-short own.holds.objects own.holds.bytes a.objects i (omega (arith, own.holds.count, ap one_more c.in-Some.is)),
       ),
     )
+
+pub returns-in-None : goal.returns-in-None
+returns-in-None c = (
+  λ s b o xs t.
+      rw c.in-Some.is (sym (told-unknown (path_no c.args.objects o c.in-Some.i) (c.path_len.ensures b o t.objects) c.in-None.is)),
+  omega arith,
+)

@@ -2,7 +2,7 @@
 -- total is that of the first r. Assumes nothing.
 use mathlib.Core.List.{List}
 use mathlib.Core.Path.{◌≡◌}
-use Prim.Native.Nat.{ℕ, ◌-◌, ◌*◌, ◌≤◌}
+use Prim.Native.Nat.{ℕ, ◌*◌, ◌≤◌}
 use lib.ListN.{length, take}
 use Rattle.base.specs.Find.{sum}
 use Rattle.scriptblock.specs.Script.{Objects}
@@ -15,9 +15,6 @@ use Rattle.resolve.proofs.rows.resolve_all.Given as goal
 
 abbrev pub invariant-loop-r : goal.invariant-loop-r
 invariant-loop-r l =
-    (l.r ≤ l.rows) × MarksKept l.n l.rows l.initial.w l.w × (l.total ≤ 17041700 * l.r)
+    MarksKept l.n l.rows l.initial.w l.w × (l.total ≤ 17041700 * l.r)
     × ((s b : List ℕ) (o : Objects) (xs : List Class) (refs : List Ref) → Kept s b o l.n xs refs l.initial.w → length refs ≡ l.rows
     → Part l.lookups s b o l.n xs refs l.r l.w × (l.total ≡ sum (target_size (limits_of l.lookups l.objects) xs o) (take l.r refs)))
-
-abbrev pub decreases-loop-r : goal.decreases-loop-r
-decreases-loop-r l = l.rows - l.r

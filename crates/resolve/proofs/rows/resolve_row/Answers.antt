@@ -1,25 +1,12 @@
 -- `rows::resolve_row` meets its contract. Assumes nothing.
 use mathlib.Core.Path.{refl, ◌∙◌, ap}
+use Prim.Native.Nat.{◌*◌}
 use native.Mathlib.Omega.{arith}
+use Rattle.std.proofs.Common.{length-drop}
 use Rattle.resolve.specs.Rows.{columns_of, limits_of}
-use Rattle.resolve.specs.RowsLaws.{object-inside}
-use Rattle.resolve.specs.ResolvingLaws.{row_room, row-means, row-resolved}
+use Rattle.resolve.specs.RowsLaws.{class-inside, object-inside}
+use Rattle.resolve.specs.ResolvingLaws.{row-means, row-resolved}
 use Rattle.resolve.proofs.rows.resolve_row.Goals as goal
-
-pub overflow_add-at : goal.overflow_add-at
-overflow_add-at c = omega (arith, row_room c.requires.0.holds)
-
-pub overflow_mul-at : goal.overflow_mul-at
-overflow_mul-at c = omega (arith, row_room c.requires.0.holds)
-
-pub overflow_sub-at : goal.overflow_sub-at
-overflow_sub-at c = omega (arith, row_room c.requires.0.holds)
-
-pub get64-requires : goal.get64-requires
-get64-requires c = omega (arith, row_room c.requires.0.holds)
-
-pub get64-requires-2 : goal.get64-requires-2
-get64-requires-2 c = omega (arith, row_room c.requires.0.holds)
 
 pub target_len-len-requires : goal.target_len-len-requires
 target_len-len-requires c =
@@ -29,6 +16,12 @@ target_len-len-requires c =
       c.requires.1,
     )
 
+pub kept-requires : goal.kept-requires
+kept-requires c =
+    let p = c.requires.0 in
+    let l = c.target_of-t.ensures p.corpus p.block p.objects p.classes p.ref p.holds.tables (row-means p.holds c.get64.ensures c.get64-2.ensures) in
+    omega (arith, l.class-is, class-inside p.classes p.ref, p.holds.tables.classes.keys.room, length-drop (48 * c.args.n) c.args.w.now)
+
 pub object_of-requires : goal.object_of-requires
 object_of-requires c =
     let p = c.requires.0 in
@@ -37,16 +30,13 @@ object_of-requires c =
       omega (arith, l.object-is, object-inside p.holds.tables c.args.lookups p.ref),
     )
 
-pub keep-requires : goal.keep-requires
-keep-requires c = omega (arith, row_room c.requires.0.holds)
-
 pub returns : goal.returns
 returns c =
     let a = c.args in
     let e = c.target_len-len.ensures in (
       λ s b o xs ref t.
           let l = c.target_of-t.ensures s b o xs ref t.tables (row-means t c.get64.ensures c.get64-2.ensures) in
-          row-resolved t (limits_of a.lookups a.objects) refl c.keep.ensures (λ j. (c.slice_known-1.given j).fits) l.class-is
+          row-resolved t (limits_of a.lookups a.objects) refl c.keep.ensures (λ j. (c.type_inv.w j).fits) (c.kept.ensures ∙ l.class-is)
           (c.object_of.ensures s b o xs t.tables ∙ ap (columns_of b o) l.object-is) (e.0 s b o xs a.lookups ref t.tables l),
       e.1,
     )

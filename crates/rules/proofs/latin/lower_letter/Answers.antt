@@ -1,14 +1,14 @@
 -- `lower_letter`: one law of `lower` for each case. Assumes nothing.
-use mathlib.Core.Path.{sym}
+use mathlib.Core.Path.{◌≡◌, sym}
 use native.Mathlib.Omega.{arith}
 use Rattle.rules.specs.LatinLaws.{lower_letter, lower-small, times_stays}
 use Rattle.rules.proofs.latin.lower_letter.Goals as goal
 
-pub returns-then-c-gt222 : goal.returns-then-c-gt222
-returns-then-c-gt222 c = sym (lower-small _ c.if-c-gt222.true c.requires.1)
+pub returns-in-215 : goal.returns-in-215
+returns-in-215 c = let e : c.args.c ≡ 0xD7 = omega arith in rw e (sym times_stays)
 
-pub returns-then-c-eq215 : goal.returns-then-c-eq215
-returns-then-c-eq215 c = rw c.if-c-eq215.true (sym times_stays)
+pub returns-in-215-2 : goal.returns-in-215-2
+returns-in-215-2 c = sym (lower-small _ (omega arith) c.requires.1)
 
-pub returns : goal.returns
-returns c = sym (lower_letter _ c.requires.0 (omega arith) c.if-c-eq215.false)
+pub returns-in_default : goal.returns-in_default
+returns-in_default c = sym (lower_letter _ c.requires.0 (omega arith) (λ e. omega arith))

@@ -1,8 +1,8 @@
 -- `lower_middle`: by range. Assumes nothing.
-use mathlib.Core.Path.{sym}
 use native.Mathlib.Omega.{arith}
+use Rattle.rules.specs.QuickLaws.{ruled}
 use Rattle.rules.specs.Runs.{at_590}
 use Rattle.rules.proofs.rules.lower_middle.Goals as goal
 
-pub returns-then-c-lt4256 : goal.returns-then-c-lt4256
-returns-then-c-lt4256 c = sym (at_590 _ (omega arith) (omega arith))
+pub returns-in-0-to-4255 : goal.returns-in-0-to-4255
+returns-in-0-to-4255 c = ruled (at_590 _ (omega arith) (omega arith)) (omega arith)

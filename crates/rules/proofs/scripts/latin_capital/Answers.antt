@@ -1,18 +1,10 @@
 -- `latin_capital`: one test for each range. Assumes nothing.
-use mathlib.Core.Bool.{◌&&◌}
-use lib.Dec.{leb, ltb}
+use Rattle.std.proofs.Math.Bool.{or_assoc, or-false}
+use Rattle.lower.proofs.Within.{cmp-le, cmp-lt}
 use Rattle.rules.specs.Quick.{among}
-use Rattle.rules.specs.QuickLaws.{or_false}
 use Rattle.rules.specs.Scripts.{latin_capitals}
 use Rattle.rules.proofs.scripts.latin_capital.Goals as goal
 
 pub returns : goal.returns
 unfolding among latin_capitals
-returns c =
-    let u = c.args.u in
-    rw (
-      c.within.ensures,
-      c.within-2.ensures,
-      c.within-3.ensures,
-      or_false (leb 0xD8 u && ltb u 0xDF),
-    )
+returns c = rw (c.contains.ensures.value, c.contains-2.ensures.value, c.contains-3.ensures.value) (simp (cmp-le, cmp-lt, or_assoc, or-false))

@@ -14,8 +14,8 @@ sum c = rw (c.greek_step.ensures.0, c.pick.ensures.0, c.greek_capital.ensures)
 unit : (c : After-greek_step) → lower_greek c.args.u < 65536
 unit c = greek_unit _ c.ranges.u.fits
 
-pub overflow_add-result-2 : goal.overflow_add-result-2
-overflow_add-result-2 c = record { fits = omega (arith, sum (goal.at.overflow_add-result-2 c).After-greek_step, unit (goal.at.overflow_add-result-2 c).After-greek_step) }
+pub overflow_add-result : goal.overflow_add-result
+overflow_add-result c = record { fits = omega (arith, sum (goal.at.overflow_add-result c).After-greek_step, unit (goal.at.overflow_add-result c).After-greek_step) }
 
 pub returns : goal.returns
 returns c = (sum (goal.at.returns c).After-greek_step, omega (arith, sum (goal.at.returns c).After-greek_step, unit (goal.at.returns c).After-greek_step))

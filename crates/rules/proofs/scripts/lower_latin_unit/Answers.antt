@@ -23,8 +23,8 @@ sum c =
 unit : (c : After-pick-2) → lower_latin c.args.u < 65536
 unit c = latin-unit _ c.ranges.u.fits
 
-pub overflow_add-result-2 : goal.overflow_add-result-2
-overflow_add-result-2 c = record { fits = omega (arith, sum (goal.at.overflow_add-result-2 c).After-pick-2, unit (goal.at.overflow_add-result-2 c).After-pick-2) }
+pub overflow_add-result : goal.overflow_add-result
+overflow_add-result c = record { fits = omega (arith, sum (goal.at.overflow_add-result c).After-pick-2, unit (goal.at.overflow_add-result c).After-pick-2) }
 
 pub returns : goal.returns
 returns c = (sum (goal.at.returns c).After-pick-2, omega (arith, sum (goal.at.returns c).After-pick-2, unit (goal.at.returns c).After-pick-2))

@@ -1,16 +1,14 @@
 -- `scan::check::check_packages` meets its contract. The loop's invariant: those passed are accepted. Assumes nothing.
-use mathlib.Core.Path.{◌≡◌, sym, ◌∙◌, ap}
+use Rattle.std.specs.Prelude.{Err, Ok, Result}
+use mathlib.Core.Path.{◌≡◌, refl, sym, ◌∙◌, ap}
 use mathlib.Core.List.{List}
 use Prim.Native.Nat.{ℕ, ◌+◌, ◌<◌}
 use borrow.Author.Rules.{rules}
-use Rattle.base.specs.Never.{never}
 use Rattle.base.specs.Reading.{run_block}
 use Rattle.zen.specs.Answers.{answer}
 use Rattle.zen.specs.AnswersLaws.{rejected-got}
 use Rattle.zen.specs.Zen.{package_block}
 use Rattle.zen.specs.declared.zen.Layout.{Layout}
-use Rattle.zen.specs.declared.zen.Package.{Package}
-use Rattle.zen.specs.declared.zen.Package.TheVariants.{Accepted, Rejected}
 use Rattle.meaning.specs.Call.{read_from}
 use Rattle.packages.specs.Framing.{parts_at}
 use Rattle.packages.specs.Walk.{block_at, place_of, AllRead}
@@ -18,21 +16,17 @@ use Rattle.packages.specs.WalkLaws.{place_none, all_none, all-less, all-accepted
 use Rattle.scan.specs.Blocks.{blocks_as}
 use Rattle.scan.specs.BlockLaws.{blocks-all, blocks-stop}
 use Rattle.scan.specs.PlaceLaws.{next_here, site-here}
-use Rattle.scan.specs.declared.check.Blocks.TheVariants.{Fine, Refused}
 use Rattle.scan.proofs.check.check_packages.Goals as goal
 
-module _ (c : List ℕ) (at i here : ℕ) (h : here ≡ place_of c at i) (r : AllRead c at i) (b : List ℕ) (q : b ≡ block_at c here) (x : Package) (e : x ≡ answer (run_block package_block b)) where
+module _ (c : List ℕ) (at i here : ℕ) (h : here ≡ place_of c at i) (r : AllRead c at i) (b : List ℕ) (q : b ≡ block_at c here) (x : (Result Layout ℕ)) (e : x ≡ answer (run_block package_block b)) where
   same : x ≡ answer (run_block package_block (block_at c (place_of c at i)))
   same = e ∙ ap (λ z. answer (run_block package_block z)) (q ∙ ap (block_at c) h)
 
-  stopped : (k : ℕ) → x ≡ Rejected k → (count : ℕ) → i < count → Refused k (i + 2) ≡ blocks_as (read_from 2 (parts_at c at count))
+  stopped : (k : ℕ) → x ≡ Err k → (count : ℕ) → i < count → Err (k, i + 2) ≡ blocks_as (read_from 2 (parts_at c at count))
   stopped k z count l = blocks-stop c at count i k l r (rejected-got (run_block package_block (block_at c (place_of c at i))) (sym same ∙ z))
 
-  passed : (l : Layout) → x ≡ Accepted l → AllRead c at (i + 1)
+  passed : (l : Layout) → x ≡ Ok l → AllRead c at (i + 1)
   passed l z = all-accepted r l (sym same ∙ z)
-
-not-fine : {A : Type 0} {k j : ℕ} → Refused k j ≡ Fine → A
-not-fine e = never (cc)
 
 pub loop-i-init : goal.loop-i-init
 loop-i-init c = (sym (place_none _ _), search rules, all_none)
@@ -40,11 +34,10 @@ loop-i-init c = (sym (place_none _ _), search rules, all_none)
 pub block_at-requires : goal.block_at-requires
 block_at-requires c = site-here c.requires.0 c.loop-i.invariant.0 (search rules)
 
-pub returns-in-Rejected : goal.returns-in-Rejected
-returns-in-Rejected c =
+pub returns-in-Err-clause-is : goal.returns-in-Err-clause-is
+returns-in-Err-clause-is c =
     let l = c.loop-i in
-    let x = c.check_package.ensures in
-    record { is = stopped _ _ l.i _ l.invariant.0 l.invariant.2 _ c.block_at.ensures _ x _ c.in-Rejected.is _ (search rules); all = not-fine }
+    stopped _ _ l.i _ l.invariant.0 l.invariant.2 _ c.block_at.ensures _ c.in-Err.ensures _ refl _ (search rules)
 
 pub next_at-here-requires : goal.next_at-here-requires
 next_at-here-requires c = site-here c.requires.0 c.loop-i.invariant.0 (search rules)
@@ -54,11 +47,11 @@ loop-i-preserved c =
     let l = c.loop-i in (
       next_here _ _ l.i l.invariant.0 c.next_at-here.ensures,
       search rules,
-      passed _ _ l.i _ l.invariant.0 l.invariant.2 _ c.block_at.ensures _ c.check_package.ensures _ c.in-Accepted.is,
+      passed _ _ l.i _ l.invariant.0 l.invariant.2 _ c.block_at.ensures _ c.in_default.ensures _ refl,
     )
 
 pub returns : goal.returns
 returns c =
     let l = c.loop-i in
     let a = all-less c.args.count (search rules) l.invariant.2 in
-    record { is = blocks-all _ _ _ a; all = λ z. a }
+    record { is = blocks-all _ _ _ a; all = a }

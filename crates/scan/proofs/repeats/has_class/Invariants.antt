@@ -1,7 +1,7 @@
 -- `scan::repeats::has_class` meets its contract. The loop's invariant: none of those passed is. Assumes nothing.
 use mathlib.Core.Path.{◌≡◌}
 use mathlib.Core.Bool.{false}
-use Prim.Native.Nat.{◌-◌, ◌≤◌}
+use Prim.Native.Nat.{◌≤◌}
 use Rattle.base.specs.Reading.{gives, run}
 use Rattle.scriptblock.specs.Script.{Objects, script}
 use Rattle.packages.specs.Package.{read_in}
@@ -9,7 +9,4 @@ use Rattle.scan.specs.Repeats.{has_class}
 use Rattle.scan.proofs.repeats.has_class.Given as goal
 
 abbrev pub invariant-loop-j : goal.invariant-loop-j
-invariant-loop-j l = (l.j ≤ l.n) × ((o : Objects) → run script 0 l.s ≡ gives o → has_class l.limit o (read_in l.b).exports l.j l.hash ≡ false)
-
-abbrev pub decreases-loop-j : goal.decreases-loop-j
-decreases-loop-j l = l.n - l.j
+invariant-loop-j l = (l.j ≤ l.n) × ((o : Objects) → run script 0 l.s.block.now ≡ gives o → has_class l.limit o (read_in l.b.bytes.now).exports l.j l.hash ≡ false)

@@ -1,5 +1,5 @@
 -- `scan::repeats::has_public` meets its contract. Assumes nothing.
-use mathlib.Core.Path.{◌≡◌, sym, ◌∙◌}
+use mathlib.Core.Path.{◌≡◌, sym, ◌∙◌, ap}
 use mathlib.Core.Bool.{Bool, false}
 use mathlib.Core.List.{List}
 use Prim.Native.Nat.{ℕ}
@@ -23,13 +23,14 @@ module _ (limit : ℕ) (o : Objects) (c : List ℕ) (here id hash own : ℕ) (f 
   unfolding has_public
   same e b is p k r h = rw (eq-eqb (be_at 8 c here) id (sym f ∙ e), ← is, ← export_count_lem k) h
 
-pub parts_in-p-requires : goal.parts_in-p-requires
-parts_in-p-requires c = rw c.block_at-b.ensures c.requires.0.is
-
-pub returns-then-id_at-id : goal.returns-then-id_at-id
-returns-then-id_at-id c = λ o q.
-    same _ o _ _ _ _ _ c.id_at.ensures c.if-id_at-id.true _ c.block_at-b.ensures _ c.parts_in-p.ensures _
-    (c.has_class.ensures o q)
+pub accepted_block-b-requires : goal.accepted_block-b-requires
+accepted_block-b-requires c = rw c.block_at.ensures c.requires.is
 
 pub returns : goal.returns
-returns c = λ o q. other _ o _ _ _ _ _ c.id_at.ensures c.if-id_at-id.false
+returns c = λ o q.
+    let b = c.accepted_block-b.result in
+    same _ o _ _ _ _ _ c.id_at.ensures c.if-id_at-id.false _ (ap (λ x. x.now) c.accepted_block-b.ensures ∙ c.block_at.ensures) _ b.accepted _
+    (c.has_class.ensures o q)
+
+pub returns-then-id_at-id : goal.returns-then-id_at-id
+returns-then-id_at-id c = λ o q. other _ o _ _ _ _ _ c.id_at.ensures c.if-id_at-id.true

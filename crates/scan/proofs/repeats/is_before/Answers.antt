@@ -8,32 +8,32 @@ use Rattle.scan.specs.PlaceLaws.{next_here, site-here, read_here}
 use Rattle.scan.specs.RepeatLaws.{below_none, below_more, below-yes, below_end}
 use Rattle.scan.proofs.repeats.is_before.Goals as goal
 
-pub loop-i-init : goal.loop-i-init
+pub loop-init : goal.loop-init
 unfolding is_before
-loop-i-init c = (sym (place_none _ _), search rules, λ o q. below_none _)
+loop-init c = (sym (place_none _ _), search rules, λ o q. below_none _)
 
 pub has_public-requires : goal.has_public-requires
 has_public-requires c =
     let p = c.requires in
-    (read_here p.0 c.loop-i.invariant.0 (search rules) p.1, p.2)
+    read_here p.0 c.loop.invariant.0 (search rules) p.1
 
 pub returns-then-has_public : goal.returns-then-has_public
 unfolding is_before
 returns-then-has_public c = λ o q.
     let a = c.args in
-    let l = c.loop-i in
+    let l = c.loop in
     let e = c.has_public.ensures o q ∙ ap (λ x. has_public a.limit o (package_at a.c.now x) a.id a.hash) l.invariant.0 in
-    sym (below-yes _ _ l.i (search rules) (sym e ∙ c.if-has_public.true))
+    sym (below-yes _ _ l.counter (search rules) (sym e ∙ c.if-has_public.true))
 
 pub next_at-here-requires : goal.next_at-here-requires
-next_at-here-requires c = site-here c.requires.0 c.loop-i.invariant.0 (search rules)
+next_at-here-requires c = site-here c.requires.0 c.loop.invariant.0 (search rules)
 
-pub loop-i-preserved : goal.loop-i-preserved
+pub loop-preserved : goal.loop-preserved
 unfolding is_before
-loop-i-preserved c =
+loop-preserved c =
     let a = c.args in
-    let l = c.loop-i in (
-      next_here _ _ l.i l.invariant.0 c.next_at-here.ensures,
+    let l = c.loop in (
+      next_here _ _ l.counter l.invariant.0 c.next_at-here.ensures,
       search rules,
       λ o q.
           let e = c.has_public.ensures o q ∙ ap (λ x. has_public a.limit o (package_at a.c.now x) a.id a.hash) l.invariant.0 in
@@ -42,4 +42,4 @@ loop-i-preserved c =
 
 pub returns : goal.returns
 unfolding is_before
-returns c = λ o q. let l = c.loop-i in below_end _ _ _ l.invariant.1 (search rules) (l.invariant.2 o q)
+returns c = λ o q. let l = c.loop in below_end _ _ _ l.invariant.1 (search rules) (l.invariant.2 o q)

@@ -21,5 +21,5 @@ module _ (limit : ℕ) (o : Objects) (hash : ℕ) (e : Export) where
 pub returns-then-e-hash : goal.returns-then-e-hash
 returns-then-e-hash c = λ o q. c.is_class.ensures o q ∙ sym (same _ o _ _ c.if-e-hash.true)
 
-pub returns : goal.returns
-returns c = λ o q. sym (other _ o _ _ c.if-e-hash.false)
+pub returns-else-e-hash : goal.returns-else-e-hash
+returns-else-e-hash c = λ o q. ne_eqb _ _ c.if-e-hash.false ∙ sym (other _ o _ _ c.if-e-hash.false)

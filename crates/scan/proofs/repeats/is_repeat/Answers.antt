@@ -1,6 +1,6 @@
 -- `scan::repeats::is_repeat` meets its contract: a class; its key is that of one before it in its package, or in a package before. Assumes
 -- nothing.
-use mathlib.Core.Path.{◌≡◌}
+use mathlib.Core.Path.{◌≡◌, ◌∙◌}
 use mathlib.Core.Bool.{Bool, true, false}
 use mathlib.Core.List.{List}
 use Prim.Native.Nat.{ℕ}
@@ -27,14 +27,14 @@ module _ (limit : ℕ) (o : Objects) (c : List ℕ) (at i : ℕ) (es : List Expo
     before y r h = rw (← q, ← f, z, ← g, y) h
 
 pub returns-then-has_class : goal.returns-then-has_class
-returns-then-has_class c = λ o q.
-    own _ o _ _ _ _ _ _ _ c.export_at-e.ensures _ (c.is_class.ensures o q) c.if-is_class.true _
+returns-then-has_class c = λ o q. c.if-has_class.true ∙
+    own _ o _ _ _ _ _ _ _ c.export-e.ensures _ (c.is_class.ensures o q) c.if-not-is_class.false _
     (c.has_class.ensures o q) c.if-has_class.true
 
-pub returns-then-is_class : goal.returns-then-is_class
-returns-then-is_class c = λ o q.
-    before _ o _ _ _ _ _ _ _ c.export_at-e.ensures _ (c.is_class.ensures o q) c.if-is_class.true _
+pub returns-else-has_class : goal.returns-else-has_class
+returns-else-has_class c = λ o q.
+    before _ o _ _ _ _ _ _ _ c.export-e.ensures _ (c.is_class.ensures o q) c.if-not-is_class.false _
     (c.has_class.ensures o q) c.if-has_class.false _ (c.is_before.ensures o q)
 
-pub returns : goal.returns
-returns c = λ o q. other _ o _ _ _ _ _ _ _ c.export_at-e.ensures _ (c.is_class.ensures o q) c.if-is_class.false
+pub returns-then-not-is_class : goal.returns-then-not-is_class
+returns-then-not-is_class c = λ o q. other _ o _ _ _ _ _ _ _ c.export-e.ensures _ (c.is_class.ensures o q) c.if-not-is_class.true

@@ -1,7 +1,7 @@
 -- `scan::repeats::repeat_block` meets its contract. The loop's invariant: none of the packages passed has one. Assumes nothing.
 use mathlib.Core.Path.{◌≡◌}
 use mathlib.Core.Bool.{false}
-use Prim.Native.Nat.{◌-◌, ◌≤◌}
+use Prim.Native.Nat.{◌≤◌}
 use Rattle.base.specs.Reading.{gives, run}
 use Rattle.scriptblock.specs.Script.{Objects, script}
 use Rattle.packages.specs.Walk.{place_of}
@@ -10,7 +10,4 @@ use Rattle.scan.proofs.repeats.repeat_block.Given as goal
 
 abbrev pub invariant-loop-i : goal.invariant-loop-i
 invariant-loop-i l =
-    (l.here ≡ place_of l.c l.at l.i) × (l.i ≤ l.count) × ((o : Objects) → run script 0 l.s ≡ gives o → below l.i (repeats_in l.limit o l.c l.at) ≡ false)
-
-abbrev pub decreases-loop-i : goal.decreases-loop-i
-decreases-loop-i l = l.count - l.i
+    (l.here ≡ place_of l.c l.at l.i) × (l.i ≤ l.count) × ((o : Objects) → run script 0 l.s.block.now ≡ gives o → below l.i (repeats_in l.limit o l.c l.at) ≡ false)

@@ -1,5 +1,5 @@
 -- `scan::repeats::repeats_in` meets its contract. The loop's invariant: none of the exports passed is one. Assumes nothing.
-use mathlib.Core.Path.{◌≡◌, sym, ◌∙◌}
+use mathlib.Core.Path.{◌≡◌, sym, ◌∙◌, ap}
 use mathlib.Core.List.{List}
 use Prim.Native.Nat.{ℕ}
 use native.Mathlib.Omega.{arith}
@@ -24,13 +24,13 @@ whole limit o c at i here id b p h e q k = rw (export_count_lem k, q, e, h)
 pub id_at-id-requires : goal.id_at-id-requires
 id_at-id-requires c = let p = c.requires in (site-here p.0 p.2 (omega arith)).0
 
-pub block_at-b-requires : goal.block_at-b-requires
-block_at-b-requires c = let p = c.requires in site-here p.0 p.2 (omega arith)
+pub block_at-requires : goal.block_at-requires
+block_at-requires c = let p = c.requires in site-here p.0 p.2 (omega arith)
 
-pub parts_in-p-requires : goal.parts_in-p-requires
-parts_in-p-requires c =
+pub accepted_block-b-requires : goal.accepted_block-b-requires
+accepted_block-b-requires c =
     let p = c.requires in
-    rw c.block_at-b.ensures (read_here p.0 p.2 (omega arith) p.1).is
+    rw c.block_at.ensures (read_here p.0 p.2 (omega arith) p.1).is
 
 pub loop-j-init : goal.loop-j-init
 loop-j-init c = (search rules, λ o q. below_none _)
@@ -38,12 +38,12 @@ loop-j-init c = (search rules, λ o q. below_none _)
 pub is_repeat-requires : goal.is_repeat-requires
 is_repeat-requires c =
     let p = c.requires in
-    record { sites = (sites-less p.0 _ (omega arith), all-less _ (omega arith) p.1, p.3); package_in = (c.parts_in-p.ensures, search rules) }
+    record { sites = (sites-less p.0 _ (omega arith), all-less _ (omega arith) p.1); number = search rules }
 
 pub returns-then-is_repeat : goal.returns-then-is_repeat
 returns-then-is_repeat c = λ o q.
     let k = whole _ o _ _ _ _ _ _ _ c.requires.2
-    c.id_at-id.ensures c.block_at-b.ensures c.parts_in-p.ensures in
+    c.id_at-id.ensures (ap (λ x. x.now) c.accepted_block-b.ensures ∙ c.block_at.ensures) c.accepted_block-b.result.accepted in
     sym (sym k ∙ below-yes _ _ c.loop-j.j (search rules) (sym (c.is_repeat.ensures o q) ∙ c.if-is_repeat.true))
 
 pub loop-j-preserved : goal.loop-j-preserved
@@ -52,5 +52,5 @@ loop-j-preserved c = (search rules, λ o q. below_more _ _ (c.loop-j.invariant.1
 pub returns : goal.returns
 returns c = λ o q.
     let k = whole _ o _ _ _ _ _ _ _ c.requires.2
-    c.id_at-id.ensures c.block_at-b.ensures c.parts_in-p.ensures in
+    c.id_at-id.ensures (ap (λ x. x.now) c.accepted_block-b.ensures ∙ c.block_at.ensures) c.accepted_block-b.result.accepted in
     below_end _ _ _ c.loop-j.invariant.0 (search rules) (c.loop-j.invariant.1 o q) ∙ k

@@ -1,7 +1,7 @@
 -- `scan::repeats::repeats_in` meets its contract. The loop's invariant: none of the exports passed is one. Assumes nothing.
 use mathlib.Core.Path.{◌≡◌}
 use mathlib.Core.Bool.{false}
-use Prim.Native.Nat.{◌-◌, ◌≤◌}
+use Prim.Native.Nat.{◌≤◌}
 use Rattle.base.specs.Reading.{gives, run}
 use Rattle.scriptblock.specs.Script.{Objects, script}
 use Rattle.packages.specs.Package.{read_in}
@@ -10,7 +10,4 @@ use Rattle.scan.proofs.repeats.repeats_in.Given as goal
 
 abbrev pub invariant-loop-j : goal.invariant-loop-j
 invariant-loop-j l =
-    (l.j ≤ l.p.count) × ((o : Objects) → run script 0 l.s ≡ gives o → below l.j (is_repeat l.limit o l.c l.at l.i (read_in l.b).exports l.id) ≡ false)
-
-abbrev pub decreases-loop-j : goal.decreases-loop-j
-decreases-loop-j l = l.p.count - l.j
+    (l.j ≤ l.b.parts.count) × ((o : Objects) → run script 0 l.s.block.now ≡ gives o → below l.j (is_repeat l.limit o l.c l.at l.i (read_in l.b.bytes.now).exports l.id) ≡ false)

@@ -1,26 +1,22 @@
--- `find_entry` meets its contract: each turn looks at one entry.
-use mathlib.Core.Path.{sym, ◌∙◌}
-use native.Mathlib.Omega.{arith}
-use Rattle.scriptblock.proofs.Seeking.{seeking_first, seeking_end, seeking_here, seeking_next}
+-- `find_entry` meets its contract: the first entry with the index is found.
+use Prim.Native.Nat.{ℕ, ◌+◌, ◌*◌}
+use mathlib.Core.Path.{◌≡◌}
+use borrow.Author.Rules.{rules}
+use borrow.Author.Tests.{tests}
+use Rattle.std.proofs.lemmas.Iterator.{first_from_Range}
+use Rattle.std.proofs.iter.Serving.{serving}
+use Rattle.base.specs.Number.{le_at}
+use Rattle.scriptblock.proofs.ScriptAccepted.{script-parts}
+use Rattle.scriptblock.proofs.Seeking.{number_found}
 use Rattle.scriptblock.proofs.objects.find_entry.Goals as goal
 
-pub loop-i-init : goal.loop-i-init
-loop-i-init c = seeking_first _ _ _ c.requires
-
-pub overflow_add-at : goal.overflow_add-at
-overflow_add-at c = omega (arith, c.loop-i.invariant.room)
-
-pub le64-requires : goal.le64-requires
-le64-requires c = omega (arith, c.loop-i.invariant.room)
-
-pub returns-then-le64-global : goal.returns-then-le64-global
-returns-then-le64-global c = seeking_here c.loop-i.invariant c.loop-i-test.true (sym c.le64.ensures ∙ c.if-le64-global.true)
-
-pub overflow_add-at-in-loop-i : goal.overflow_add-at-in-loop-i
-overflow_add-at-in-loop-i c = omega (arith, c.loop-i.invariant.room)
-
-pub loop-i-preserved : goal.loop-i-preserved
-loop-i-preserved c = seeking_next c.loop-i.invariant c.loop-i-test.true (λ z. c.if-le64-global.false (c.le64.ensures ∙ z))
+pub find-requires-clause-callable : goal.find-requires-clause-callable
+find-requires-clause-callable c = let h = (script-parts _ _ c.requires).size in grind serving
 
 pub returns : goal.returns
-returns c = seeking_end c.loop-i.invariant c.loop-i-test.false
+returns c =
+    let a = c.args in
+    let at : ℕ → ℕ = λ (k : ℕ). le_at 8 a.b.now (a.l.entries + 32 * k + 8) in
+    let r = first_from_Range _ _ _ c.find.result (λ k. at k ≡ a.global) (λ k. at k ≡ a.global → ⊥) c.find.ensures.ran
+    (λ x q k. search (rules, tests)) (λ x q k. search (rules, tests)) in
+    number_found a.b.now a.global a.l c.requires c.find.result r

@@ -1,29 +1,18 @@
--- The loop's invariant: what is to be found of the entries that are left is what is to be found of all.
-use mathlib.Core.Path.{refl, sym, ◌∙◌}
+-- `is_fresh` meets its contract: each entry is asked.
+use Prim.Native.Nat.{◌+◌, ◌*◌}
+use mathlib.Core.Path.{◌≡◌, refl}
 use native.Mathlib.Omega.{arith}
-use Rattle.scriptblock.specs.ScriptAnswers.{entry_at}
-use Rattle.scriptblock.specs.ScriptFaults.{fresh_end, fresh_fail, fresh-pass}
+use borrow.Author.Rules.{rules}
+use borrow.Author.Tests.{tests}
+use Rattle.std.proofs.lemmas.Iterator.{cases_from_all, YieldsList-from_range}
+use Rattle.base.specs.Number.{le_at}
+use Rattle.scriptblock.proofs.Seeking.{all_in_range, fresh_is}
 use Rattle.scriptblock.proofs.script.is_fresh.Goals as goal
-
-pub loop-left-init : goal.loop-left-init
-loop-left-init c = (c.requires, refl)
-
-pub returns-then-le64-global : goal.returns-then-le64-global
-unfolding entry_at
-returns-then-le64-global c =
-    let l = c.loop-left in
-    let a = c.args in
-    sym (l.invariant.1 ∙ fresh_fail a.b.now a.global l.at l.left (omega arith) (sym c.le64.ensures ∙ c.if-le64-global.true))
-
-pub loop-left-preserved : goal.loop-left-preserved
-unfolding entry_at
-loop-left-preserved c =
-    let l = c.loop-left in
-    let a = c.args in
-    (omega arith, l.invariant.1 ∙ fresh-pass a.b.now a.global l.at l.left (omega arith) (λ z. c.if-le64-global.false (c.le64.ensures ∙ z)))
 
 pub returns : goal.returns
 returns c =
-    let l = c.loop-left in
     let a = c.args in
-    sym (l.invariant.1 ∙ fresh_end a.b.now a.global l.at l.left (omega arith))
+    let r = cases_from_all _ _ _ (λ k. le_at 8 a.b.now (a.from + 32 * k + 8) ≡ a.global → ⊥)
+    (λ k. le_at 8 a.b.now (a.from + 32 * k + 8) ≡ a.global) c.all.ensures.ran
+    (YieldsList-from_range 0 a.n a.n refl (omega arith)) (λ x q k. search (rules, tests)) (λ x q k. search (rules, tests)) in
+    fresh_is a.b.now a.global a.from a.n c.all.result (all_in_range a.n c.all.result _ _ r)

@@ -7,8 +7,8 @@ use Rattle.sections.specs.WrittenLaws.{behind-length, again-length, first-size, 
 use Rattle.sections.proofs.row.put_ref.Goals.{Start}
 use Rattle.sections.proofs.row.put_ref.Goals as goal
 
-room : (c : Start) → 4 + length (ref_bytes c.args.b.now c.args.index) ≤ length c.args.out.now
-room c = first-size (ref_bytes c.args.b.now c.args.index) c.requires.4
+room : (c : Start) → 4 + length (ref_bytes c.args.p.now.bytes.now c.args.index) ≤ length c.args.out.now
+room c = first-size (ref_bytes c.args.p.now.bytes.now c.args.index) c.requires.1
 
 pub slice_bounds-put_reference-count : goal.slice_bounds-put_reference-count
 slice_bounds-put_reference-count c = omega (arith, room (goal.at.slice_bounds-put_reference-count c).Start)
@@ -19,7 +19,7 @@ slice_bounds-put_reference-start c = omega (arith, room (goal.at.slice_bounds-pu
 pub put_reference-n-requires : goal.put_reference-n-requires
 put_reference-n-requires c =
     let r = room (goal.at.put_reference-n-requires c).Start in
-    (c.requires.0, c.requires.1, c.requires.2, c.requires.3, omega (arith, behind-length 4 c.args.out.now (omega arith)))
+    (c.requires.0, omega (arith, behind-length 4 c.args.out.now (omega arith)))
 
 pub put_length-requires : goal.put_length-requires
 put_length-requires c =

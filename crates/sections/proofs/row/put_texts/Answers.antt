@@ -20,8 +20,8 @@ use Rattle.sections.specs.WrittenLaws.{behind, again}
 use Rattle.sections.specs.Pieces.{row_texts, reference_text, row_no, RowDue, TextsPut}
 use Rattle.sections.specs.PieceLaws.{due-holds, texts-are}
 use Rattle.resolve.specs.declared.rows.Led.{Led}
-use Rattle.sections.specs.declared.texts.Both.{Both}
-use Rattle.sections.proofs.row.put_texts.Goals.{After-struct_known-1}
+use Rattle.sections.specs.declared.texts.Texts.{Texts}
+use Rattle.sections.proofs.row.put_texts.Goals.{After-put_both-both}
 use Rattle.sections.proofs.row.put_texts.Goals as goal
 
 -- what is due, and its texts in the order in which they are written
@@ -49,7 +49,7 @@ module _ {s b : List ℕ} {n objects : ℕ} {w d : List ℕ} {p : Parts} {v : Ro
     both-fit : length text₂ ≤ length (behind k₁ o₁)
     both-fit = next-room out text₁ text₂ o₁ k₁ w₁ two
 
-    module _ {o₂ : List ℕ} {t₂ : Both}
+    module _ {o₂ : List ℕ} {t₂ : Texts}
         (put₂ : (o : Objects) (xs : List Class) (lookups : ℕ) (r : Ref) → Target s b o n xs lookups objects w r l
         → length (both_texts (limits_of lookups objects) xs o r) ≤ length (behind k₁ o₁) → BothPut (limits_of lookups objects) xs o r (behind k₁ o₁) o₂ t₂) where
       both-put : BothPut (limits_of lookups objects) xs o ref (behind k₁ o₁) o₂ t₂
@@ -71,57 +71,50 @@ module _ {s b : List ℕ} {n objects : ℕ} {w d : List ℕ} {p : Parts} {v : Ro
         done = record { wrote = rw (texts-are a due y) (wrote-rest both-wrote w₃); class = both-put.class; native = both-put.native }
 
 -- names and classes are written
-second : (c : After-struct_known-1) → let k = c.put_names-first.result + c.put_both-both.result.size in
+second : (c : After-put_both-both) → let k = c.put_names-first.result + c.put_both-both.result.size in
     (k ≤ length c.args.out.now) × (k ≤ length (again c.put_names-first.result c.put_names-first.new.out c.put_both-both.new.out))
 second c =
     let r = c.requires.texts_room in
-    let y : Bytes c.args.b.now = λ j. (c.shared_slice_known-4-1.given j).fits in
-    both_in c.requires.package_in.0 y r.due c.args.out.now r.room c.put_names-first.ensures c.put_both-both.ensures
+    both_in c.args.p.now.accepted c.args.p.now.fits r.due c.args.out.now r.room c.put_names-first.ensures c.put_both-both.ensures
 
 pub put_names-first-requires : goal.put_names-first-requires
 put_names-first-requires c =
-    let a = c.requires.package_in.0 in
+    let a = c.args.p.now.accepted in
     let r = c.requires.texts_room in
-    let y : Bytes c.args.b.now = λ j. (c.shared_slice_known-4-1.given j).fits in
-    (due-holds a r.due y, names-fit a y r.due c.args.out.now r.room)
+    (due-holds a r.due c.args.p.now.fits, names-fit a c.args.p.now.fits r.due c.args.out.now r.room)
 
 pub put_both-both-requires : goal.put_both-both-requires
 put_both-both-requires c =
     let r = c.requires.texts_room in
-    let y : Bytes c.args.b.now = λ j. (c.shared_slice_known-4-1.given j).fits in
     record {
       read = r.read;
       classes = r.classes;
       lookups = r.lookups;
       ref = _;
       target = r.due.target;
-      room = both-fit c.requires.package_in.0 y r.due c.args.out.now r.room c.put_names-first.ensures;
+      room = both-fit c.args.p.now.accepted c.args.p.now.fits r.due c.args.out.now r.room c.put_names-first.ensures;
     }
 
 pub overflow_add-second : goal.overflow_add-second
-overflow_add-second c = omega (arith, (second (goal.at.overflow_add-second c).After-struct_known-1).0)
+overflow_add-second c = omega (arith, (second (goal.at.overflow_add-second c).After-put_both-both).0)
 
 pub slice_bounds-put_ref-count : goal.slice_bounds-put_ref-count
-slice_bounds-put_ref-count c = (second (goal.at.slice_bounds-put_ref-count c).After-struct_known-1).1
+slice_bounds-put_ref-count c = (second (goal.at.slice_bounds-put_ref-count c).After-put_both-both).1
 
 pub slice_bounds-put_ref-start : goal.slice_bounds-put_ref-start
-slice_bounds-put_ref-start c = (second (goal.at.slice_bounds-put_ref-start c).After-struct_known-1).1
+slice_bounds-put_ref-start c = (second (goal.at.slice_bounds-put_ref-start c).After-put_both-both).1
 
 pub put_ref-requires : goal.put_ref-requires
 put_ref-requires c =
-    let k = c.requires.package_in in
     let r = c.requires.texts_room in
-    let y : Bytes c.args.b.now = λ j. (c.shared_slice_known-4-1.given j).fits in
-    (k.0, k.1, k.2, k.3, ref-fits k.0 y r.due c.args.out.now r.room c.put_names-first.ensures c.put_both-both.ensures)
+    (c.requires.class_kind, ref-fits c.args.p.now.accepted c.args.p.now.fits r.due c.args.out.now r.room c.put_names-first.ensures c.put_both-both.ensures)
 
 pub overflow_add-size : goal.overflow_add-size
 overflow_add-size c =
     let r = c.requires.texts_room in
-    let y : Bytes c.args.b.now = λ j. (c.shared_slice_known-4-1.given j).fits in
-    let t = done c.requires.package_in.0 y r.due c.args.out.now r.room c.put_names-first.ensures c.put_both-both.ensures c.put_ref.ensures in
+    let t = done c.args.p.now.accepted c.args.p.now.fits r.due c.args.out.now r.room c.put_names-first.ensures c.put_both-both.ensures c.put_ref.ensures in
     omega (arith, t.wrote.fits)
 
 pub returns : goal.returns
 returns c = λ o xs lookups id i due room.
-    let y : Bytes c.args.b.now = λ j. (c.shared_slice_known-4-1.given j).fits in
-    done c.requires.package_in.0 y due c.args.out.now room c.put_names-first.ensures c.put_both-both.ensures c.put_ref.ensures
+    done c.args.p.now.accepted c.args.p.now.fits due c.args.out.now room c.put_names-first.ensures c.put_both-both.ensures c.put_ref.ensures

@@ -17,7 +17,7 @@ use Rattle.packages.specs.Row.{home_in}
 use Rattle.packages.specs.declared.names.Name.{Name}
 use Rattle.packages.specs.declared.package.Parts.{Parts}
 use Rattle.sections.specs.Sections.{head_of}
-use Rattle.sections.proofs.section.put_head.Goals.{After-home_at-home}
+use Rattle.sections.proofs.section.put_head.Goals.{After-home-home}
 use Rattle.sections.proofs.section.put_head.Goals as goal
 
 record Known (b : List ℕ) (p : Parts) (id : ℕ) (home : Name) (s : List ℕ) : Type 0 where
@@ -66,24 +66,24 @@ module _ {b : List ℕ} {p : Parts} {id : ℕ} {home : Name} {s : List ℕ} (k :
           → Wrote s (head_of (package_in id b)) (take (i + j) both ++ (u ++ drop (length both - (i + j)) (drop (i + j) both))) (i + j + m)
       done u m z = rw is (wrote-rest (wrote-rest v x) z)
 
-known : (c : After-home_at-home) → let a = c.args in Known a.b.now a.p a.id c.home_at-home.result a.out.now
+known : (c : After-home-home) → let a = c.args in Known a.p.now.bytes.now a.p.now.parts a.id c.home-home.result a.out.now
 known c =
-    record { read = c.requires.0; bytes = λ j. (c.shared_slice_known-1.given j).fits; at = c.home_at-home.ensures; fits = c.requires.3 }
+    record { read = c.args.p.now.accepted; bytes = c.args.p.now.fits; at = rw (c.block.ensures.0, c.block.ensures.1) at c.home-home.ensures; fits = c.requires.1 }
 
 pub put_be64-k-requires : goal.put_be64-k-requires
-put_be64-k-requires c = first_fits (known (goal.at.put_be64-k-requires c).After-home_at-home)
+put_be64-k-requires c = first_fits (known (goal.at.put_be64-k-requires c).After-home-home)
 
 pub put_place_text-requires : goal.put_place_text-requires
 put_place_text-requires c =
-    let k = known (goal.at.put_place_text-requires c).After-home_at-home in
+    let k = known (goal.at.put_place_text-requires c).After-home-home in
     (held k, second_fits k c.put_be64-k.new.out c.put_be64-k.result c.put_be64-k.ensures)
 
 pub put_be32-requires : goal.put_be32-requires
 put_be32-requires c =
-    third-fits (known (goal.at.put_be32-requires c).After-home_at-home) c.put_be64-k.new.out c.put_be64-k.result c.put_be64-k.ensures c.put_place_text.new.out c.put_place_text.result
+    third-fits (known (goal.at.put_be32-requires c).After-home-home) c.put_be64-k.new.out c.put_be64-k.result c.put_be64-k.ensures c.put_place_text.new.out c.put_place_text.result
     c.put_place_text.ensures
 
 pub returns : goal.returns
 returns c =
-    done (known (goal.at.returns c).After-home_at-home) c.put_be64-k.new.out c.put_be64-k.result c.put_be64-k.ensures c.put_place_text.new.out c.put_place_text.result
+    done (known (goal.at.returns c).After-home-home) c.put_be64-k.new.out c.put_be64-k.result c.put_be64-k.ensures c.put_place_text.new.out c.put_place_text.result
     c.put_place_text.ensures c.put_be32.new.out c.put_be32.result c.put_be32.ensures

@@ -56,7 +56,7 @@ holds-size c = filled-inside (c.loop.invariant.0.filled c.requires.sections_room
 summed : (c : After-put_section-z)
     → let l = c.loop in
     let u = c.args in
-    (l.size + c.put_section-z.result.size ≤ length u.out.now) × (l.rows + c.put_section-z.result.rows ≤ length u.w.now)
+    (l.size + c.put_section-z.result.size ≤ length u.out.now) × (l.rows + c.put_section-z.result.rows ≤ length u.src.now.work.now)
 summed c =
     let t = c.loop.invariant.0 in
     let (h, a) = c.requires.sections_room in
@@ -65,15 +65,10 @@ summed c =
 pub loop-init : goal.loop-init
 loop-init c =
     let z = c.args in (
-      record { low = omega arith; place = sym (place_none z.c.now z.from); marks = sym (marks-first z.c.now z.from); filled = λ h a. filled_none z.out.now },
+      record { place = sym (place_none z.src.now.corpus.now z.from); marks = sym (marks-first z.src.now.corpus.now z.from); filled = λ h a. filled_none z.out.now },
       c.requires.sites.2,
       c.requires.sites.3,
     )
-
-pub look_ahead-ahead-requires : goal.look_ahead-ahead-requires
-look_ahead-ahead-requires c =
-    let l = c.loop in
-    (rows-room c.args.n c.args.w.now c.requires.marks_in.0 c.requires.marks_in.1, l.invariant.1)
 
 pub slice_bounds-put_section-count : goal.slice_bounds-put_section-count
 slice_bounds-put_section-count c = (holds-size (goal.at.slice_bounds-put_section-count c).At-loop).0
@@ -94,7 +89,7 @@ put_section-z-requires c =
         l.invariant.2,
       );
       section_room = (h, room t c.loop-test.true h a);
-      rows_marked = rw t.place (rows-marked c.args.n c.args.w.now c.requires.sites.0 c.requires.sites.1 c.requires.marks_in.0 c.requires.marks_in.1 l.counter c.loop-test.true t.marks);
+      rows_marked = rw t.place (rows-marked c.args.src.now.objects c.args.src.now.work.now c.requires.sites.0 c.requires.sites.1 c.requires.marks_in.0 c.requires.marks_in.1 l.counter c.loop-test.true t.marks);
     }
 
 pub overflow_add-size : goal.overflow_add-size
@@ -105,20 +100,6 @@ pub overflow_add-rows : goal.overflow_add-rows
 overflow_add-rows c =
     omega (arith, (summed (goal.at.overflow_add-rows c).After-put_section-z).1)
 
-pub next_at-at-requires : goal.next_at-at-requires
-next_at-at-requires c =
-    let l = c.loop in
-    let k = c.requires.sites.0.site l.counter c.loop-test.true in
-    rw l.invariant.0.place (k.starts, k.stops)
-
-pub overflow_step : goal.overflow_step
-overflow_step c =
-    omega (arith, c.loop-test.true, c.ranges)
-
-pub loop-smaller : goal.loop-smaller
-loop-smaller c =
-    omega (arith, c.loop-test.true)
-
 pub loop-preserved : goal.loop-preserved
 loop-preserved c =
     let l = c.loop in
@@ -126,8 +107,7 @@ loop-preserved c =
     let t = l.invariant.0 in
     let (h, a) = c.requires.sections_room in (
       record {
-        low = omega (arith, c.loop-test.true);
-        place = c.next_at-at.ensures ∙ rw t.place (sym (place-next u.c.now u.from l.counter));
+        place = c.next_at-at.ensures ∙ rw t.place (sym (place-next u.src.now.corpus.now u.from l.counter));
         marks = marked t c.loop-test.true h a (c.put_section-z.ensures.is h (room t c.loop-test.true h a));
         filled = λ h a. more t c.loop-test.true h a (c.put_section-z.ensures.is h (room t c.loop-test.true h a));
       },
@@ -142,6 +122,6 @@ pub returns : goal.returns
 returns c = λ h a.
     let l = c.loop in
     let u = c.args in
-    let ps = packages_at u.c.now u.from u.count in
-    let e : l.counter ≡ length ps = omega (arith, c.loop-test.false, l.invariant.0.low, packages-length u.c.now u.from u.count) in
-    (filled-all refs_of (section_of u.objects h) ps l.counter e (l.invariant.0.filled h a)).wrote
+    let ps = packages_at u.src.now.corpus.now u.from u.count in
+    let e : l.counter ≡ length ps = omega (arith, c.loop-test.false, packages-length u.src.now.corpus.now u.from u.count) in
+    (filled-all refs_of (section_of u.src.now.limit h) ps l.counter e (l.invariant.0.filled h a)).wrote

@@ -1,7 +1,7 @@
 -- `section::put_sections` meets its contract. The loop's invariant: the sections of the first i packages are written, and the rows have their marks. Assumes nothing.
 use mathlib.Core.Path.{◌≡◌}
 use mathlib.Core.List.{List}
-use Prim.Native.Nat.{ℕ, ◌-◌, ◌≤◌}
+use Prim.Native.Nat.{ℕ}
 use lib.ListN.{length, take}
 use Rattle.base.specs.Find.{flat}
 use Rattle.batch.specs.Notes.{note_count}
@@ -16,14 +16,10 @@ abbrev pub Upto : ℕ → How → List Package → ℕ → List ℕ → List ℕ
 Upto objects h ps i old new z = Filled (flat refs_of (take i ps)) (flat (section_of objects h) (take i ps)) old new z
 
 pub record Sofar (c s : List ℕ) (n : ℕ) (w : List ℕ) (objects from count : ℕ) (old : List ℕ) (i at : ℕ) (new : List ℕ) (z : Section) : Type 0 where
-  pub low : i ≤ count
   pub place : at ≡ place_of c from i
   pub marks : z.rows ≡ length (marks_in c from i)
   pub filled : (h : How) → SectionsRoom c s n w objects from count old h → Upto objects h (packages_at c from count) i old new z
 
 abbrev pub invariant-loop : goal.invariant-loop
 invariant-loop l =
-    Sofar l.c l.s l.n l.w l.objects l.from l.count l.initial.out l.counter l.at l.out (record { size = l.size; rows = l.rows }) × (length l.names ≡ note_count) × (length l.imported ≡ note_count)
-
-abbrev pub decreases-loop : goal.decreases-loop
-decreases-loop l = l.count - l.counter
+    Sofar l.src.corpus.now l.src.script.now l.src.objects l.src.work.now l.src.limit l.from l.count l.initial.out l.counter l.at l.out (record { size = l.size; rows = l.rows }) × (length l.names ≡ note_count) × (length l.imported ≡ note_count)

@@ -4,7 +4,7 @@ use mathlib.Core.Path.{◌≡◌, sym, ◌∙◌, ap}
 use mathlib.Core.Bool.{true}
 use mathlib.Core.List.{List, ◌++◌}
 use mathlib.Core.Option.{Option}
-use Prim.Native.Nat.{ℕ, ◌+◌, ◌-◌, ◌≤◌}
+use Prim.Native.Nat.{ℕ, suc, ◌+◌, ◌-◌, ◌≤◌}
 use native.Mathlib.Omega.{arith}
 use lib.ListN.{length, length-append}
 use Rattle.text.specs.Name.{text_bytes}
@@ -51,9 +51,9 @@ module _ {c b : List ℕ} {o : Objects} {n : ℕ} {xs : List Class} {lookups obj
     }
 
   -- the first is that of a class of the table
-  module _ (z : l.class ≡ 0 → ⊥) where
+  module _ {i : ℕ} (z : l.class ≡ suc i) where
     abbrev text : List ℕ
-    text = text_bytes (class_no xs (l.class - 1)).path
+    text = text_bytes (class_no xs i).path
 
     text-is : text₁ ++ text₂ ≡ text ++ text₂
     text-is = ap (λ (x : Option (List ℕ)). text_bytes (or_unknown x) ++ text₂) (class-some t z)
@@ -61,7 +61,7 @@ module _ {c b : List ℕ} {o : Objects} {n : ℕ} {xs : List Class} {lookups obj
     both-fit : length (text ++ text₂) ≤ length out
     both-fit = omega (arith, ap length text-is, room)
 
-    class-room : ClassRoom c n (l.class - 1) w out
+    class-room : ClassRoom c n i w out
     class-room = record { front = t.tables.room; classes = xs; holds = t.tables.classes; inside = class_in t z; room = front_fits text text₂ (length out) both-fit }
 
     module _ {o₁ : List ℕ} {k : ℕ} (w₁ : Wrote out text o₁ k) where
@@ -79,11 +79,18 @@ module _ {c b : List ℕ} {o : Objects} {n : ℕ} {xs : List Class} {lookups obj
           native = put.known;
         }
 
+-- what the subtraction says of the class's number
+no-class : {k : ℕ} → (1 ≤ k → ⊥) → k ≡ 0
+no-class h = omega arith
+
+one-more : {k i : ℕ} → (1 ≤ k) × (i ≡ k - 1) → k ≡ suc i
+one-more h = omega arith
+
 pub put_native-t-requires : goal.put_native-t-requires
 put_native-t-requires c =
     let r = c.requires in
     record {
-      corpus = c.args.c.now;
+      corpus = c.args.src.now.corpus.now;
       read = r.read;
       classes = r.classes;
       lookups = r.lookups;
@@ -96,38 +103,38 @@ pub put_second-requires : goal.put_second-requires
 put_second-requires c =
     let r = c.requires in
     let f = native-fits r.target c.args.out.now r.room in
-    let put = c.put_native-t.ensures c.args.c.now r.read r.classes r.lookups r.ref r.target f in (
-      twice-fits r.target c.args.out.now r.room c.if-l-eq0.true put,
+    let put = c.put_native-t.ensures c.args.src.now.corpus.now r.read r.classes r.lookups r.ref r.target f in (
+      twice-fits r.target c.args.out.now r.room (no-class c.in-None.ensures) put,
       λ ne. (kept-inside r.target ne, kept-size r.target ne ∙ sym put.wrote.size),
     )
 
-pub returns-then-l-eq0 : goal.returns-then-l-eq0
-returns-then-l-eq0 c = λ o xs lookups r t room.
-    let put = c.put_native-t.ensures c.args.c.now o xs lookups r t (native-fits t c.args.out.now room) in
-    twice-put t c.args.out.now room c.if-l-eq0.true put (c.put_second.ensures _ _ put.wrote (λ ne. kept-is t ne))
+pub returns-in-None : goal.returns-in-None
+returns-in-None c = λ o xs lookups r t room.
+    let put = c.put_native-t.ensures c.args.src.now.corpus.now o xs lookups r t (native-fits t c.args.out.now room) in
+    twice-put t c.args.out.now room (no-class c.in-None.ensures) put (c.put_second.ensures _ _ put.wrote (λ ne. kept-is t ne))
 
 pub put_class-first-requires : goal.put_class-first-requires
 put_class-first-requires c =
-    class-room c.requires.target c.args.out.now c.requires.room c.if-l-eq0.false
+    class-room c.requires.target c.args.out.now c.requires.room (one-more c.in-Some.ensures)
 
 pub slice_bounds-put_native-count : goal.slice_bounds-put_native-count
 slice_bounds-put_native-count c =
     let r = c.requires in
-    let left = c.if-l-eq0.false in
+    let left = one-more c.in-Some.ensures in
     class_end_lem r.target c.args.out.now r.room left (c.put_class-first.ensures r.classes r.target.tables.classes (class_in r.target left))
 
 pub slice_bounds-put_native-start : goal.slice_bounds-put_native-start
 slice_bounds-put_native-start c =
     let r = c.requires in
-    let left = c.if-l-eq0.false in
+    let left = one-more c.in-Some.ensures in
     class_end_lem r.target c.args.out.now r.room left (c.put_class-first.ensures r.classes r.target.tables.classes (class_in r.target left))
 
-pub put_native-t-requires-2 : goal.put_native-t-requires-2
-put_native-t-requires-2 c =
+pub put_native-t-requires-in-Some : goal.put_native-t-requires-in-Some
+put_native-t-requires-in-Some c =
     let r = c.requires in
-    let left = c.if-l-eq0.false in
+    let left = one-more c.in-Some.ensures in
     record {
-      corpus = c.args.c.now;
+      corpus = c.args.src.now.corpus.now;
       read = r.read;
       classes = r.classes;
       lookups = r.lookups;
@@ -139,13 +146,13 @@ put_native-t-requires-2 c =
 pub overflow_add-result : goal.overflow_add-result
 overflow_add-result c =
     let r = c.requires in
-    let left = c.if-l-eq0.false in
+    let left = one-more c.in-Some.ensures in
     let v = c.put_class-first.ensures r.classes r.target.tables.classes (class_in r.target left) in
-    let put = c.put_native-t-2.ensures c.args.c.now r.read r.classes r.lookups r.ref r.target (native-next r.target c.args.out.now r.room left v) in
+    let put = c.put_native-t-in-Some.ensures c.args.src.now.corpus.now r.read r.classes r.lookups r.ref r.target (native-next r.target c.args.out.now r.room left v) in
     omega (arith, (both-put r.target c.args.out.now r.room left v put).wrote.fits)
 
-pub returns : goal.returns
-returns c = λ o xs lookups r t room.
-    let left = c.if-l-eq0.false in
+pub returns-in-Some : goal.returns-in-Some
+returns-in-Some c = λ o xs lookups r t room.
+    let left = one-more c.in-Some.ensures in
     let v = c.put_class-first.ensures xs t.tables.classes (class_in t left) in
-    both-put t c.args.out.now room left v (c.put_native-t-2.ensures c.args.c.now o xs lookups r t (native-next t c.args.out.now room left v))
+    both-put t c.args.out.now room left v (c.put_native-t-in-Some.ensures c.args.src.now.corpus.now o xs lookups r t (native-next t c.args.out.now room left v))

@@ -1,11 +1,10 @@
 -- `texts::put_class` meets its contract: the class's path behind the first four bytes, then its length in these. Assumes nothing.
-use Prim.Native.Nat.{◌*◌, ◌≤◌}
+use Prim.Native.Nat.{◌≤◌}
 use native.Mathlib.Omega.{arith}
 use lib.ListN.{length}
 use Rattle.text.specs.Name.{text_bytes}
 use Rattle.text.specs.NameLaws.{text_bytes-length}
 use Rattle.resolve.specs.Classes.{class_no}
-use Rattle.resolve.specs.Lent.{lent-part}
 use Rattle.sections.specs.WrittenLaws.{behind-length, again-length, first-wrote}
 use Rattle.sections.proofs.texts.put_class.Goals.{Start}
 use Rattle.sections.proofs.texts.put_class.Goals as goal
@@ -25,7 +24,7 @@ put_class_path-k-requires c =
     let r = c.requires in
     record {
       classes = r.classes;
-      holds = rw (lent-part (48 * c.args.n) c.args.w.now) r.holds;
+      holds = rw c.rest.ensures r.holds;
       inside = r.inside;
       room = omega (arith, text_bytes-length (class_no r.classes c.args.i).path, r.room, behind-length 4 c.args.out.now (four (goal.at.put_class_path-k-requires c).Start));
     }
@@ -38,10 +37,10 @@ pub overflow_add-result : goal.overflow_add-result
 unfolding text_bytes
 overflow_add-result c =
     let r = c.requires in
-    let w = first-wrote {s = c.args.out.now} (four (goal.at.overflow_add-result c).Start) (c.put_class_path-k.ensures r.classes (rw (lent-part (48 * c.args.n) c.args.w.now) r.holds) r.inside) c.put_length.ensures in
+    let w = first-wrote {s = c.args.out.now} (four (goal.at.overflow_add-result c).Start) (c.put_class_path-k.ensures r.classes (rw c.rest.ensures r.holds) r.inside) c.put_length.ensures in
     omega (arith, w.fits)
 
 pub returns : goal.returns
 unfolding text_bytes
 returns c = λ xs h z.
-    first-wrote (four (goal.at.returns c).Start) (c.put_class_path-k.ensures xs (rw (lent-part (48 * c.args.n) c.args.w.now) h) z) c.put_length.ensures
+    first-wrote (four (goal.at.returns c).Start) (c.put_class_path-k.ensures xs (rw c.rest.ensures h) z) c.put_length.ensures

@@ -8,5 +8,4 @@ pub returns-then-n-eq0 : goal.returns-then-n-eq0
 returns-then-n-eq0 c = λ k los his t. find-zero los his _ _ k (holds-none t c.if-n-eq0.true)
 
 pub returns : goal.returns
-returns c =
-    λ k los his t. ended-find t c.args.lo c.args.hi c.ranges.lo.fits c.ranges.hi.fits (omega arith) (c.search-s.ensures k los his t)
+returns c = λ k los his t. ended-find t c.args.lo c.args.hi c.ranges.lo.fits c.ranges.hi.fits (omega arith) (c.search.ensures k los his t)

@@ -1,10 +1,10 @@
--- `digits::put_hex` meets its contract. The invariant: behind the first `left` bytes stand the digits that those of `rest` lack. Assumes nothing.
-use mathlib.Core.Path.{◌≡◌, refl, sym, ◌∙◌}
-use mathlib.Core.List.{List, [], ◌∷◌, ◌++◌, append_assoc, append-nil}
+-- `digits::put_hex` meets its contract. The invariant: behind the first i bytes stand the digits that those of `rest` lack. Assumes nothing.
+use mathlib.Core.Path.{◌≡◌, sym, ◌∙◌}
+use mathlib.Core.List.{List, ◌∷◌, ◌++◌, append_assoc}
 use Prim.Native.Nat.{ℕ, zero, suc, ◌-◌, ◌/◌, ◌%◌, ◌≤◌, ◌<◌}
 use native.Mathlib.Numerals.{sub-one}
 use native.Mathlib.Omega.{arith}
-use lib.ListN.{length, set, get_or, take, drop, length-set, take-append-drop}
+use lib.ListN.{length, set, get_or, take, drop, length-set}
 use lib.Seq.{take-suc, set_at, length-take-le}
 use Rattle.base.specs.Output.{over, Wrote}
 use Rattle.text.specs.Digits.{hex_digit, hex}
@@ -32,23 +32,19 @@ finish s o t k n rest left z h e f =
     let all : hex k n ≡ t = e ∙ rw (hex-none rest z) in
     record { size = sym (length-hex k n); fits = h; is = f ∙ rw (z, length-hex k n, all) }
 
-pub loop-left-init : goal.loop-left-init
-loop-left-init c = let a = c.args in (omega arith, refl, ([], sym (append-nil _), sym (take-append-drop a.k a.out.now)))
-
-pub loop-left-preserved : goal.loop-left-preserved
-loop-left-preserved c =
-    let l = c.loop-left in
-    let h = c.loop-left-test.true in
+pub loop-i-preserved : goal.loop-i-preserved
+loop-i-preserved c =
+    let l = c.loop-i in
     let out = c.args.out.now in
-    let t = l.invariant.2.0 in
-    let room : l.left ≤ length out = omega arith in (
-      omega arith,
+    let t = l.invariant.1.0 in
+    let h : 0 < l.i = omega arith in
+    let room : l.i ≤ length out = omega arith in (
       simp length-set (omega arith),
-      (hex_digit (l.rest % 16) ∷ t, l.invariant.2.1 ∙ last_digit l.left l.rest t h, rw (c.hex_digit.ensures, l.invariant.2.2) (store-front out _ l.left _ h room)),
+      (hex_digit (l.rest % 16) ∷ t, l.invariant.1.1 ∙ last_digit l.i l.rest t h, rw (c.hex_digit.ensures, l.invariant.1.2) (store-front out _ l.i _ h room)),
     )
 
 pub returns : goal.returns
 returns c =
-    let l = c.loop-left in
-    let z : l.left ≡ 0 = omega arith in
-    finish _ _ l.invariant.2.0 _ _ l.rest l.left z c.requires l.invariant.2.1 l.invariant.2.2
+    let l = c.loop-i in
+    let z : l.i ≡ 0 = omega arith in
+    finish _ _ l.invariant.1.0 _ _ l.rest l.i z c.requires l.invariant.1.1 l.invariant.1.2

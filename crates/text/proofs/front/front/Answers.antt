@@ -20,32 +20,26 @@ all : (us : List ℕ) (i k m : ℕ) → k ≡ ascii_front 4 (drop i us) → 4 �
 all us i k m e h f = rw f (rw (← drop-drop 4 i us) (sym (front-all 4 4 (drop i us) (rw e at h))))
 
 pub byte_front-requires : goal.byte_front-requires
-byte_front-requires c = rw (c.if-not-wide.true, units_of-narrow) at c.requires
+byte_front-requires c = rw (c.if-not-part.true, units_of-narrow) at c.requires
 
-pub returns-then-not-wide : goal.returns-then-not-wide
-returns-then-not-wide c = rw (c.if-not-wide.true, units_of-narrow) c.byte_front.ensures
-
-pub unit_front-k-requires : goal.unit_front-k-requires
-unit_front-k-requires c = omega (arith, rw (c.if-not-wide.false) at c.requires)
+pub returns-then-not-part : goal.returns-then-not-part
+returns-then-not-part c = rw (c.if-not-part.true, units_of-narrow) c.byte_front.ensures
 
 pub returns-then-k-lt4 : goal.returns-then-k-lt4
 returns-then-k-lt4 c =
     let a = c.args in
-    rw (c.if-not-wide.false) (some (units_of true a.part.now) a.i _ c.unit_front-k.ensures c.if-k-lt4.true)
+    rw (c.if-not-part.false) (some (units_of true a.part.bytes.now) a.i _ c.unit_front-k.ensures c.if-k-lt4.true)
 
 pub overflow_add-i : goal.overflow_add-i
-overflow_add-i c = omega (arith, units_of_bound c.args.wide c.args.part.now)
-
-pub unit_front-requires : goal.unit_front-requires
-unit_front-requires c = omega (arith, rw (c.if-not-wide.false) at c.requires)
+overflow_add-i c = omega (arith, units_of_bound c.args.part.wide c.args.part.bytes.now)
 
 pub overflow_add-result : goal.overflow_add-result
 overflow_add-result c =
     let a = c.args in
-    omega (arith, c.unit_front.ensures, front-most 4 (drop (a.i + 4) (units_of true a.part.now)))
+    omega (arith, c.unit_front.ensures, front-most 4 (drop (a.i + 4) (units_of true a.part.bytes.now)))
 
 pub returns : goal.returns
 returns c =
     let a = c.args in
-    rw (c.if-not-wide.false)
-    (all (units_of true a.part.now) a.i _ _ c.unit_front-k.ensures c.if-k-lt4.false c.unit_front.ensures)
+    rw (c.if-not-part.false)
+    (all (units_of true a.part.bytes.now) a.i _ _ c.unit_front-k.ensures c.if-k-lt4.false c.unit_front.ensures)

@@ -6,4 +6,5 @@ use Rattle.text.proofs.name.base_len.Goals as goal
 
 pub returns : goal.returns
 returns c =
-    (c.units_len.ensures.0 ∙ sym (base-bytes _ _ (λ j. (c.shared_slice_known-1.given j).fits) c.requires.0), omega arith)
+    let t = c.args.text in
+    (c.units_len.ensures.0 ∙ sym (base-bytes t.part.wide t.part.bytes.now t.part.fits t.well), omega arith)

@@ -6,4 +6,4 @@ use Rattle.text.proofs.name.name_len.Goals as goal
 pub returns : goal.returns
 returns c =
     let a = c.args in
-    omega (arith, rendered-length a.wide a.part.now a.number)
+    omega (arith, rendered-length a.text.part.wide a.text.part.bytes.now a.number)

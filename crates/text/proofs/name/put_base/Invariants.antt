@@ -12,8 +12,8 @@ use Rattle.text.proofs.name.put_base.Given as goal
 
 abbrev pub invariant-loop-i : goal.invariant-loop-i
 invariant-loop-i l =
-    (l.i ≤ length (units_of l.wide l.part)) × (length l.out ≡ length l.initial.out) × (well_from (units_of l.wide l.part) l.i ≡ true)
-    × Held l.initial.out (utf8 (base l.wide l.part)) l.out (bytes_from (units_of l.wide l.part) l.i) l.at
+    (l.i ≤ length (units_of l.text.part.wide l.text.part.bytes.now)) × (length l.out ≡ length l.initial.out) × (well_from (units_of l.text.part.wide l.text.part.bytes.now) l.i ≡ true)
+    × Held l.initial.out (utf8 (base l.text.part.wide l.text.part.bytes.now)) l.out (bytes_from (units_of l.text.part.wide l.text.part.bytes.now) l.i) l.at
 
 abbrev pub decreases-loop-i : goal.decreases-loop-i
-decreases-loop-i l = length (units_of l.wide l.part) - l.i
+decreases-loop-i l = length (units_of l.text.part.wide l.text.part.bytes.now) - l.i

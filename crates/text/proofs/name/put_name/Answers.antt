@@ -7,15 +7,15 @@ use Rattle.text.proofs.name.put_name.Goals as goal
 
 pub put_base-at-requires : goal.put_base-at-requires
 put_base-at-requires c =
-    (c.requires.0, omega (arith, c.requires.1, rendered-length c.args.wide c.args.part.now c.args.number))
+    omega (arith, c.requires, rendered-length c.args.text.part.wide c.args.text.part.bytes.now c.args.number)
 
 pub put_suffix-requires : goal.put_suffix-requires
 put_suffix-requires c =
     wrote-room c.put_base-at.ensures _
-    (omega (arith, c.requires.1, rendered-length c.args.wide c.args.part.now c.args.number))
+    (omega (arith, c.requires, rendered-length c.args.text.part.wide c.args.text.part.bytes.now c.args.number))
 
 pub returns : goal.returns
 returns c =
     let a = c.args in
     wrote_as (wrote-rest c.put_base-at.ensures c.put_suffix.ensures)
-    (sym (rendered-bytes a.wide a.part.now a.number))
+    (sym (rendered-bytes a.text.part.wide a.text.part.bytes.now a.number))

@@ -12,8 +12,8 @@ use Rattle.text.proofs.name.put_name_text.Goals.{Start}
 use Rattle.text.proofs.name.put_name_text.Goals as goal
 
 -- there is room for the text
-room : (c : Start) → 4 + length (utf8 (rendered c.args.wide c.args.part.now c.args.number)) ≤ length c.args.out.now
-room c = rw text_bytes-length at c.requires.1
+room : (c : Start) → 4 + length (utf8 (rendered c.args.text.part.wide c.args.text.part.bytes.now c.args.number)) ≤ length c.args.out.now
+room c = rw text_bytes-length at c.requires.0
 
 pub slice_bounds-put_name-count : goal.slice_bounds-put_name-count
 slice_bounds-put_name-count c = omega (arith, room (goal.at.slice_bounds-put_name-count c).Start)
@@ -22,7 +22,7 @@ pub slice_bounds-put_name-start : goal.slice_bounds-put_name-start
 slice_bounds-put_name-start c = omega (arith, room (goal.at.slice_bounds-put_name-start c).Start)
 
 pub put_name-n-requires : goal.put_name-n-requires
-put_name-n-requires c = (c.requires.0, simp (length-take, length-drop) (omega (arith, room (goal.at.put_name-n-requires c).Start)))
+put_name-n-requires c = simp (length-take, length-drop) (omega (arith, room (goal.at.put_name-n-requires c).Start))
 
 pub put_be32-requires : goal.put_be32-requires
 put_be32-requires c =

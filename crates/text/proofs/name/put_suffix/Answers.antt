@@ -2,9 +2,9 @@
 use mathlib.Core.Path.{ap, sym}
 use mathlib.Core.List.{[], ◌∷◌}
 use native.Mathlib.Omega.{arith}
-use lib.ListN.{length, set, length-set}
+use lib.ListN.{length, set}
 use Rattle.base.specs.Output.{Wrote}
-use Rattle.base.specs.OutputLaws.{wrote_none, wrote_as, wrote-sets, wrote-rest, wrote-room, wrote-length}
+use Rattle.base.specs.OutputLaws.{wrote_none, wrote_as, wrote-sets, wrote-rest}
 use Rattle.text.specs.NameLaws.{suffix-none, suffix-more}
 use Rattle.text.proofs.name.put_suffix.Goals.{Else-number-eq0}
 use Rattle.text.proofs.name.put_suffix.Goals as goal
@@ -16,26 +16,7 @@ mark c = wrote-sets _ (95 ∷ []) (omega (arith, ap length (suffix-more c.args.n
 pub returns-then-number-eq0 : goal.returns-then-number-eq0
 returns-then-number-eq0 c = wrote_as (wrote_none _) (sym (suffix-none c.if-number-eq0.true))
 
-pub bounds-out-0 : goal.bounds-out-0
-bounds-out-0 c = omega (arith, ap length (suffix-more c.args.number c.if-number-eq0.false))
-
-pub slice_bounds-put_decimal-count : goal.slice_bounds-put_decimal-count
-slice_bounds-put_decimal-count c = simp length-set (omega (arith, ap length (suffix-more c.args.number c.if-number-eq0.false)))
-
-pub slice_bounds-put_decimal-start : goal.slice_bounds-put_decimal-start
-slice_bounds-put_decimal-start c = simp length-set (omega (arith, ap length (suffix-more c.args.number c.if-number-eq0.false)))
-
-pub put_decimal-requires : goal.put_decimal-requires
-put_decimal-requires c =
-    wrote-room (mark (goal.at.put_decimal-requires c).Else-number-eq0) _ (omega (arith, ap length (suffix-more c.args.number c.if-number-eq0.false)))
-
-pub overflow_add-result : goal.overflow_add-result
-overflow_add-result c = omega (arith, (wrote-rest (mark (goal.at.overflow_add-result c).Else-number-eq0) c.put_decimal.ensures).fits)
-
-pub shape_of-out : goal.shape_of-out
-shape_of-out c = wrote-length (wrote-rest (mark (goal.at.shape_of-out c).Else-number-eq0) c.put_decimal.ensures)
-
 pub returns : goal.returns
 returns c =
     wrote_as (wrote-rest (mark (goal.at.returns c).Else-number-eq0) c.put_decimal.ensures)
-    (sym (suffix-more _ c.if-number-eq0.false))
+    (rw c.from.ensures (sym (suffix-more _ c.if-number-eq0.false)))

@@ -1,59 +1,45 @@
--- `plain::put_eight` meets its contract: eight stores, one after the other. Assumes nothing.
-use mathlib.Core.Path.{◌≡◌, refl, ◌∙◌}
+-- `plain::put_eight` meets its contract: the bytes of a word are those that it was read from. Assumes nothing.
+use mathlib.Core.Path.{◌≡◌, ◌∙◌}
 use mathlib.Core.List.{List, [], ◌∷◌}
-use Prim.Native.Nat.{ℕ, zero, suc, ◌+◌, ◌≤◌}
-use native.Mathlib.Numerals.{add-one, add-two, add-three, add-four, add_five, add_six, add_seven}
+use Prim.Native.Nat.{ℕ, ◌+◌, ◌-◌, ◌≤◌}
 use native.Mathlib.Omega.{arith}
-use lib.ListN.{length, set, get_or, take, drop, length-set}
-use lib.Seq.{sets, sets-eq, paste, drop-cons}
+use lib.ListN.{length, take, drop, length-drop}
+use lib.Seq.{length-take-le, take-take, paste}
+use Rattle.std.specs.Int.{w64, to_le_bytes, from_le_bytes}
+use Rattle.std.proofs.lemmas.Nat.{le_bytes_8}
+use Rattle.std.proofs.lemmas.Slice.{put_mid-paste}
+use Rattle.base.specs.Number.{le, le_at}
+use Rattle.base.specs.NumberLaws.{Bytes, bytes-part, le_at-is}
 use Rattle.text.proofs.plain.put_eight.Goals as goal
 
--- the k elements of s from a place on, one by one
-abbrev each : ℕ → List ℕ → ℕ → List ℕ
-each zero s at = []
-each (suc k) s at = get_or s at 0 ∷ each k s (suc at)
+-- the number of eight bytes
+of_eight : (l : List ℕ) → length l ≡ 8 → le l ≡ from_le_bytes w64 l
+of_eight [] n = absurd (omega arith)
+of_eight (a ∷ []) n = absurd (omega arith)
+of_eight (a ∷ b ∷ []) n = absurd (omega arith)
+of_eight (a ∷ b ∷ c ∷ []) n = absurd (omega arith)
+of_eight (a ∷ b ∷ c ∷ d ∷ []) n = absurd (omega arith)
+of_eight (a ∷ b ∷ c ∷ d ∷ e ∷ []) n = absurd (omega arith)
+of_eight (a ∷ b ∷ c ∷ d ∷ e ∷ f ∷ []) n = absurd (omega arith)
+of_eight (a ∷ b ∷ c ∷ d ∷ e ∷ f ∷ g ∷ []) n = absurd (omega arith)
+of_eight (a ∷ b ∷ c ∷ d ∷ e ∷ f ∷ g ∷ h ∷ []) n = omega arith
+of_eight (a ∷ b ∷ c ∷ d ∷ e ∷ f ∷ g ∷ h ∷ i ∷ l) n = absurd (omega arith)
 
-each-is : (k : ℕ) (s : List ℕ) (at : ℕ) → at + k ≤ length s → each k s at ≡ take k (drop at s)
-each-is zero s at h = refl
-each-is (suc k) s at h = rw (drop-cons s at 0 (omega arith), each-is k s (suc at) (omega arith))
+module _ (s : List ℕ) (at : ℕ) (b : Bytes s) (h : at + 8 ≤ length s) where
+  eight : length (take 8 (drop at s)) ≡ 8
+  eight = length-take-le 8 (drop at s) (simp length-drop (omega arith))
 
--- stored one by one
-each-stored : (o s : List ℕ) (at : ℕ) → at + 8 ≤ length s → at + 8 ≤ length o → sets o at (each 8 s at) ≡ paste o at (drop at s) 8
-each-stored o s at h l = sets-eq (each 8 s at) o at l ∙ rw (each-is 8 s at h)
+  word : to_le_bytes w64 (le_at 8 s at) ≡ take 8 (drop at s)
+  word = le_bytes_8 (take 8 (drop at s)) (le_at 8 s at) eight (bytes-part 8 at s b) (le_at-is 8 s at ∙ of_eight (take 8 (drop at s)) eight)
 
--- as the code says it
-module _ (o s : List ℕ) (at : ℕ) where
-  abbrev one : ℕ → List ℕ → List ℕ
-  one i l = set l (at + i) (get_or s (at + i) 0)
-
-  stored : at + 8 ≤ length s → at + 8 ≤ length o
-      → one 7 (one 6 (one 5 (one 4 (one 3 (one 2 (one 1 (set o at (get_or s at 0)))))))) ≡ paste o at (drop at s) 8
-  stored h l = rw (add-one, add-two, add-three, add-four, add_five, add_six, add_seven) (each-stored o s at h l)
-
-pub bounds-out-at-2 : goal.bounds-out-at-2
-bounds-out-at-2 c = simp length-set (omega arith)
-
-pub bounds-out-at-3 : goal.bounds-out-at-3
-bounds-out-at-3 c = simp length-set (omega arith)
-
-pub bounds-out-at-4 : goal.bounds-out-at-4
-bounds-out-at-4 c = simp length-set (omega arith)
-
-pub bounds-out-at-5 : goal.bounds-out-at-5
-bounds-out-at-5 c = simp length-set (omega arith)
-
-pub bounds-out-at-6 : goal.bounds-out-at-6
-bounds-out-at-6 c = simp length-set (omega arith)
-
-pub bounds-out-at-7 : goal.bounds-out-at-7
-bounds-out-at-7 c = simp length-set (omega arith)
-
-pub bounds-out-at-8 : goal.bounds-out-at-8
-bounds-out-at-8 c = simp length-set (omega arith)
-
-pub shape_of-out : goal.shape_of-out
-shape_of-out c = simp length-set
+  pasted : (o : List ℕ) → paste o at (take 8 (drop at s)) 8 ≡ paste o at (drop at s) 8
+  pasted o = rw (take-take 8 8 (drop at s) (omega arith))
 
 pub returns : goal.returns
 returns c =
-    stored c.args.out.now c.args.src.now c.args.at c.requires.0 c.requires.1
+    let s = c.args.src.now in
+    let at = c.args.at in
+    let b : Bytes s = λ i. (c.type_inv.src i).fits in
+    let h = c.requires.0 in
+    let e = rw c.le64.ensures at (c.copy_from_slice.ensures.after ∙ c.to_le_bytes.ensures) in
+    put_mid-paste at (at + 8 - at) c.args.out.now _ (take 8 (drop at s)) 8 (e ∙ word s at b h) (omega arith) (omega (arith, eight s at b h)) ∙ pasted s at b h c.args.out.now

@@ -9,7 +9,7 @@ use Rattle.text.specs.Units.{units_of}
 use Rattle.text.proofs.utf16.is_paired.Given as goal
 
 abbrev pub invariant-loop-i : goal.invariant-loop-i
-invariant-loop-i l = (l.i ≤ l.n) × (is_well (decoded true l.part) ≡ is_well (utf16 (drop l.i (units_of true l.part))))
+invariant-loop-i l = (l.i ≤ l.n) × (is_well (decoded true l.bytes) ≡ is_well (utf16 (drop l.i (units_of true l.bytes))))
 
 abbrev pub decreases-loop-i : goal.decreases-loop-i
 decreases-loop-i l = l.n - l.i

@@ -1,29 +1,32 @@
 -- `call::compare` meets its contract. Assumes nothing.
-use native.Mathlib.Omega.{arith}
+use Rattle.std.specs.Prelude.{Option}
+use mathlib.Core.Path.{◌≡◌}
+use Prim.Native.Nat.{ℕ}
+use Rattle.base.specs.OneMore.{nonzero}
+use Rattle.base.specs.Reading.{gives, run}
+use Rattle.scriptblock.specs.Script.{Objects, script}
+use Rattle.meaning.specs.Call.{limits}
+use Rattle.scan.specs.Repeats.{repeat_block}
 use Rattle.walk.specs.OpenLaws.{begun-sites, begun-few}
+use Rattle.walk.specs.OpenSteps.{first_in}
 use Rattle.verify.proofs.Scanned.{Compared, compared-none, compared-twice}
-use Rattle.verify.proofs.call.compare.Goals.{After-repeat_block-block}
+use Rattle.verify.proofs.call.compare.Goals.{After-packages}
 use Rattle.verify.proofs.call.compare.Goals as goal
 
-compared : (c : After-repeat_block-block)
-    → let a = c.args in Compared a.c.now a.f a.s.now a.l a.t c.repeat_block-block.result
-compared c =
-    let (b, a, n, y) = c.requires in
-    record { begun = b; packages = a; accepted = n.0; tally = y; told = c.repeat_block-block.ensures }
+compared : (c : After-packages) (r : Option ℕ) → let a = c.args in
+    ((o : Objects) → run script 0 a.s.now.block.now ≡ gives o → r ≡ nonzero (repeat_block (first_in limits.objects o a.c.now.bytes.now a.c.now.frame)))
+    → Compared a.c.now.bytes.now a.c.now.frame a.c.now.script.now a.s.now.layout a.t r
+compared c r told =
+    let (a, e, y) = c.requires in
+    record { begun = c.args.c.now.begun; packages = a; accepted = rw e at c.args.s.now.noted.0; tally = y; told = rw e at told }
 
-pub overflow_add-f : goal.overflow_add-f
-overflow_add-f c = omega (arith, (begun-few c.requires.0).1)
+pub repeat_block-requires : goal.repeat_block-requires
+repeat_block-requires c =
+    let b = c.args.c.now.begun in
+    rw c.packages.ensures (begun-sites b, c.requires.0, (begun-few b).0)
 
-pub repeat_block-block-requires : goal.repeat_block-block-requires
-repeat_block-block-requires c =
-    let (b, a, n, y) = c.requires in
-    record { sites = (begun-sites b, a, (begun-few b).0); noted_script = n }
-
-pub returns-then-block-ne0 : goal.returns-then-block-ne0
-returns-then-block-ne0 c = compared-twice (compared (goal.at.returns-then-block-ne0 c).After-repeat_block-block) c.if-block-ne0.true c.refuse.ensures
+pub returns-in-Some : goal.returns-in-Some
+returns-in-Some c = compared-twice (compared (goal.at.returns-in-Some c).After-packages _ (rw c.packages.ensures at c.in-Some.ensures))
 
 pub finish-requires : goal.finish-requires
-finish-requires c = compared-none (compared (goal.at.finish-requires c).After-repeat_block-block) c.if-block-ne0.false
-
-pub returns : goal.returns
-returns c = c.finish.ensures
+finish-requires c = compared-none (compared (goal.at.finish-requires c).After-packages _ (rw c.packages.ensures at c.in_default.ensures))

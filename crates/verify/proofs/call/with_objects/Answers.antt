@@ -1,48 +1,42 @@
 -- `call::with_objects` meets its contract. Assumes nothing.
 use mathlib.Core.Path.{refl}
-use native.Mathlib.Omega.{arith}
+use Rattle.std.proofs.lemmas.Result.{err_from_is_err_and}
 use Rattle.meaning.specs.Call.{limits}
 use Rattle.walk.specs.OpenLaws.{begun-sites, begun-few, begun-small, opened_package}
 use Rattle.verify.specs.StepLaws.{answered-opened}
 use Rattle.verify.proofs.Scanned.{Walked, walked-twice, walked_all}
-use Rattle.verify.proofs.call.with_objects.Goals.{In-All}
+use Rattle.verify.proofs.call.with_objects.Goals.{In_ok-k}
 use Rattle.verify.proofs.call.with_objects.Goals as goal
 
 -- what the walk entered
-walked : (c : In-All) → let a = c.args in
-    Walked a.c.now a.f a.s.now a.l.count a.t c.in-All.k a.w.now c.scan_packages.new.w
+walked : (c : In_ok-k) → let a = c.args in
+    Walked a.c.now.bytes.now a.c.now.frame a.c.now.script.now a.s.now.layout.count a.t c.in_ok-k.k a.w.now c.scan_packages.new.w
 walked c =
-    let (b, n, k, y) = c.requires in
-    let e = c.scan_packages.ensures in
-    record { begun = b; linked = k; tally = y; packages = e.all _ c.in-All.is; state = e.state _ k.objects c.in-All.is k.holds }
-
-pub overflow_add-f : goal.overflow_add-f
-overflow_add-f c = omega (arith, (begun-few c.requires.0).1)
+    let (q, k, y) = c.requires in
+    let e = rw c.packages.ensures at c.scan_packages.ensures in
+    let t = c.in_ok-k.was in
+    record { begun = c.args.c.now.begun; linked = k; tally = y; packages = e.all _ t; state = e.state _ k.objects t k.holds }
 
 pub scan_packages-requires : goal.scan_packages-requires
 scan_packages-requires c =
-    let (b, n, k, y) = c.requires in
-    record { sites = (begun-sites b, (begun-few b).0, (begun-few b).2, refl, refl); linked = (k, begun-small b) }
+    let b = c.args.c.now.begun in
+    let (q, k, y) = c.requires in
+    record { sites = rw c.packages.ensures (begun-sites b, (begun-few b).0, (begun-few b).2, refl, refl); linked = (k, begun-small b) }
 
-pub returns-then-k-ne0 : goal.returns-then-k-ne0
-returns-then-k-ne0 c = walked-twice (walked (goal.at.returns-then-k-ne0 c).In-All) c.if-k-ne0.true c.refuse-then-k-ne0.ensures
+pub returns-in_err-k : goal.returns-in_err-k
+returns-in_err-k c =
+    let (q, k, y) = c.requires in
+    let e = rw c.packages.ensures at c.scan_packages.ensures in
+    let p = err_from_is_err_and c.from_residual.result c.from_residual.ensures.1 in
+    rw (p.1, p.2) (answered-opened (opened_package limits _ c.args.c.now.begun k.holds.all.read (e.refused _ c.in_err-k.was)) refl)
+
+pub returns-in-Repeated : goal.returns-in-Repeated
+returns-in-Repeated c = walked-twice (walked (goal.at.returns-in-Repeated c).In_ok-k) _ c.in-Repeated.is
 
 pub finish-requires : goal.finish-requires
-finish-requires c = walked_all (walked (goal.at.finish-requires c).In-All) c.if-k.true
+finish-requires c = walked_all (walked (goal.at.finish-requires c).In_ok-k) c.in-Open.is
 
 pub compare-requires : goal.compare-requires
 compare-requires c =
-    let z = walked (goal.at.compare-requires c).In-All in
-    (z.begun, z.packages, c.requires.1, z.tally)
-
-pub returns-in-Refused : goal.returns-in-Refused
-returns-in-Refused c =
-    let (b, n, k, y) = c.requires in
-    let e = c.scan_packages.ensures.refused _ _ c.in-Refused.is in
-    answered-opened (opened_package limits _ b k.holds.all.read e) c.refuse.ensures
-
-pub returns-then-k : goal.returns-then-k
-returns-then-k c = c.finish.ensures
-
-pub returns-else-k : goal.returns-else-k
-returns-else-k c = c.compare.ensures
+    let (q, k, y) = c.requires in
+    ((walked (goal.at.compare-requires c).In_ok-k).packages, q, y)

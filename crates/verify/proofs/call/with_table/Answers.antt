@@ -1,52 +1,60 @@
 -- `call::with_table` meets its contract. Assumes nothing.
+use Rattle.std.specs.Prelude.{Ok, Err}
+use Rattle.std.proofs.lemmas.Result.{err_from_is_err_and}
 use mathlib.Core.Path.{◌≡◌, refl, sym}
 use native.Mathlib.Omega.{arith}
+use borrow.Author.Rules.{rules}
 use Rattle.base.specs.Reading.{run}
+use Rattle.base.specs.Refusal.{number}
 use Rattle.scriptblock.specs.Script.{script}
 use Rattle.scriptblock.specs.ScriptAnswers.{script_answer}
-use Rattle.scriptblock.specs.declared.script.Script.TheVariants.{Accepted}
 use Rattle.meaning.specs.Call.{limits}
 use Rattle.objects.specs.EnterLaws.{open_held}
 use Rattle.walk.specs.Found.{Linked}
 use Rattle.walk.specs.OpenLaws.{begun-bytes, begun-small, opened-script}
 use Rattle.verify.specs.StepLaws.{answered-opened}
 use Rattle.verify.proofs.Scanned.{front_length}
-use Rattle.verify.proofs.call.with_table.Goals.{Else-fault-ne0}
+use Rattle.verify.proofs.call.with_table.Goals.{In_err-map_err, In_ok-map_err}
 use Rattle.verify.proofs.call.with_table.Goals as goal
 
 -- the script objects, entered and linked
-entered : (c : Else-fault-ne0) → let a = c.args in
-    (script_answer (run script 0 a.s.now) ≡ Accepted a.l) × Linked a.s.now a.l.count c.enter_script-fault.new.w
-entered c = let (a, k, n) = c.enter_script-fault.ensures.entered c.if-fault-ne0.false in (a, k)
+entered : (c : In_ok-map_err) → let a = c.args in
+    (script_answer (run script 0 a.c.now.script.now) ≡ Ok a.layout) × Linked a.c.now.script.now a.layout.count c.enter_script.new.w
+entered c = search rules
+
+-- or what the block is refused for
+script-refused : (c : In_err-map_err) → let e = c.in_err-map_err.field-0.0 in
+    (script_answer (run script 0 c.args.c.now.script.now) ≡ Err (number e.why)) × (e.block ≡ 1)
+script-refused c = search rules
 
 pub note_names-requires : goal.note_names-requires
-note_names-requires c =
-    let (b, q, r) = c.requires in
-    (open_held _ q (begun-bytes b), refl)
+note_names-requires c = (open_held _ c.requires.0 (begun-bytes c.args.c.now.begun), refl)
 
-pub enter_script-fault-requires : goal.enter_script-fault-requires
-enter_script-fault-requires c =
-    let (b, q, r) = c.requires in
-    (q, c.note_names.ensures.0, r, begun-small b)
+pub enter_script-requires : goal.enter_script-requires
+enter_script-requires c =
+    let (q, r) = c.requires in
+    (q, c.note_names.ensures.0, r, begun-small c.args.c.now.begun)
 
-pub returns-then-fault-ne0 : goal.returns-then-fault-ne0
-returns-then-fault-ne0 c =
-    let begun = c.requires.0 in
-    answered-opened (opened-script limits _ begun (c.enter_script-fault.ensures.refused c.if-fault-ne0.true)) c.refuse.ensures
+pub returns-in_err-map_err : goal.returns-in_err-map_err
+returns-in_err-map_err c =
+    let p = err_from_is_err_and c.from_residual.result c.from_residual.ensures.1 in
+    let (e, b) = script-refused (goal.at.returns-in_err-map_err c).In_err-map_err in
+    rw (p.1, p.2) (answered-opened (opened-script limits _ c.args.c.now.begun e) (rw b))
 
 pub slice_bounds-count_linked-end-2 : goal.slice_bounds-count_linked-end-2
-slice_bounds-count_linked-end-2 c = sym (front_length (entered (goal.at.slice_bounds-count_linked-end-2 c).Else-fault-ne0).1)
+slice_bounds-count_linked-end-2 c = sym (front_length (entered (goal.at.slice_bounds-count_linked-end-2 c).In_ok-map_err).1)
 
 pub count_linked-t-requires : goal.count_linked-t-requires
 count_linked-t-requires c =
-    let (a, k) = entered (goal.at.count_linked-t-requires c).Else-fault-ne0 in
-    let begun = c.requires.0 in
-    (a, record { objects = k.objects; holds = k.holds }, omega arith, begun-small begun)
+    let (a, k) = entered (goal.at.count_linked-t-requires c).In_ok-map_err in
+    (a, record { objects = k.objects; holds = k.holds }, omega arith, begun-small c.args.c.now.begun)
+
+pub invariant_of-s : goal.invariant_of-s
+invariant_of-s c =
+    let (a, k) = entered (goal.at.invariant_of-s c).In_ok-map_err in
+    record { noted = (a, c.note_names.ensures.0); fits = begun-bytes c.args.c.now.begun }
 
 pub with_objects-requires : goal.with_objects-requires
 with_objects-requires c =
-    let (a, k) = entered (goal.at.with_objects-requires c).Else-fault-ne0 in
-    (c.requires.0, (a, c.note_names.ensures.0), k, record { is = c.count_linked-t.ensures })
-
-pub returns : goal.returns
-returns c = c.with_objects.ensures
+    let (a, k) = entered (goal.at.with_objects-requires c).In_ok-map_err in
+    (refl, k, record { is = c.count_linked-t.ensures })

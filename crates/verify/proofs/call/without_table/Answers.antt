@@ -1,55 +1,59 @@
 -- `call::without_table` meets its contract. Assumes nothing.
-use mathlib.Core.Path.{◌≡◌, refl, sym, ◌∙◌}
+use Rattle.std.specs.Prelude.{Ok, Err}
+use Rattle.std.proofs.lemmas.Result.{err_from_is_err_and}
+use mathlib.Core.Path.{◌≡◌, refl, sym}
 use native.Mathlib.Omega.{arith}
+use borrow.Author.Rules.{rules}
 use Rattle.base.specs.Reading.{run}
+use Rattle.base.specs.Refusal.{number}
 use Rattle.scriptblock.specs.Script.{script}
 use Rattle.scriptblock.proofs.ScriptAccepted.{script-parts}
 use Rattle.scriptblock.specs.ScriptAnswers.{script_answer}
 use Rattle.scriptblock.proofs.ScriptFacts.{script-facts}
-use Rattle.scriptblock.specs.declared.script.Script.TheVariants.{Accepted}
 use Rattle.meaning.specs.Call.{limits}
 use Rattle.scan.specs.BlockLaws.{blocks-refused}
 use Rattle.walk.specs.OpenLaws.{begun-sites, begun-few, begun-bytes, begun-small, opened-script, opened_package}
 use Rattle.verify.specs.StepLaws.{answered-opened}
-use Rattle.verify.proofs.call.without_table.Goals.{In-Accepted}
+use Rattle.verify.proofs.call.without_table.Goals.{In_err-layout, In_ok-layout}
 use Rattle.verify.proofs.call.without_table.Goals as goal
 
 -- the accepted script block
-script-at : (c : In-Accepted) → script_answer (run script 0 c.args.s.now) ≡ Accepted c.in-Accepted.l
-script-at c = sym c.check_script.ensures ∙ c.in-Accepted.is
+script-at : (c : In_ok-layout) → script_answer (run script 0 c.args.c.now.script.now) ≡ Ok c.in_ok-layout.layout
+script-at c = search rules
 
-pub overflow_add-f : goal.overflow_add-f
-overflow_add-f c = omega (arith, (begun-few c.requires).1)
+-- or what it is refused for
+script-refused : (c : In_err-layout) → let e = c.in_err-layout.field-0.0 in
+    (script_answer (run script 0 c.args.c.now.script.now) ≡ Err (number e.why)) × (e.block ≡ 1)
+script-refused c = search rules
+
+pub returns-in_err-layout : goal.returns-in_err-layout
+returns-in_err-layout c =
+    let p = err_from_is_err_and c.from_residual.result c.from_residual.ensures.1 in
+    let (e, b) = script-refused (goal.at.returns-in_err-layout c).In_err-layout in
+    rw (p.1, p.2) (answered-opened (opened-script limits _ c.args.c.now.begun e) (rw b))
 
 pub check_packages-requires : goal.check_packages-requires
-check_packages-requires c = let b = c.requires in (begun-sites b, (begun-few b).0)
+check_packages-requires c = let b = c.args.c.now.begun in rw c.packages.ensures (begun-sites b, (begun-few b).0)
+
+pub returns-in_err-check_packages : goal.returns-in_err-check_packages
+returns-in_err-check_packages c =
+    let r = c.from_residual-in_err-check_packages in
+    let p = err_from_is_err_and r.result r.ensures.1 in
+    let (o, x) = script-facts _ _ (script-at (goal.at.returns-in_err-check_packages c).In_ok-layout) in
+    let e = rw c.packages.ensures at c.in_err-check_packages.ensures.is in
+    rw (p.1, p.2) (answered-opened (opened_package limits _ c.args.c.now.begun x.is (blocks-refused _ (sym e))) refl)
 
 pub note_names-requires : goal.note_names-requires
 note_names-requires c =
-    ((script-parts _ _ (script-at (goal.at.note_names-requires c).In-Accepted)).held (begun-bytes c.requires), refl)
+    ((script-parts _ _ (script-at (goal.at.note_names-requires c).In_ok-layout)).held (begun-bytes c.args.c.now.begun), refl)
+
+pub invariant_of-s : goal.invariant_of-s
+invariant_of-s c = record { noted = (script-at (goal.at.invariant_of-s c).In_ok-layout, c.note_names.ensures.0); fits = begun-bytes c.args.c.now.begun }
 
 pub count_scanned-t-requires : goal.count_scanned-t-requires
-count_scanned-t-requires c =
-    ((script-at (goal.at.count_scanned-t-requires c).In-Accepted, c.note_names.ensures.0), omega arith, begun-small c.requires)
+count_scanned-t-requires c = (omega arith, begun-small c.args.c.now.begun)
 
 pub compare-requires : goal.compare-requires
-compare-requires c = (
-  c.requires,
-  c.check_packages.ensures.all c.in-Fine.is,
-  (script-at (goal.at.compare-requires c).In-Accepted, c.note_names.ensures.0),
-  record { is = c.count_scanned-t.ensures },
-)
-
-pub returns-in-Rejected : goal.returns-in-Rejected
-returns-in-Rejected c =
-    let e = sym c.check_script.ensures ∙ c.in-Rejected.is in
-    answered-opened (opened-script limits _ c.requires e) c.refuse.ensures
-
-pub returns-in-Refused : goal.returns-in-Refused
-returns-in-Refused c =
-    let (o, x) = script-facts _ _ (script-at (goal.at.returns-in-Refused c).In-Accepted) in
-    let e = blocks-refused _ (sym c.check_packages.ensures.is ∙ c.in-Refused.is) in
-    answered-opened (opened_package limits _ c.requires x.is e) c.refuse-in-Refused.ensures
-
-pub returns-in-Fine : goal.returns-in-Fine
-returns-in-Fine c = c.compare.ensures
+compare-requires c =
+    let a = rw c.packages.ensures at c.in_ok-check_packages.ensures.all in
+    (a, refl, record { is = c.count_scanned-t.ensures })

@@ -34,8 +34,8 @@ home_of-home-requires c = read (goal.at.home_of-home-requires c).After-parts_of
 
 pub place_id-requires : goal.place_id-requires
 place_id-requires c =
-    held (read (goal.at.place_id-requires c).After-parts_of) (λ j. (c.shared_slice_known-1.given j).fits) c.home_of-home.ensures
+    held (read (goal.at.place_id-requires c).After-parts_of) (λ j. (c.type_inv.b j).fits) c.home_of-home.ensures
 
 pub returns : goal.returns
 returns c =
-    named (read (goal.at.returns c).After-parts_of) (λ j. (c.shared_slice_known-1.given j).fits) c.home_of-home.ensures c.place_id.ensures
+    named (read (goal.at.returns c).After-parts_of) (λ j. (c.type_inv.b j).fits) c.home_of-home.ensures c.place_id.ensures

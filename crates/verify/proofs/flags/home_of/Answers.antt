@@ -27,7 +27,7 @@ module _ {b : List ℕ} {p : Parts} (k : PackageIn b p) (y : Bytes b) {i : ℕ} 
 -- the package and the name's number, once it is read
 known : (c : After-u30_le-index) → let a = c.args in
     (c.u30_le-index.result ≡ (read_in a.b.now).layout.summary.index) × Bytes a.b.now
-known c = (c.u30_le-index.ensures.0 ∙ home-index c.requires, λ j. (c.shared_slice_known-1.given j).fits)
+known c = (c.u30_le-index.ensures.0 ∙ home-index c.requires, λ j. (c.type_inv.b j).fits)
 
 pub u30_le-index-requires : goal.u30_le-index-requires
 u30_le-index-requires c = omega (arith, home-room c.requires)
@@ -43,9 +43,9 @@ overflow_add-p c =
     let (e, y) = known (goal.at.overflow_add-p c).After-u30_le-index in
     omega (arith, head-inside c.requires y e)
 
-pub read_head-d-requires : goal.read_head-d-requires
-read_head-d-requires c =
-    let (e, y) = known (goal.at.read_head-d-requires c).After-u30_le-index in
+pub read_head-head-requires : goal.read_head-head-requires
+read_head-head-requires c =
+    let (e, y) = known (goal.at.read_head-head-requires c).After-u30_le-index in
     omega (arith, head-inside c.requires y e)
 
 pub le32-requires : goal.le32-requires
@@ -55,4 +55,4 @@ pub returns : goal.returns
 unfolding place_at
 returns c =
     let k = c.requires in
-    rw (c.name_start-start.ensures, c.read_head-d.ensures.0, c.u30_le-index.ensures.0, home-index k, c.le32.ensures, home-number k)
+    rw (c.at.ensures, c.name_start-start.ensures, c.read_head-head.ensures.0, c.u30_le-index.ensures.0, home-index k, c.le32.ensures, home-number k)

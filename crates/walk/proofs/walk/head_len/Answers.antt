@@ -25,10 +25,10 @@ module _ {b : List ℕ} {p : Parts} (a : PackageIn b p) (y : Bytes b) {home : Na
 
 pub place_len-requires : goal.place_len-requires
 place_len-requires c =
-    held c.requires.0 (λ i. (c.type_inv.b i).fits) c.home_at-home.ensures
+    let b = c.args.b.now in
+    held b.accepted b.fits c.home-home.ensures
 
 pub returns : goal.returns
-returns c = (
-  measured c.requires.0 (λ i. (c.type_inv.b i).fits) c.home_at-home.ensures c.place_len.ensures.0,
-  omega (arith, c.place_len.ensures.1),
-)
+returns c =
+    let b = c.args.b.now in
+    (measured b.accepted b.fits c.home-home.ensures c.place_len.ensures.0, omega (arith, c.place_len.ensures.1))

@@ -1,5 +1,5 @@
 -- `walk::keep_class` meets its contract: no room, a class entered, or one whose key stands already. Assumes nothing.
-use mathlib.Core.Path.{◌≡◌, refl, sym, ap, ap₂}
+use mathlib.Core.Path.{◌≡◌, sym, ap, ap₂}
 use mathlib.Core.Bool.{Bool, true, false}
 use mathlib.Core.List.{List}
 use Prim.Native.Nat.{ℕ, ◌+◌, ◌*◌, ◌-◌, ◌/◌, ◌≤◌, ◌<◌}
@@ -15,12 +15,12 @@ use Rattle.table.specs.Table.{record_at}
 use Rattle.table.specs.Words.{put}
 use Rattle.resolve.specs.Classes.{class_from, ClassesIn, Classes, Entered, Stands}
 use Rattle.walk.specs.Found.{Found, classes_in, State}
-use Rattle.walk.specs.KeptLaws.{back-length}
-use Rattle.walk.specs.MarkedLaws.{marked_closed, marked-class}
+use Rattle.walk.specs.MarkedLaws.{marked-class}
 use Rattle.resolve.specs.Lent.{lent-part}
 use Rattle.walk.specs.StateLaws.{state-count, state-class-full, state-class, state-twice}
 use Rattle.walk.specs.Steps.{with_own, opened_as, closed_as, Visited, Marked}
 use Rattle.walk.specs.declared.walk.Census.{Census}
+use Rattle.walk.specs.declared.walk.Entering.TheVariants.{Open, Full, Repeated}
 use Rattle.walk.specs.declared.walk.Visit.{Visit}
 use Rattle.walk.proofs.walk.keep_class.Goals as goal
 
@@ -29,11 +29,11 @@ class-here : {s : List ℕ} {v : Visit} {d : List ℕ} → Visited s v d → (i 
 class-here k i = ap₂ (λ (id : ℕ) (x : List ℕ). class_at (package_in id x) i (export_no x i)) (sym k.id) (sym k.site.is)
 
 -- d: the block of the package that is visited
-module _ (n : ℕ) (v : Visit) (d : List ℕ) (i : ℕ) (t : Census) (w : List ℕ) (going : t.open ≡ true) where
+module _ (n : ℕ) (v : Visit) (d : List ℕ) (i : ℕ) (t : Census) (w : List ℕ) (going : t.state ≡ Open) where
   abbrev Next : Census → List ℕ → Type 0
   Next r w' = (c b : List ℕ) (o : Objects) (f : Found) → Visited c v d → State c b o n f t w → State c b o n (with_own v.block (package_in v.id d) i f) r w'
 
-  no_room : length w / 64 ≤ n + t.classes + t.rows → {r : Census} → r ≡ closed_as t 0 → Next r w
+  no_room : length w / 64 ≤ n + t.classes + t.rows → {r : Census} → r ≡ closed_as t Full → Next r w
   no_room l q c b o f z k = rw q (state-class-full k going (package_in v.id d) i v.block l)
 
   module _ (l : n + t.classes + t.rows < length w / 64) where
@@ -66,32 +66,35 @@ module _ (n : ℕ) (v : Visit) (d : List ℕ) (i : ℕ) (t : Census) (w : List �
       stands : r ≡ false
           → (r ≡ false → (c : List ℕ) (xs : List Class) → Site c v.at d → v.id ≡ be_at 8 c v.at → ClassesIn c (4 * n) xs lent → length xs ≡ t.classes
           → Stands xs (class_from c v.at i))
-          → 0 < v.block → u ≡ closed_as t v.block → {w' : List ℕ} → Next u w'
-      stands q old p g {w'} c b o f z k =
+          → u ≡ closed_as t (Repeated v.block) → {w' : List ℕ} → Next u w'
+      stands q old g {w'} c b o f z k =
           let x = old q c (classes_in f) z.site z.id (rw (lent-part (48 * n) w) (k.holds going).tables.classes) (state-count k going) in
-          rw g (state-twice k going (package_in v.id d) i v.block p (rw (class-here z i) at x))
+          rw g (state-twice k going (package_in v.id d) i v.block (rw (class-here z i) at x))
 
-pub overflow_mul-size : goal.overflow_mul-size
-overflow_mul-size c = omega (arith, c.requires.open_value.1)
-
-pub returns-then-w-n : goal.returns-then-w-n
-returns-then-w-n c =
+pub returns-then-w-n-clause-state : goal.returns-then-w-n-clause-state
+returns-then-w-n-clause-state c =
     let a = c.args in
-    let e = c.closed.ensures in record { state = no_room a.n a.v a.b.now a.i a.t a.w.now c.requires.open_value.0 c.if-w-n.true e; grown = (omega (arith, ap (λ (x : Census). x.classes) e), ap (λ (x : Census). x.rows) e, ap (λ (x : Census). x.size) e); size = refl; marks = λ c d o f l z k m. marked_closed (ap (λ (x : Census). x.open) e) }
+    no_room a.n a.v a.p.now.bytes.now a.i a.t a.w.now c.requires.open_value.0 c.if-w-n.true c.closed.ensures
 
-pub enter_class-requires : goal.enter_class-requires
-enter_class-requires c =
+pub enter_class-requires-clause-classes : goal.enter_class-requires-clause-classes
+enter_class-requires-clause-classes c =
     let a = c.args in
     let q = c.requires.open_value in
-    let k = asked a.n a.v a.b.now a.i a.t a.w.now q.0 c.if-w-n.false q.2 q.3 in
-    record { package_in = c.requires.package_in; classes = (k.0, k.1, q.4, k.2) }
+    let k = asked a.n a.v a.p.now.bytes.now a.i a.t a.w.now q.0 c.if-w-n.false q.2 q.3 in
+    (k.0, k.1, q.4, k.2)
 
-pub returns-then-enter_class : goal.returns-then-enter_class
-returns-then-enter_class c =
+pub returns-then-enter_class-clause-state : goal.returns-then-enter_class-clause-state
+returns-then-enter_class-clause-state c =
     let a = c.args in
-    let e = c.opened.ensures in record { state = entered a.n a.v a.b.now a.i a.t a.w.now c.requires.open_value.0 c.if-w-n.false c.if-enter_class.true c.enter_class.ensures.new e; grown = (omega (arith, ap (λ (x : Census). x.classes) e), ap (λ (x : Census). x.rows) e, ap (λ (x : Census). x.size) e); size = back-length (48 * a.n) a.w.now c.enter_class.new.w (omega (arith, c.requires.open_value.1)) c.enter_class.ensures.size; marks = marked a.n a.v a.b.now a.i a.t a.w.now c.requires.open_value.0 c.if-w-n.false c.if-enter_class.true c.enter_class.ensures.new e }
+    entered a.n a.v a.p.now.bytes.now a.i a.t a.w.now c.requires.open_value.0 c.if-w-n.false c.if-enter_class.true c.enter_class.ensures.new c.opened.ensures
 
-pub returns : goal.returns
-returns c =
+pub returns-then-enter_class-clause-marks : goal.returns-then-enter_class-clause-marks
+returns-then-enter_class-clause-marks c =
     let a = c.args in
-    let e = c.closed-2.ensures in record { state = stands a.n a.v a.b.now a.i a.t a.w.now c.requires.open_value.0 c.if-w-n.false c.if-enter_class.false c.enter_class.ensures.old c.requires.open_value.6 e; grown = (omega (arith, ap (λ (x : Census). x.classes) e), ap (λ (x : Census). x.rows) e, ap (λ (x : Census). x.size) e); size = back-length (48 * a.n) a.w.now c.enter_class.new.w (omega (arith, c.requires.open_value.1)) c.enter_class.ensures.size; marks = λ c d o f l z k m. marked_closed (ap (λ (x : Census). x.open) e) }
+    marked a.n a.v a.p.now.bytes.now a.i a.t a.w.now c.requires.open_value.0 c.if-w-n.false c.if-enter_class.true c.enter_class.ensures.new c.opened.ensures
+
+pub returns-clause-state : goal.returns-clause-state
+returns-clause-state c =
+    let a = c.args in
+    stands a.n a.v a.p.now.bytes.now a.i a.t a.w.now c.requires.open_value.0 c.if-w-n.false c.if-enter_class.false c.enter_class.ensures.old
+    c.closed-2.ensures

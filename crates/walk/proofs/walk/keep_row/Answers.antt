@@ -1,6 +1,6 @@
 -- `walk::keep_row` meets its contract: no candidate, no room, or a row put at the end of the work buffer. Assumes nothing.
-use mathlib.Core.Path.{◌≡◌, refl, sym, ◌∙◌, ap}
-use mathlib.Core.Bool.{true}
+use Rattle.std.specs.Prelude.{Option as Maybe, Some, None}
+use mathlib.Core.Path.{◌≡◌, sym, ◌∙◌, ap}
 use mathlib.Core.List.{List, ◌++◌, append-nil}
 use Prim.Native.Nat.{ℕ, ◌+◌, ◌*◌, ◌-◌, ◌/◌, ◌^◌, ◌≤◌, ◌<◌}
 use native.Mathlib.Omega.{arith}
@@ -9,18 +9,20 @@ use Rattle.base.specs.NumberLaws.{Bytes}
 use Rattle.scriptblock.specs.Script.{Objects}
 use Rattle.meaning.specs.Reference.{ref_in}
 use Rattle.meaning.specs.Scan.{candidate_kind}
+use Rattle.packages.specs.Kinds.{candidate_number}
 use Rattle.packages.specs.Meaning.{words_of}
 use Rattle.packages.specs.Package.{read_in, package_in, PackageIn}
 use Rattle.packages.specs.RefBytes.{ref_bytes}
 use Rattle.packages.specs.Row.{export_no, row_in, names_size, RowHolds}
 use Rattle.packages.specs.RowLaws.{row-holds}
 use Rattle.packages.specs.declared.package.Parts.{Parts}
-use Rattle.packages.specs.declared.package.Words.{Words}
+use Rattle.packages.specs.declared.entries.Words.{Words}
+use Rattle.packages.specs.declared.rows.Candidate.{Candidate}
+use Rattle.packages.specs.declared.rows.Candidate.TheVariants.{Variable, Subobject}
 use Rattle.packages.specs.declared.rows.Row.{Row}
 use Rattle.table.specs.Words.{put}
 use Rattle.walk.specs.Found.{Found, State}
-use Rattle.walk.specs.KeptLaws.{back-length}
-use Rattle.walk.specs.MarkedLaws.{marked_closed, marked_row}
+use Rattle.walk.specs.MarkedLaws.{marked_row}
 use Rattle.resolve.specs.Lent.{lent-part}
 use Rattle.resolve.specs.Marks.{mark_of, export_marks}
 use Rattle.resolve.specs.Rows.{row_at, worded}
@@ -28,96 +30,103 @@ use Rattle.walk.specs.SizeLaws.{row-class, base_size_lem}
 use Rattle.walk.specs.StateLaws.{candidate-not, candidate-is, row-none, state-row-full, state-row}
 use Rattle.walk.specs.Steps.{with_row, opened_as, closed_as, Marked}
 use Rattle.walk.specs.declared.walk.Census.{Census}
+use Rattle.walk.specs.declared.walk.Entering.TheVariants.{Open, Full}
 use Rattle.walk.proofs.walk.keep_row.Goals as goal
 
+-- a kind is one
+some_kind : (k : Candidate) → candidate_number (Some k) ≡ 0 → ⊥
+some_kind Variable q = omega arith
+some_kind Subobject q = omega arith
+
 -- export i of the package with an id, whose block d is; its kind as a candidate
-module _ (n id i : ℕ) (d : List ℕ) (t : Census) (w : List ℕ) {kind : ℕ} (is : kind ≡ candidate_kind (read_in d) (export_no d i)) where
+module _ (n id i : ℕ) (d : List ℕ) (t : Census) (w : List ℕ) (k : Maybe Candidate) (is : candidate_number k ≡ candidate_kind (read_in d) (export_no d i)) where
   abbrev Next : Census → List ℕ → Type 0
   Next r w' = (c b : List ℕ) (o : Objects) (f : Found) → State c b o n f t w → State c b o n (with_row (package_in id d) i f) r w'
 
-  no_candidate : kind ≡ 0 → Next t w
-  no_candidate z c b o f k = rw (row-none (package_in id d) i f (candidate-not (read_in d) (export_no d i) (sym is ∙ z))) k
+  no_candidate : k ≡ None → Next t w
+  no_candidate z c b o f s = rw (row-none (package_in id d) i f (candidate-not (read_in d) (export_no d i) (sym is ∙ ap candidate_number z))) s
 
-  module _ (some : kind ≡ 0 → ⊥) (going : t.open ≡ true) where
-    no_room : length w / 64 ≤ n + t.classes + t.rows → {r : Census} → r ≡ closed_as t 0 → Next r w
-    no_room h e c b o f k = rw e (state-row-full k going (package_in id d) i (candidate-is (read_in d) (export_no d i) (λ z. some (is ∙ z))) h)
+  module _ (some : candidate_number k ≡ 0 → ⊥) (going : t.state ≡ Open) where
+    no_room : length w / 64 ≤ n + t.classes + t.rows → {r : Census} → r ≡ closed_as t Full → Next r w
+    no_room h e c b o f s = rw e (state-row-full s going (package_in id d) i (candidate-is (read_in d) (export_no d i) (λ z. some (is ∙ z))) h)
 
-    module _ {p : Parts} (a : PackageIn d p) (y : Bytes d) (l : i < p.count) {v : Row} (row : v ≡ row_in d p kind i) where
-      row_is : v ≡ row_in d p (candidate_kind (read_in d) (export_no d i)) i
-      row_is = row ∙ ap (λ (k : ℕ). row_in d p k i) is
-
+    module _ {p : Parts} (a : PackageIn d p) (y : Bytes d) (l : i < p.count) {v : Row} (row : v ≡ row_in d p k i) where
       held : RowHolds d v
-      held = rw row_is (row-holds a y i l)
+      held = rw row (row-holds a y i l k is)
 
       class-is : v.class ≡ (export_no d i).class
-      class-is = ap (λ (x : Row). x.class) row_is ∙ row-class a y i l (candidate_kind (read_in d) (export_no d i))
+      class-is = ap (λ (x : Row). x.class) row ∙ row-class a y i l k
 
       row_put : n + t.classes + t.rows < length w / 64 → {m : Words} → m ≡ words_of (ref_in (package_in id d) v.class) → m.lo < 2 ^ 64 → m.hi < 2 ^ 64
-          → (mark : ℕ) → {ys : List ℕ} → ys ≡ worded (row_at (take (length w - 48 * n) (drop (48 * n) w)) t.rows) m mark (take (length w - 48 * n) (drop (48 * n) w))
+          → (mark : ℕ) → {ys : List ℕ}
+          → ys ≡ worded (row_at (take (length w - 48 * n) (drop (48 * n) w)) t.rows) m mark (take (length w - 48 * n) (drop (48 * n) w))
           → {z : ℕ} → z ≡ 34 + names_size d v + length (ref_bytes d v.class)
           → {r : Census} → r ≡ opened_as t.classes (t.rows + 1) (t.size + z) → Next r (put (48 * n) (length w - 48 * n) w ys)
-      row_put h {m} e lo hi mark {ys} q {z} g x c b o f k =
-          rw x (state-row k going (package_in id d) i (candidate-is (read_in d) (export_no d i) (λ x. some (is ∙ x))) h m
+      row_put h {m} e lo hi mark {ys} q {z} g x c b o f s =
+          rw x (state-row s going (package_in id d) i (candidate-is (read_in d) (export_no d i) (λ x. some (is ∙ x))) h m
           (e ∙ ap (λ (x : ℕ). words_of (ref_in (package_in id d) x)) class-is) lo hi mark
           (rw (lent-part (48 * n) w) at q)
-          (ap (λ (x : ℕ). t.size + x) (g ∙ (ap (λ (x : Row). 34 + names_size d x + length (ref_bytes d x.class)) row_is ∙ base_size_lem a y i l id))))
+          (ap (λ (x : ℕ). t.size + x) (g ∙ (ap (λ (x : Row). 34 + names_size d x + length (ref_bytes d x.class)) row ∙ base_size_lem a y i l k is id))))
 
 -- its mark: it stands in a step
-module _ (n step i : ℕ) (d : List ℕ) (t : Census) (w : List ℕ) {kind : ℕ} (is : kind ≡ candidate_kind (read_in d) (export_no d i)) where
+module _ (n step i : ℕ) (d : List ℕ) (t : Census) (w : List ℕ) (k : Maybe Candidate)
+    (is : candidate_number k ≡ candidate_kind (read_in d) (export_no d i)) where
   abbrev Marks : Census → List ℕ → Type 0
   Marks r w' = (l : List ℕ) → Marked n l t w → Marked n (l ++ export_marks (read_in d) step (export_no d i)) r w'
 
-  no_mark : kind ≡ 0 → Marks t w
-  no_mark z l k = rw (candidate-not (read_in d) (export_no d i) (sym is ∙ z), append-nil l) k
+  no_mark : k ≡ None → Marks t w
+  no_mark z l m = rw (candidate-not (read_in d) (export_no d i) (sym is ∙ ap candidate_number z), append-nil l) m
 
-  mark-put : (kind ≡ 0 → ⊥) → t.open ≡ true → n + t.classes + t.rows < length w / 64 → (m : Words) → {mark : ℕ} → mark ≡ mark_of step kind → mark < 2 ^ 32
+  mark-put : (candidate_number k ≡ 0 → ⊥) → t.state ≡ Open → n + t.classes + t.rows < length w / 64 → (m : Words) → {mark : ℕ}
+      → mark ≡ mark_of step (candidate_number k) → mark < 2 ^ 32
       → {ys : List ℕ} → ys ≡ worded (row_at (take (length w - 48 * n) (drop (48 * n) w)) t.rows) m mark (take (length w - 48 * n) (drop (48 * n) w))
       → {z : ℕ} {r : Census} → r ≡ opened_as t.classes (t.rows + 1) z → Marks r (put (48 * n) (length w - 48 * n) w ys)
-  mark-put some going h m {mark} e small q x l k =
-      rw (candidate-is (read_in d) (export_no d i) (λ z. some (is ∙ z)), ← (e ∙ ap (λ (k : ℕ). mark_of step k) is))
-      (marked_row k going h m mark small (rw (lent-part (48 * n) w) at q) (ap (λ (c : Census). c.rows) x))
+  mark-put some going h m {mark} e small q x l s =
+      rw (candidate-is (read_in d) (export_no d i) (λ z. some (is ∙ z)), ← (e ∙ ap (λ (n : ℕ). mark_of step n) is))
+      (marked_row s going h m mark small (rw (lent-part (48 * n) w) at q) (ap (λ (c : Census). c.rows) x))
 
-pub overflow_mul-size : goal.overflow_mul-size
-overflow_mul-size c = omega (arith, c.requires.open_value.1)
+pub returns-in_default-clause-state : goal.returns-in_default-clause-state
+returns-in_default-clause-state c =
+    let a = c.args in
+    let e = c.block-b.ensures.0 in
+    no_candidate a.n a.id a.i a.p.now.bytes.now a.t a.w.now c.candidate.result (rw e at c.candidate.ensures) c.in_default.is
 
-pub returns-then-kind-eq0 : goal.returns-then-kind-eq0
-returns-then-kind-eq0 c = record { state = no_candidate c.args.n c.args.id c.args.i c.args.b.now c.args.t c.args.w.now c.candidate-kind.ensures c.if-kind-eq0.true; grown = (refl, omega arith, omega arith); size = refl; marks = no_mark c.args.n c.args.step c.args.i c.args.b.now c.args.t c.args.w.now c.candidate-kind.ensures c.if-kind-eq0.true }
+pub returns-in_default-clause-marks : goal.returns-in_default-clause-marks
+returns-in_default-clause-marks c =
+    let a = c.args in
+    let e = c.block-b.ensures.0 in
+    no_mark a.n a.step a.i a.p.now.bytes.now a.t a.w.now c.candidate.result (rw e at c.candidate.ensures) c.in_default.is
 
-pub returns-then-w-n : goal.returns-then-w-n
-returns-then-w-n c =
-    let e = c.closed.ensures in record { state = no_room c.args.n c.args.id c.args.i c.args.b.now c.args.t c.args.w.now c.candidate-kind.ensures c.if-kind-eq0.false c.requires.open_value.0 c.if-w-n.true e; grown = (ap (λ (x : Census). x.classes) e, omega (arith, ap (λ (x : Census). x.rows) e), omega (arith, ap (λ (x : Census). x.size) e)); size = refl; marks = λ l x. marked_closed (ap (λ (x : Census). x.open) e) }
-
-pub mark_of-requires : goal.mark_of-requires
-mark_of-requires c = c.requires.open_value.5
+pub returns-then-w-n-clause-state : goal.returns-then-w-n-clause-state
+returns-then-w-n-clause-state c =
+    let a = c.args in
+    let e = c.block-b.ensures.0 in
+    no_room a.n a.id a.i a.p.now.bytes.now a.t a.w.now (Some c.in-Some.kind) (rw e at c.in-Some.ensures) (some_kind c.in-Some.kind) c.requires.open_value.0
+    c.if-w-n.true c.closed.ensures
 
 pub row_len-len-requires : goal.row_len-len-requires
-row_len-len-requires c = (
-  c.requires.package_in.0,
-  c.requires.package_in.1,
-  c.requires.package_in.2,
-  held c.args.n c.args.id c.args.i c.args.b.now c.args.t c.args.w.now c.candidate-kind.ensures c.if-kind-eq0.false c.requires.open_value.0
-      c.requires.package_in.0 (λ i. (c.type_inv.b i).fits) c.requires.package_in.3 c.row_at-v.ensures,
-)
-
-pub overflow_add-t : goal.overflow_add-t
-overflow_add-t c = omega (arith, c.requires.open_value)
-
-pub overflow_add-t-2 : goal.overflow_add-t-2
-overflow_add-t-2 c =
-    omega (arith, c.row_len-len.ensures.1, c.requires.open_value)
-
-pub returns : goal.returns
-returns c =
+row_len-len-requires c =
     let a = c.args in
+    let p = a.p.now in
+    let e = c.block-b.ensures in
+    held a.n a.id a.i p.bytes.now a.t a.w.now (Some c.in-Some.kind) (rw e.0 at c.in-Some.ensures) (some_kind c.in-Some.kind) c.requires.open_value.0
+    p.accepted p.fits c.requires.export (rw (e.0, e.1) at c.row-v.ensures)
+
+pub returns-clause-state : goal.returns-clause-state
+returns-clause-state c =
+    let a = c.args in
+    let p = a.p.now in
+    let e = c.block-b.ensures in
     let m = c.meaning-m in
+    row_put a.n a.id a.i p.bytes.now a.t a.w.now (Some c.in-Some.kind) (rw e.0 at c.in-Some.ensures) (some_kind c.in-Some.kind) c.requires.open_value.0
+    p.accepted p.fits c.requires.export (rw (e.0, e.1) at c.row-v.ensures) c.if-w-n.false
+    (rw e.0 at m.ensures) (omega (arith, m.type_inv)) (omega (arith, m.type_inv)) c.mark_of.result c.put_words.ensures c.row_len-len.ensures.0 c.opened.ensures
+
+pub returns-clause-marks : goal.returns-clause-marks
+returns-clause-marks c =
+    let a = c.args in
+    let e = c.block-b.ensures.0 in
     let y = c.mark_of.ensures in
-    let h = c.candidate-kind in
-    let e = c.opened.ensures in record {
-      state = row_put a.n a.id a.i a.b.now a.t a.w.now c.candidate-kind.ensures c.if-kind-eq0.false c.requires.open_value.0
-          c.requires.package_in.0 (λ i. (c.type_inv.b i).fits) c.requires.package_in.3 c.row_at-v.ensures c.if-w-n.false
-          m.ensures (omega (arith, m.type_inv)) (omega (arith, m.type_inv)) c.mark_of.result c.put_words.ensures c.row_len-len.ensures.0 e;
-      grown = (ap (λ (x : Census). x.classes) e, omega (arith, ap (λ (x : Census). x.rows) e), omega (arith, ap (λ (x : Census). x.size) e, c.row_len-len.ensures.1));
-      size = back-length (48 * a.n) a.w.now c.put_words.new.w (omega (arith, c.requires.open_value.1)) c.put_words.auto.w;
-      marks = mark-put a.n a.step a.i a.b.now a.t a.w.now h.ensures c.if-kind-eq0.false c.requires.open_value.0 c.if-w-n.false
-          m.result y (omega (arith, y, c.requires.open_value.5, h.type_inv)) c.put_words.ensures e;
-    }
+    mark-put a.n a.step a.i a.p.now.bytes.now a.t a.w.now (Some c.in-Some.kind) (rw e at c.in-Some.ensures) (some_kind c.in-Some.kind) c.requires.open_value.0
+    c.if-w-n.false c.meaning-m.result (y ∙ ap (mark_of a.step) c.number.ensures) (omega (arith, y, c.requires.open_value.5, c.number.type_inv))
+    c.put_words.ensures c.opened.ensures

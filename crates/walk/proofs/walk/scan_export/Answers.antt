@@ -5,7 +5,6 @@ use mathlib.Core.List.{List}
 use Prim.Native.Nat.{ℕ, ◌*◌, ◌≤◌, ◌<◌}
 use native.Mathlib.Omega.{arith}
 use lib.ListN.{length, take, drop}
-use lib.Seq.{length-take-le}
 use Rattle.scriptblock.specs.Script.{Objects}
 use Rattle.zen.specs.declared.tables.Export.{Export}
 use Rattle.meaning.specs.Scan.{is_class}
@@ -17,11 +16,12 @@ use Rattle.walk.specs.Found.{Found, with_export, State}
 use Rattle.walk.specs.StateLaws.{export-both, class-none, class-more, class-behind, class-hash, class-some, state-classes, state_closed}
 use Rattle.walk.specs.Steps.{with_row, with_own, Visited, SomeState}
 use Rattle.walk.specs.declared.walk.Census.{Census}
+use Rattle.walk.specs.declared.walk.Entering.TheVariants.{Open}
 use Rattle.walk.specs.declared.walk.Visit.{Visit}
-use Rattle.walk.proofs.Scans.{not-true, not-false}
+use Rattle.walk.proofs.walk.scan_export.Goals.{After-is_class}
 use Rattle.walk.proofs.walk.scan_export.Goals as goal
 
-room-is : {b : List ℕ} {n : ℕ} {v : Visit} {d : List ℕ} {t : Census} {w : List ℕ} → SomeState b n v d t w → t.open ≡ true → 64 * n ≤ length w
+room-is : {b : List ℕ} {n : ℕ} {v : Visit} {d : List ℕ} {t : Census} {w : List ℕ} → SomeState b n v d t w → t.state ≡ Open → 64 * n ≤ length w
 room-is k h = omega (arith, k.holds.room h)
 
 -- b: the script block; d: the block of the package that is visited. The row is kept: from t and w on there are r and w₁
@@ -31,12 +31,12 @@ module _ (n limit : ℕ) (v : Visit) (i : ℕ) (d b : List ℕ) {t r : Census} {
   Next u w' = (c : List ℕ) (o : Objects) (f : Found) → Visited c v d → State c b o n f t w → State c b o n (with_export limit o v.block (package_in v.id d) i f) u w'
 
   -- nothing more is entered
-  shut : r.open ≡ false → Next r w₁
+  shut : (r.state ≡ Open → ⊥) → Next r w₁
   shut h c o f z k =
       rw (export-both (package_in v.id d) i f limit o v.block)
       (state_closed (row c b o f k) h (class-behind limit o v.block (package_in v.id d) i (with_row (package_in v.id d) i f)) refl)
 
-  module _ (going : r.open ≡ true) where
+  module _ (going : r.state ≡ Open) where
     abbrev some-row : SomeState b n v d t w → SomeState b n v d r w₁
     some-row k = record {
       corpus = k.corpus;
@@ -78,89 +78,56 @@ module _ (n limit : ℕ) (v : Visit) (i : ℕ) (d b : List ℕ) {t r : Census} {
               class-some limit k.objects (export_no d i) c (x.holds going).tables.count (x.holds going).tables.objects,
             )
 
-pub overflow_mul-size : goal.overflow_mul-size
-overflow_mul-size c = let q = c.requires.open_value in omega (arith, room-is q.1 q.0)
+-- the row is kept, all is entered, and the export is looked at
+module _ (c : After-is_class) where
+  open-row : c.keep_row-r.result.state ≡ Open
+  open-row = c.is_open.ensures.0 c.if-not-is_open.false
 
-pub keep_row-r-requires : goal.keep_row-r-requires
-keep_row-r-requires c =
+  export-is : c.export-e.result ≡ export_no c.args.p.now.bytes.now c.args.i
+  export-is = rw c.block.ensures.0 at c.export-e.ensures
+
+  -- what entering its class asks
+  class-asked : c.is_class.result ≡ true → let r = c.keep_row-r in
+      ((export_no c.args.p.now.bytes.now c.args.i).hash ≡ 0 → ⊥) × Classes (4 * c.args.n) r.result.classes (drop (48 * c.args.n) r.new.w) × (0 < c.args.n)
+  class-asked h =
+      let a = c.args in
+      asked a.n a.limit a.v a.i a.p.now.bytes.now a.s.now c.keep_row-r.ensures.state open-row export-is c.is_class.ensures h c.requires.open_value.1
+
+pub returns-then-not-is_open-clause-state : goal.returns-then-not-is_open-clause-state
+returns-then-not-is_open-clause-state c =
+    let a = c.args in
+    shut a.n a.limit a.v a.i a.p.now.bytes.now a.s.now c.keep_row-r.ensures.state (c.is_open.ensures.1 c.if-not-is_open.true)
+
+pub keep_class-requires-clause-export : goal.keep_class-requires-clause-export
+keep_class-requires-clause-export c =
+    let z = (goal.at.keep_class-requires-clause-export c).After-is_class in
+    (c.requires.export, (class-asked z c.if-is_class.true).0)
+
+pub keep_class-requires-clause-open_value : goal.keep_class-requires-clause-open_value
+keep_class-requires-clause-open_value c =
+    let z = (goal.at.keep_class-requires-clause-open_value c).After-is_class in
+    let e = c.keep_row-r.ensures in
     let q = c.requires.open_value in
-    record { package_in = c.requires.package_in; open_value = (q.0, room-is q.1 q.0, omega (arith, q.2), q.3, q.4, q.6) }
+    let k = class-asked z c.if-is_class.true in
+    (open-row z, omega (arith, room-is q.1 q.0, e.size), k.1, k.2, omega (arith, e.grown.0, q.2), omega (arith, e.grown.1, q.3))
 
-pub shape_of-w-then-not-r : goal.shape_of-w-then-not-r
-shape_of-w-then-not-r c = c.keep_row-r.ensures.size
-
-pub returns-then-not-r : goal.returns-then-not-r
-returns-then-not-r c =
-    let r = c.keep_row-r in
+pub returns-then-is_class-clause-state : goal.returns-then-is_class-clause-state
+returns-then-is_class-clause-state c =
+    let z = (goal.at.returns-then-is_class-clause-state c).After-is_class in
     let a = c.args in
-    let g = r.ensures.grown in
-    record {
-      state = shut a.n a.limit a.v a.i a.b.now a.s.now r.ensures.state (not-true _ c.if-not-r.true);
-      grown = record { classes = omega (arith, g.0); rows = omega (arith, g.1); size = omega (arith, g.2) };
-      size = r.ensures.size;
-      marks = r.ensures.marks;
-    }
+    a-class a.n a.limit a.v a.i a.p.now.bytes.now a.s.now c.keep_row-r.ensures.state (open-row z) (export-is z) c.is_class.ensures c.if-is_class.true
+    c.keep_class.ensures.state
 
-pub slice_bounds-is_class-end : goal.slice_bounds-is_class-end
-slice_bounds-is_class-end c =
-    let q = c.requires.open_value in
-    omega (arith, room-is q.1 q.0, c.keep_row-r.ensures.size)
-
-pub slice_bounds-is_class-end-2 : goal.slice_bounds-is_class-end-2
-slice_bounds-is_class-end-2 c =
-    let r = c.keep_row-r in
-    let q = c.requires.open_value in
-    sym (length-take-le (48 * c.args.n) r.new.w (omega (arith, room-is q.1 q.0, r.ensures.size)))
-
-pub is_class-requires : goal.is_class-requires
-is_class-requires c =
-    let r = c.keep_row-r in
+pub returns-then-is_class-clause-marks : goal.returns-then-is_class-clause-marks
+returns-then-is_class-clause-marks c = λ l m.
+    let z = (goal.at.returns-then-is_class-clause-marks c).After-is_class in
     let a = c.args in
-    linked a.n a.limit a.v a.i a.b.now a.s.now r.ensures.state (not-false _ c.if-not-r.false) c.requires.open_value.1
+    let e = c.keep_row-r.ensures in
+    let p = some-row a.n a.limit a.v a.i a.p.now.bytes.now a.s.now e.state (open-row z) c.requires.open_value.1 in
+    c.keep_class.ensures.marks p.corpus a.s.now p.objects p.found _ p.visited p.holds (e.marks l m)
 
-pub keep_class-requires : goal.keep_class-requires
-keep_class-requires c =
-    let r = c.keep_row-r in
+pub returns-clause-state : goal.returns-clause-state
+returns-clause-state c =
+    let z = (goal.at.returns-clause-state c).After-is_class in
     let a = c.args in
-    let p = c.requires.package_in in
-    let q = c.requires.open_value in
-    let g = r.ensures.grown in
-    let o = not-false _ c.if-not-r.false in
-    let k = asked a.n a.limit a.v a.i a.b.now a.s.now r.ensures.state o c.export_at-e.ensures c.is_class.ensures c.if-is_class.true q.1 in
-    record {
-      package_in = (p.0, p.1, p.2, p.3, k.0);
-      open_value = (o, omega (arith, room-is q.1 q.0, r.ensures.size), k.1, k.2, omega (arith, g.0, q.2), omega (arith, g.1, q.3), q.5);
-    }
-
-pub shape_of-w-then-is_class : goal.shape_of-w-then-is_class
-shape_of-w-then-is_class c = c.keep_class.ensures.size ∙ c.keep_row-r.ensures.size
-
-pub returns-then-is_class : goal.returns-then-is_class
-returns-then-is_class c =
-    let k = c.keep_class in
-    let r = c.keep_row-r in
-    let a = c.args in
-    let g = r.ensures.grown in
-    let h = k.ensures.grown in
-    let p = some-row a.n a.limit a.v a.i a.b.now a.s.now r.ensures.state (not-false _ c.if-not-r.false) c.requires.open_value.1 in
-    record {
-      state = a-class a.n a.limit a.v a.i a.b.now a.s.now r.ensures.state (not-false _ c.if-not-r.false) c.export_at-e.ensures c.is_class.ensures c.if-is_class.true k.ensures.state;
-      grown = record { classes = omega (arith, g.0, h.0); rows = omega (arith, g.1, h.1); size = omega (arith, g.2, h.2) };
-      size = k.ensures.size ∙ r.ensures.size;
-      marks = λ l m. k.ensures.marks p.corpus a.s.now p.objects p.found _ p.visited p.holds (r.ensures.marks l m);
-    }
-
-pub shape_of-w : goal.shape_of-w
-shape_of-w c = c.keep_row-r.ensures.size
-
-pub returns : goal.returns
-returns c =
-    let r = c.keep_row-r in
-    let a = c.args in
-    let g = r.ensures.grown in
-    record {
-      state = no_class_lem a.n a.limit a.v a.i a.b.now a.s.now r.ensures.state (not-false _ c.if-not-r.false) c.export_at-e.ensures c.is_class.ensures c.if-is_class.false;
-      grown = record { classes = omega (arith, g.0); rows = omega (arith, g.1); size = omega (arith, g.2) };
-      size = r.ensures.size;
-      marks = r.ensures.marks;
-    }
+    no_class_lem a.n a.limit a.v a.i a.p.now.bytes.now a.s.now c.keep_row-r.ensures.state (open-row z) (export-is z) c.is_class.ensures c.if-is_class.false

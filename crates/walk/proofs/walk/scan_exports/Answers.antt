@@ -1,12 +1,10 @@
 -- `walk::scan_exports` meets its contract. The loop's invariant: the state and the marks are those of the first i exports. Assumes nothing.
-use mathlib.Core.Path.{◌≡◌}
 use Prim.Native.Nat.{ℕ, ◌≤◌}
 use native.Mathlib.Omega.{arith}
 use Rattle.packages.specs.PackageLaws.{export_count_lem}
 use Rattle.walk.specs.MarkedLaws.{marked_closed}
 use Rattle.walk.specs.Steps.{Grown}
 use Rattle.walk.specs.declared.walk.Census.{Census}
-use Rattle.walk.proofs.Scans.{not-true, not-false}
 use Rattle.walk.proofs.walk.scan_exports.Invariants.{begun, more, shut, whole, marked}
 use Rattle.walk.proofs.walk.scan_exports.Goals as goal
 
@@ -14,53 +12,53 @@ grown-more : {m i : ℕ} {t₀ t : Census} → i ≤ m → Grown i t₀ t → Gr
 grown-more h g = record { classes = omega (arith, g.classes); rows = omega (arith, g.rows); size = omega (arith, g.size) }
 
 pub loop-i-init : goal.loop-i-init
-loop-i-init c = (omega arith, begun c.args.b.now c.args.s.now c.args.n c.args.limit c.args.v c.args.step c.requires.some_state.0)
+loop-i-init c =
+    let a = c.args in
+    begun a.p.now.bytes.now a.s.now a.n a.limit a.v a.step c.requires.some_state.0
 
-pub shape_of-w-then-not-t : goal.shape_of-w-then-not-t
-shape_of-w-then-not-t c = c.loop-i.invariant.1.size
-
-pub returns-then-not-t : goal.returns-then-not-t
-returns-then-not-t c =
+pub returns-then-not-is_open-clause-state : goal.returns-then-not-is_open-clause-state
+returns-then-not-is_open-clause-state c =
     let l = c.loop-i in
     let a = c.args in
-    record {
-      state = shut a.b.now a.s.now a.n a.limit a.v a.step l.invariant.1 c.requires.package_in.0 l.invariant.0 (not-true _ c.if-not-t.true);
-      grown = grown-more l.invariant.0 l.invariant.1.grown;
-      size = l.invariant.1.size;
-      marks = λ x m. marked_closed (not-true _ c.if-not-t.true);
-    }
+    shut a.p.now.bytes.now a.s.now a.n a.limit a.v a.step l.invariant a.p.now.accepted l.auto.i-end (c.is_open.ensures.1 c.if-not-is_open.true)
 
-pub scan_export-t-requires : goal.scan_export-t-requires
-scan_export-t-requires c =
+pub returns-then-not-is_open-clause-grown : goal.returns-then-not-is_open-clause-grown
+returns-then-not-is_open-clause-grown c = grown-more c.loop-i.auto.i-end c.loop-i.invariant.grown
+
+pub returns-then-not-is_open-clause-marks : goal.returns-then-not-is_open-clause-marks
+returns-then-not-is_open-clause-marks c = λ l m. marked_closed (c.is_open.ensures.1 c.if-not-is_open.true)
+
+pub scan_export-t-requires-clause-open_value : goal.scan_export-t-requires-clause-open_value
+scan_export-t-requires-clause-open_value c =
     let l = c.loop-i in
-    let g = l.invariant.1.grown in
+    let g = l.invariant.grown in
     let q = c.requires.some_state in
-    let h = c.loop-i-test.true in record { package_in = (c.requires.package_in.0, c.requires.package_in.1, c.requires.package_in.2, h); open_value = (not-false _ c.if-not-t.false, l.invariant.1.some, omega (arith, g.classes, q.1, h), omega (arith, g.rows, q.2, h), omega (arith, g.size, q.3, h), q.4, omega (arith, q.5, h)) }
-
-pub overflow_add-step : goal.overflow_add-step
-overflow_add-step c = omega (arith, c.loop-i-test.true, c.requires.some_state.5)
+    let h = c.loop-i-test.true in (
+      c.is_open.ensures.0 c.if-not-is_open.false,
+      l.invariant.some,
+      omega (arith, g.classes, q.1, h),
+      omega (arith, g.rows, q.2, h),
+      omega (arith, g.size, q.3, h),
+      omega (arith, q.4, h),
+    )
 
 pub loop-i-preserved : goal.loop-i-preserved
 loop-i-preserved c =
     let l = c.loop-i in
     let a = c.args in
+    let p = a.p.now in
     let e = c.scan_export-t.ensures in
-    let h = c.loop-i-test.true in (
-      omega (arith, h),
-      more a.b.now a.s.now a.n a.limit a.v a.step l.invariant.1 e.state e.grown e.size (omega (arith, h, export_count_lem c.requires.package_in.0)) e.marks,
-    )
+    more p.bytes.now a.s.now a.n a.limit a.v a.step l.invariant e.state e.grown e.size (omega (arith, c.loop-i-test.true, export_count_lem p.accepted)) e.marks
 
-pub shape_of-w : goal.shape_of-w
-shape_of-w c = c.loop-i.invariant.1.size
-
-pub returns : goal.returns
-returns c =
-    let l = c.loop-i in
+pub returns-clause-state : goal.returns-clause-state
+returns-clause-state c =
     let a = c.args in
-    let e : l.i ≡ a.p.count = omega (arith, l.invariant.0, c.loop-i-test.false) in
-    record {
-      state = whole a.b.now a.s.now a.n a.limit a.v a.step l.invariant.1 c.requires.package_in.0 e;
-      grown = grown-more l.invariant.0 l.invariant.1.grown;
-      size = l.invariant.1.size;
-      marks = marked a.b.now a.s.now a.n a.limit a.v a.step l.invariant.1 c.requires.package_in.0 e;
-    }
+    whole a.p.now.bytes.now a.s.now a.n a.limit a.v a.step c.loop-i.invariant a.p.now.accepted (omega (arith, c.loop-i.auto.i-end, c.loop-i-test.false))
+
+pub returns-clause-grown : goal.returns-clause-grown
+returns-clause-grown c = grown-more c.loop-i.auto.i-end c.loop-i.invariant.grown
+
+pub returns-clause-marks : goal.returns-clause-marks
+returns-clause-marks c =
+    let a = c.args in
+    marked a.p.now.bytes.now a.s.now a.n a.limit a.v a.step c.loop-i.invariant a.p.now.accepted (omega (arith, c.loop-i.auto.i-end, c.loop-i-test.false))

@@ -1,8 +1,7 @@
 -- `walk::scan_exports` meets its contract. The loop's invariant: the state and the marks are those of the first i exports. Assumes nothing.
 use mathlib.Core.Path.{◌≡◌, refl, ◌∙◌}
-use mathlib.Core.Bool.{false}
 use mathlib.Core.List.{List, ◌++◌, append_assoc, append-nil}
-use Prim.Native.Nat.{ℕ, ◌+◌, ◌-◌, ◌≤◌, ◌<◌}
+use Prim.Native.Nat.{ℕ, ◌+◌, ◌≤◌, ◌<◌}
 use native.Mathlib.Omega.{arith}
 use lib.ListN.{length, take}
 use lib.Seq.{take_all}
@@ -17,6 +16,7 @@ use Rattle.walk.specs.Found.{Found, with_export, with_exports, with_package, Sta
 use Rattle.walk.specs.StateLaws.{exports-next, exports-behind, state_closed}
 use Rattle.walk.specs.Steps.{SomeState, Visited, Marked, Grown}
 use Rattle.walk.specs.declared.walk.Census.{Census}
+use Rattle.walk.specs.declared.walk.Entering.TheVariants.{Open}
 use Rattle.walk.specs.declared.walk.Visit.{Visit}
 use Rattle.walk.proofs.walk.scan_exports.Given as goal
 
@@ -69,7 +69,7 @@ module _ (d b : List ℕ) (n limit : ℕ) (v : Visit) (step : ℕ) {t₀ : Censu
           → State c b o n (with_package limit o v.block (package_in v.id d) f) t w
 
       -- nothing more is entered
-      pub shut : i ≤ p.count → t.open ≡ false → End
+      pub shut : i ≤ p.count → (t.state ≡ Open → ⊥) → End
       shut h q c o f z s =
           state_closed (k.state c o f z s) q (exports-behind limit o v.block (package_in v.id d) f i _ (omega (arith, export_count_lem a))) refl
 
@@ -81,7 +81,4 @@ module _ (d b : List ℕ) (n limit : ℕ) (v : Visit) (step : ℕ) {t₀ : Censu
       marked e l m = let q = take_all i (read_in d).exports (omega (arith, export_count_lem a)) in rw q at (k.marks l m)
 
 abbrev pub invariant-loop-i : goal.invariant-loop-i
-invariant-loop-i l = (l.i ≤ l.p.count) × Done l.b l.s l.n l.limit l.v l.step l.initial.t l.initial.w l.i l.t l.w
-
-abbrev pub decreases-loop-i : goal.decreases-loop-i
-decreases-loop-i l = l.p.count - l.i
+invariant-loop-i l = Done l.p.bytes.now l.s l.n l.limit l.v l.step l.initial.t l.initial.w l.i l.t l.w

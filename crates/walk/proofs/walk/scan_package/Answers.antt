@@ -1,6 +1,5 @@
 -- `walk::scan_package` meets its contract: its section is counted, then its exports. Assumes nothing.
 use mathlib.Core.Path.{◌≡◌, ap}
-use mathlib.Core.Bool.{true}
 use mathlib.Core.List.{List, ◌++◌}
 use Prim.Native.Nat.{ℕ, ◌+◌, ◌*◌, ◌^◌, ◌≤◌, ◌<◌}
 use native.Mathlib.Omega.{arith}
@@ -16,7 +15,9 @@ use Rattle.walk.specs.MarkedLaws.{marked-same}
 use Rattle.walk.specs.StateLaws.{state-head}
 use Rattle.walk.specs.Steps.{opened_as, SomeState, Marked, row_most, head_most, Grown, Small}
 use Rattle.walk.specs.declared.walk.Census.{Census}
+use Rattle.walk.specs.declared.walk.Entering.TheVariants.{Open}
 use Rattle.walk.specs.declared.walk.Visit.{Visit}
+use Rattle.walk.proofs.walk.scan_package.Goals.{After-parts_of-parts}
 use Rattle.walk.proofs.walk.scan_package.Goals as goal
 
 few-exports : {d : List ℕ} {p : Parts} → PackageIn d p → 72 * p.count ≤ length d
@@ -38,7 +39,7 @@ module _ {x : ℕ} (m count : ℕ) {k : ℕ} {t : Census} (h : Small x t) (fits 
   small-next g = record { classes = omega (arith, h.classes, g.classes); rows = omega (arith, h.rows, g.rows); size = omega (arith, h.size, g.size) }
 
 -- d: the block of the package that is visited; b: the script block
-module _ (d b : List ℕ) (n limit : ℕ) (v : Visit) {t : Census} {w : List ℕ} (going : t.open ≡ true) {k : ℕ} (head : (id : ℕ) → k ≡ head_size (package_in id d))
+module _ (d b : List ℕ) (n limit : ℕ) (v : Visit) {t : Census} {w : List ℕ} (going : t.state ≡ Open) {k : ℕ} (head : (id : ℕ) → k ≡ head_size (package_in id d))
     {u : Census} (is : u ≡ opened_as t.classes t.rows (t.size + k)) where
   state_headed : {c : List ℕ} {o : Objects} {f : Found} → State c b o n f t w → State c b o n (with_exports limit o v.block (package_in v.id d) 0 f) u w
   state_headed s = rw is (state-head s going limit v.block (package_in v.id d) (ap (λ (z : ℕ). t.size + z) (head v.id)))
@@ -57,60 +58,65 @@ module _ (d b : List ℕ) (n limit : ℕ) (v : Visit) {t : Census} {w : List ℕ
       → (l : List ℕ) → Marked n l t w → Marked n (l ++ marks_of v.at d) r w'
   marked_headed a e next l m = rw (← step_is a v.at e) (next l (marked-same m going (ap (λ (x : Census). x.rows) is)))
 
+-- its parts are those of an accepted package
+accepted : (c : After-parts_of-parts) → PackageIn c.args.b.now c.parts_of-parts.result
+accepted c = package_in_lem c.args.b.now c.args.l c.parts_of-parts.result c.requires.b_value.0 c.parts_of-parts.ensures
+
 pub note_names-requires : goal.note_names-requires
 note_names-requires c =
-    let a = package_in_lem c.args.b.now c.args.l c.parts_of-p.result c.requires.b_value.0 c.parts_of-p.ensures in
+    let a = accepted (goal.at.note_names-requires c).After-parts_of-parts in
     (names-held a (λ i. (c.type_inv.b i).fits), c.requires.b_value.1)
 
 pub note_names-requires-2 : goal.note_names-requires-2
 note_names-requires-2 c =
-    let p = c.parts_of-p in
-    let a = package_in_lem c.args.b.now c.args.l p.result c.requires.b_value.0 p.ensures in
+    let a = accepted (goal.at.note_names-requires-2 c).After-parts_of-parts in
     (imported-held a (λ i. (c.type_inv.b i).fits), c.requires.b_value.2)
 
-pub head_len-requires : goal.head_len-requires
-head_len-requires c =
-    let p = c.parts_of-p in
-    (package_in_lem c.args.b.now c.args.l p.result c.requires.b_value.0 p.ensures, c.note_names.ensures.0)
-
-pub overflow_add-t : goal.overflow_add-t
-overflow_add-t c =
-    let (x, h, l) = c.requires.open_value.3 in
-    omega (arith, c.head_len.ensures.1, h.size)
+pub invariant_of-p : goal.invariant_of-p
+invariant_of-p c = record {
+  accepted = accepted (goal.at.invariant_of-p c).After-parts_of-parts;
+  fits = λ i. (c.type_inv.b i).fits;
+  names_noted = c.note_names.ensures.0;
+  imported_noted = c.note_names-2.ensures.0;
+}
 
 pub step_of-step-requires : goal.step_of-step-requires
 step_of-step-requires c =
-    let p = c.parts_of-p in
-    let a = c.args in
-    (few-steps c.requires.open_value.1.visited.site (package_in_lem a.b.now a.l p.result c.requires.b_value.0 p.ensures)).0
+    (few-steps c.requires.open_value.1.visited.site (accepted (goal.at.step_of-step-requires c).After-parts_of-parts)).0
 
 pub scan_exports-requires : goal.scan_exports-requires
 scan_exports-requires c =
     let o = c.opened-before.ensures in
-    let h = c.head_len in
-    let p = c.parts_of-p in
+    let h = c.head_len.ensures in
+    let p = c.parts_of-parts.result in
     let a = c.args in
-    let k = package_in_lem a.b.now a.l p.result c.requires.b_value.0 p.ensures in
-    let (x, small, room) = c.requires.open_value.3 in record {
-      package_in = (k, c.note_names.ensures.0, c.note_names-2.ensures.0);
+    let q = c.requires.open_value in
+    let k = accepted (goal.at.scan_exports-requires c).After-parts_of-parts in
+    let (x, small, room) = q.2 in record {
       some_state = (
-        some_headed a.b.now a.s.now a.n a.limit a.v c.requires.open_value.0 h.ensures.0 o c.requires.open_value.1,
-        rw o (few-classes (length a.b.now) p.result.count small (few-exports k) h.ensures.1 room),
-        rw o (few-rows (length a.b.now) p.result.count small (few-exports k) h.ensures.1 room),
-        rw o (few_bytes (length a.b.now) p.result.count small (few-exports k) h.ensures.1 room),
-        c.requires.open_value.2,
-        rw c.step_of-step.ensures (few-steps c.requires.open_value.1.visited.site k).1,
+        some_headed a.b.now a.s.now a.n a.limit a.v q.0 (rw c.block.ensures.0 at h.0) o q.1,
+        rw o (few-classes (length a.b.now) p.count small (few-exports k) h.1 room),
+        rw o (few-rows (length a.b.now) p.count small (few-exports k) h.1 room),
+        rw o (few_bytes (length a.b.now) p.count small (few-exports k) h.1 room),
+        rw c.step_of-step.ensures (few-steps q.1.visited.site k).1,
       );
     }
 
-pub shape_of-w : goal.shape_of-w
-shape_of-w c = c.scan_exports.ensures.size
-
-pub returns : goal.returns
-returns c =
-    let e = c.scan_exports.ensures in
-    let i = c.opened-before.ensures in
-    let h = c.head_len in
-    let p = c.parts_of-p in
+pub returns-clause-state : goal.returns-clause-state
+returns-clause-state c = λ q o f z x.
     let a = c.args in
-    let k = package_in_lem a.b.now a.l p.result c.requires.b_value.0 p.ensures in record { state = λ q o f z x. e.state q o f z (state_headed a.b.now a.s.now a.n a.limit a.v c.requires.open_value.0 h.ensures.0 i x); small = λ x small. small-next (length a.b.now) p.result.count small (few-exports k) h.ensures.1 (rw i at e.grown); size = (e.size, c.note_names.ensures.1, c.note_names-2.ensures.1); marks = marked_headed a.b.now a.s.now a.n a.limit a.v c.requires.open_value.0 h.ensures.0 i k c.step_of-step.ensures e.marks }
+    c.scan_exports.ensures.state q o f z
+    (state_headed a.b.now a.s.now a.n a.limit a.v c.requires.open_value.0 (rw c.block.ensures.0 at c.head_len.ensures.0) c.opened-before.ensures x)
+
+pub returns-clause-small : goal.returns-clause-small
+returns-clause-small c = λ x small.
+    let k = accepted (goal.at.returns-clause-small c).After-parts_of-parts in
+    small-next (length c.args.b.now) c.parts_of-parts.result.count small (few-exports k) c.head_len.ensures.1
+    (rw c.opened-before.ensures at c.scan_exports.ensures.grown)
+
+pub returns-clause-marks : goal.returns-clause-marks
+returns-clause-marks c =
+    let a = c.args in
+    let k = accepted (goal.at.returns-clause-marks c).After-parts_of-parts in
+    marked_headed a.b.now a.s.now a.n a.limit a.v c.requires.open_value.0 (rw c.block.ensures.0 at c.head_len.ensures.0) c.opened-before.ensures k
+    c.step_of-step.ensures c.scan_exports.ensures.marks

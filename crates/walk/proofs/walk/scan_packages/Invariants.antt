@@ -21,7 +21,6 @@ use Rattle.packages.specs.WalkLaws.{place_none, place-next, all_none, all_more, 
 use Rattle.table.specs.Table.{cleared}
 use Rattle.table.specs.Words.{put}
 use Rattle.walk.specs.Found.{Found, with_package, found_in, Linked, State}
-use Rattle.walk.specs.KeptLaws.{back-length}
 use Rattle.resolve.specs.Lent.{lent-part, lent-front}
 use Rattle.resolve.specs.Marks.{marks_of, marks_at, marks_in}
 use Rattle.walk.specs.MarkedLaws.{marked-none, marks-next}
@@ -58,10 +57,7 @@ module _ (s : List ℕ) (at : ℕ) (b : List ℕ) (n limit : ℕ) where
       abbrev pub w₀ : List ℕ
       w₀ = put (48 * n) (length w - 48 * n) w ys
 
-      -- as long as before, and the same in front
-      pub whole : length ys ≡ length (take (length w - 48 * n) (drop (48 * n) w)) → length w₀ ≡ length w
-      whole e = back-length (48 * n) w ys low-room e
-
+      -- the same in front
       pub front : {o : Objects} → ObjectsIn b o (take (48 * n) w) → ObjectsIn b o (take (48 * n) w₀)
       front k = rw (lent-front (48 * n) w ys low-room) k
 
@@ -100,10 +96,9 @@ module _ (s : List ℕ) (at : ℕ) (b : List ℕ) (n limit : ℕ) where
         visited : Visited s v d
         visited = rw e (record { site = own; id = refl })
 
-        pub asked : SomeState b n v d t w × (0 < v.block) × ((x : ℕ) × Small x t × (x + 12 + length d < 2 ^ 32 + 4))
+        pub asked : SomeState b n v d t w × ((x : ℕ) × Small x t × (x + 12 + length d < 2 ^ 32 + 4))
         asked = (
           record { corpus = s; objects = k.objects; found = found_in limit k.objects s at i; visited = visited; holds = k.state k.objects k.linked },
-          rw e (omega arith),
           (here - at, k.small, omega (arith, site_end own, own.stops, own.small)),
         )
 
@@ -139,7 +134,4 @@ module _ (s : List ℕ) (at : ℕ) (b : List ℕ) (n limit : ℕ) where
 
 abbrev pub invariant-loop-i : goal.invariant-loop-i
 invariant-loop-i l =
-    (l.i ≤ l.count) × (length l.names ≡ note_count) × (length l.imported ≡ note_count) × Passed l.c l.at l.s l.n l.limit l.initial.w l.i l.place l.t l.w
-
-abbrev pub decreases-loop-i : goal.decreases-loop-i
-decreases-loop-i l = l.count - l.i
+    (length l.names ≡ note_count) × (length l.imported ≡ note_count) × Passed l.c l.at l.s l.n l.limit l.initial.w l.i l.place l.t l.w

@@ -1,10 +1,10 @@
 -- `layout_of` meets its contract: an accepted block is laid out as its fields say.
+use Rattle.std.specs.Prelude.{Ok}
 use mathlib.Core.Path.{sym, ◌∙◌, ap}
-use native.Mathlib.Nat.{sub-zero}
 use native.Mathlib.Omega.{arith}
+use lib.Seq.{length-take-le}
 use Rattle.zen.specs.Layouts.{Laid}
 use Rattle.zen.proofs.Layouts.{accepted-laid}
-use Rattle.zen.specs.declared.zen.Package.TheVariants.{Accepted}
 use Rattle.zen.proofs.layout.layout_of.Goals.{Start}
 use Rattle.zen.proofs.layout.layout_of.Goals as goal
 
@@ -15,12 +15,15 @@ pub u32_le-size-requires : goal.u32_le-size-requires
 u32_le-size-requires c = omega (arith, (known (goal.at.u32_le-size-requires c).Start).here)
 
 pub slice_bounds-layout_in-end : goal.slice_bounds-layout_in-end
-slice_bounds-layout_in-end c = rw c.u32_le-size.ensures.0 (known (goal.at.slice_bounds-layout_in-end c).Start).within
+slice_bounds-layout_in-end c =
+    let e = c.u32_le-size.ensures.0 in
+    let k = (known (goal.at.slice_bounds-layout_in-end c).Start).within in
+    sym (length-take-le c.u32_le-size.result c.args.b.now (omega (arith, e, k)))
 
 pub layout_in-requires : goal.layout_in-requires
-layout_in-requires c = rw (sub-zero c.u32_le-size.result, c.u32_le-size.ensures.0) (known (goal.at.layout_in-requires c).Start).parts
+layout_in-requires c = rw c.u32_le-size.ensures.0 (known (goal.at.layout_in-requires c).Start).parts
 
 pub returns : goal.returns
 returns c =
     let u = c.u32_le-size in
-    c.requires.1 ∙ ap Accepted ((known (goal.at.returns c).Start).is ∙ sym (rw (sub-zero u.result, u.ensures.0) at c.layout_in.ensures))
+    c.requires.1 ∙ ap Ok ((known (goal.at.returns c).Start).is ∙ sym (rw u.ensures.0 at c.layout_in.ensures))

@@ -1,46 +1,46 @@
 -- `zen::summary::read_summary` meets its contract.
+use Rattle.std.specs.Prelude.{Err, Ok}
 use Prim.Native.Nat.{ℕ, ◌≤◌, ◌<◌}
-use mathlib.Core.Path.{◌≡◌, sym, ◌∙◌}
+use mathlib.Core.Path.{◌≡◌, sym}
 use mathlib.Core.List.{List}
 use lib.ListN.{length}
 use Rattle.base.specs.Reading.{walk, rows}
 use Rattle.batch.specs.BatchAnswers.{checked}
 use Rattle.batch.specs.BatchAnswersLaws.{checked-passed, checked-failed}
-use Rattle.batch.specs.declared.names.Checked.{Checked}
-use Rattle.batch.specs.declared.names.Checked.TheVariants.{Passed, Failed}
 use Rattle.zen.specs.Zen.{offset, summary, summary_at}
 use Rattle.zen.specs.Answers.{summed}
+use Rattle.zen.proofs.Handed.{handed}
 use Rattle.zen.proofs.SummaryLaws.{summary-short, summary-failed, summary-passed}
 use Rattle.zen.specs.declared.summary.Summary.{Summary}
-use Rattle.zen.specs.declared.summary.Summed.TheVariants.{Told, Missed}
 use Rattle.zen.proofs.summary.read_summary.Goals as goal
 
 -- by what the offsets answer
 module _ (s : List ℕ) where
-  short : length s < 24 → Missed 3 ≡ summed (walk summary s 8)
+  short : length s < 24 → Err 3 ≡ summed (walk summary s 8)
   unfolding summed
   short l = rw (summary-short s l)
 
-  module _ (l : 24 ≤ length s) (o : Checked) (e : o ≡ checked (walk (rows 7 offset) s 24)) where
-    failed : (r : ℕ) → o ≡ Failed r → Missed r ≡ summed (walk summary s 8)
+  module _ (l : 24 ≤ length s) where
+    failed : {r : ℕ} → Err r ≡ checked (walk (rows 7 offset) s 24) → Err r ≡ summed (walk summary s 8)
     unfolding summed
-    failed r q = rw (summary-failed s l (checked-failed _ (sym e ∙ q)))
+    failed q = rw (summary-failed s l (checked-failed _ (sym q)))
 
-    there : o ≡ Passed → 52 ≤ length s
-    there q = (summary-passed s l (checked-passed _ (sym e ∙ q)).2).1
+    module _ (q : Ok tt ≡ checked (walk (rows 7 offset) s 24)) where
+      there : 52 ≤ length s
+      there = (summary-passed s l (checked-passed _ (sym q)).2).1
 
-    told : o ≡ Passed → (m : Summary) → m ≡ summary_at s → Told m ≡ summed (walk summary s 8)
-    unfolding summed
-    told q m h = rw ((summary-passed s l (checked-passed _ (sym e ∙ q)).2).0, h)
+      told : (m : Summary) → m ≡ summary_at s → Ok m ≡ summed (walk summary s 8)
+      unfolding summed
+      told m h = rw ((summary-passed s l (checked-passed _ (sym q)).2).0, h)
 
 pub returns-then-s-lt24 : goal.returns-then-s-lt24
 returns-then-s-lt24 c = search short
 
+pub returns-in_err-check_offsets : goal.returns-in_err-check_offsets
+returns-in_err-check_offsets c = handed _ _ c.from_residual.ensures.1 (failed _ c.if-s-lt24.false c.in_err-check_offsets.ensures)
+
 pub summary_in-requires : goal.summary_in-requires
-summary_in-requires c = search there
+summary_in-requires c = there _ c.if-s-lt24.false c.in_ok-check_offsets.ensures
 
-pub returns-in-Failed : goal.returns-in-Failed
-returns-in-Failed c = search failed
-
-pub returns-in-Passed : goal.returns-in-Passed
-returns-in-Passed c = search told
+pub returns : goal.returns
+returns c = told _ c.if-s-lt24.false c.in_ok-check_offsets.ensures _ c.summary_in.ensures

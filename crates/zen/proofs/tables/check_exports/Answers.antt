@@ -1,20 +1,29 @@
--- `zen::tables::check_exports` meets its contract. The loop's invariant: the names are there exactly if those of the exports from here on are.
-use mathlib.Core.Path.{refl, sym, ◌∙◌}
+-- `zen::tables::check_exports` meets its contract: each export is asked.
+use Rattle.std.specs.Bool.{MatchBool}
+use Prim.Native.Nat.{ℕ, ◌+◌, ◌*◌, ◌≤◌, ◌<◌}
+use mathlib.Core.Bool.{Bool, true, false}
+use mathlib.Core.List.{List}
+use mathlib.Core.Path.{◌≡◌, refl, sym}
 use native.Mathlib.Omega.{arith}
-use Rattle.zen.specs.Zen.{export_at}
-use Rattle.zen.specs.TableLaws.{named_none, named-pass, named_fail}
+use borrow.Author.Rules.{rules}
+use borrow.Author.Tests.{tests}
+use Rattle.std.proofs.lemmas.Iterator.{cases_from_all, YieldsList-from_range}
+use Rattle.base.specs.ReadingRows.{cells}
+use Rattle.batch.specs.Field.{low30}
+use Rattle.scriptblock.proofs.Seeking.{all_in_range}
+use Rattle.zen.specs.Zen.{export_at, named}
+use Rattle.zen.specs.TableLaws.{named-all, named-some}
 use Rattle.zen.proofs.tables.check_exports.Goals as goal
 
-pub loop-left-init : goal.loop-left-init
-loop-left-init c = (c.requires, refl)
-
-pub returns-then-count-u30_le : goal.returns-then-count-u30_le
-unfolding export_at
-returns-then-count-u30_le c = let l = c.loop-left in sym (l.invariant.1 ∙ named_fail _ _ l.at l.left (omega arith) (omega arith))
-
-pub loop-left-preserved : goal.loop-left-preserved
-unfolding export_at
-loop-left-preserved c = let l = c.loop-left in (omega arith, l.invariant.1 ∙ named-pass _ _ l.at l.left (omega arith) (omega arith))
+module _ (s : List ℕ) (count from n : ℕ) where
+  named_is : (r : Bool) → MatchBool r ((k : ℕ) → k < n → low30 s (from + 72 * k + 16) < count) ((k : ℕ) × (k < n) × (count ≤ low30 s (from + 72 * k + 16)))
+      → r ≡ named count (cells (export_at s) 72 from n)
+  named_is true h = sym (named-all s count from n h)
+  named_is false h = sym (named-some s count from n h.0 h.1 h.2)
 
 pub returns : goal.returns
-returns c = let l = c.loop-left in sym (l.invariant.1 ∙ named_none _ _ l.at l.left (omega arith))
+returns c =
+    let a = c.args in
+    let r = cases_from_all _ _ _ (λ k. low30 a.s.now (a.from + 72 * k + 16) < a.count) (λ k. a.count ≤ low30 a.s.now (a.from + 72 * k + 16)) c.all.ensures.ran
+    (YieldsList-from_range 0 a.n a.n refl (omega arith)) (λ x q k. search (rules, tests)) (λ x q k. search (rules, tests)) in
+    named_is a.s.now a.count a.from a.n c.all.result (all_in_range a.n c.all.result _ _ r)

@@ -1,20 +1,20 @@
 -- `zenapi::names::zen_imported_id` meets its contract.
-use mathlib.Core.Path.{refl}
-use Rattle.zenapi.proofs.PackageFound.{no_id, accepted, id-past, id-there}
-use borrow.Author.Rules.{rules}
+use Rattle.std.specs.Prelude.{◌≡◌, Ok}
+use Rattle.zen.specs.Answers.{answer}
+use Rattle.zenapi.specs.Answers.{package_in}
+use Rattle.zenapi.proofs.PackageFound.{no_id, id-past, id-there}
+use Rattle.zenapi.proofs.names.zen_imported_id.Goals.{In-Ok}
 use Rattle.zenapi.proofs.names.zen_imported_id.Goals as goal
 
-pub returns-then-l-i : goal.returns-then-l-i
-returns-then-l-i c = search id-past
+-- the block that was opened is the one that was passed
+accepted : (c : In-Ok) → answer (package_in c.args.b.now) ≡ Ok c.in-Ok.p.layout
+accepted c = let p = c.in-Ok.p in rw c.in-Ok.ensures at p.accepted
 
-pub note_imported_names-requires : goal.note_imported_names-requires
-note_imported_names-requires c = (search accepted, refl)
+pub returns-in_default : goal.returns-in_default
+returns-in_default c = no_id _ _ c.in_default.ensures _
 
-pub imported_id-requires : goal.imported_id-requires
-imported_id-requires c = (search accepted, search rules, c.note_imported_names.ensures.0)
+pub returns-then-p-i : goal.returns-then-p-i
+returns-then-p-i c = id-past _ _ (accepted (goal.at.returns-then-p-i c).In-Ok) _ c.if-p-i.true
 
-pub returns-in-Rejected : goal.returns-in-Rejected
-returns-in-Rejected c = search no_id
-
-pub returns-else-l-i : goal.returns-else-l-i
-returns-else-l-i c = search id-there
+pub returns : goal.returns
+returns c = id-there _ _ (accepted (goal.at.returns c).In-Ok) _ _ c.if-p-i.false (rw c.in-Ok.ensures at c.imported_id.ensures)

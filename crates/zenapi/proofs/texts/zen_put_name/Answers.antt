@@ -1,23 +1,18 @@
 -- `zenapi::texts::zen_put_name` meets its contract.
 use Rattle.zenapi.proofs.TextsFound.{there, put-missing, put-short, put-there}
-use Rattle.zenapi.specs.Texts.{Found}
-use Rattle.zenapi.proofs.texts.zen_put_name.Goals.{In-At}
 use Rattle.zenapi.proofs.texts.zen_put_name.Goals as goal
 
-found : (c : In-At) → let a = c.args in Found a.b.now a.which a.i c.in-At.p c.in-At.number
-found c = there c.args.out.now _ _ _ _ c.find_text.ensures c.in-At.is
+pub returns-in_default : goal.returns-in_default
+returns-in_default c = put-missing _ _ _ _ c.in_default.ensures
 
 pub place_len-requires : goal.place_len-requires
-place_len-requires c = (found (goal.at.place_len-requires c).In-At).base
+place_len-requires c = (there c.in-Some.ensures).base
+
+pub returns-then-out-place_len : goal.returns-then-out-place_len
+returns-then-out-place_len c = put-short _ _ _ _ (there c.in-Some.ensures) (rw c.place_len.ensures.0 at c.if-out-place_len.true)
 
 pub put_place-requires : goal.put_place-requires
-put_place-requires c = ((found (goal.at.put_place-requires c).In-At).base, rw c.place_len.ensures.0 at c.if-place_len-out.true)
+put_place-requires c = ((there c.in-Some.ensures).base, rw c.place_len.ensures.0 at c.if-out-place_len.false)
 
-pub returns-then-place_len-out : goal.returns-then-place_len-out
-returns-then-place_len-out c = put-there _ _ _ _ (found (goal.at.returns-then-place_len-out c).In-At) c.put_place.ensures
-
-pub returns-in-Missing : goal.returns-in-Missing
-returns-in-Missing c = put-missing _ _ _ _ _ c.find_text.ensures c.in-Missing.is
-
-pub returns-else-place_len-out : goal.returns-else-place_len-out
-returns-else-place_len-out c = put-short _ _ _ _ (found (goal.at.returns-else-place_len-out c).In-At) (rw c.place_len.ensures.0 at c.if-place_len-out.false)
+pub returns : goal.returns
+returns c = put-there _ _ _ _ (there c.in-Some.ensures) c.put_place.ensures

@@ -1,7 +1,0 @@
--- `city::first_state` computes `start`. Assumes nothing.
-use Rattle.city.specs.City.{start}
-use Rattle.city.proofs.city.first_state.Goals as goal
-
-pub returns : goal.returns
-unfolding start
-returns c = cc

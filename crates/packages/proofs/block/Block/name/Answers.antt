@@ -1,0 +1,11 @@
+-- `packages::block::Block::name` meets its contract. Assumes nothing.
+use Rattle.packages.specs.PackageLaws.{names-held, name-holds}
+use Rattle.packages.proofs.block.Block.name.Goals as goal
+
+pub place_at-requires : goal.place_at-requires
+place_at-requires c = let s = c.args.self.now in (names-held s.accepted s.fits, c.requires.1, c.requires.0)
+
+pub returns : goal.returns
+returns c =
+    let s = c.args.self.now in
+    (c.place_at.ensures, rw c.place_at.ensures (name-holds s.accepted s.fits c.args.i c.requires.1))

@@ -1,0 +1,33 @@
+-- The kinds of candidates and of class references by their numbers in a report (document 01: "kind 1", "kind 2"; "class kinds 0 to 7: script found,
+-- script unresolved, import found, import unresolved, export found, export unresolved, null, bad"). Assumes nothing.
+use Rattle.std.specs.Prelude.{◌≡◌, refl, eqb, Bool, true, false, ℕ, Option, Some, None}
+use Rattle.packages.specs.declared.package.ClassKind.{ClassKind}
+use Rattle.packages.specs.declared.package.ClassKind.TheVariants.{Script, Import, Export, Null, Bad}
+use Rattle.packages.specs.declared.rows.Candidate.{Candidate}
+use Rattle.packages.specs.declared.rows.Candidate.TheVariants.{Variable, Subobject}
+
+-- a candidate's kind, or 0 where it is none
+abbrev pub candidate_number : Option Candidate → ℕ
+candidate_number None = 0
+candidate_number (Some Variable) = 1
+candidate_number (Some Subobject) = 2
+
+-- a class kind, where it is found
+abbrev pub class_code : ClassKind → ℕ
+class_code Script = 0
+class_code Import = 2
+class_code Export = 4
+class_code Null = 6
+class_code Bad = 7
+
+-- kind 1: the name without its suffix is the instance
+abbrev pub is_variable : Option Candidate → Bool
+is_variable None = false
+is_variable (Some Variable) = true
+is_variable (Some Subobject) = false
+
+-- the same by the number
+pub variable-is : (k : Option Candidate) → is_variable k ≡ eqb (candidate_number k) 1
+variable-is None = refl
+variable-is (Some Variable) = refl
+variable-is (Some Subobject) = refl

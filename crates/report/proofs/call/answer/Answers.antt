@@ -1,0 +1,48 @@
+-- `report::call::answer` meets its contract. Assumes nothing.
+use Rattle.std.specs.Prelude.{Ok, Err}
+use Rattle.std.proofs.lemmas.Result.{err_from_is_err_and}
+use mathlib.Core.Path.{◌≡◌}
+use native.Mathlib.Omega.{arith}
+use lib.ListN.{length}
+use borrow.Author.Rules.{rules}
+use Rattle.base.specs.Refusal.{number}
+use Rattle.scriptblock.specs.ScriptAnswers.{opened}
+use Rattle.scriptblock.proofs.ScriptLaws.{script-shut}
+use Rattle.resolve.specs.Rows.{limits_of}
+use Rattle.walk.specs.OpenLaws.{opened-broken, opened-script}
+use Rattle.report.specs.CallLaws.{refused-opened, answered-refused}
+use Rattle.report.proofs.call.answer.Goals.{In_err-layout, In_ok-layout}
+use Rattle.report.proofs.call.answer.Goals as goal
+
+-- the opened script block, or what it is refused for
+opened-at : (c : In_ok-layout) → opened c.in_ok-c.c.script.now ≡ Ok c.in_ok-layout.layout
+opened-at c = search rules
+
+shut : (c : In_err-layout) → let e = c.in_err-layout.field-0.0 in (opened c.in_ok-c.c.script.now ≡ Err (number e.why)) × (e.block ≡ 1)
+shut c = search rules
+
+pub returns-in_err-c : goal.returns-in_err-c
+returns-in_err-c c =
+    let m = c.args.m in
+    let p = err_from_is_err_and c.from_residual.result c.from_residual.ensures.1 in
+    let (e, b) = c.in_err-c.ensures in
+    rw (p.1, p.2) (answered-refused (refused-opened (opened-broken (limits_of m.lookups m.objects) _ e) (rw b)))
+
+pub returns-in_err-layout : goal.returns-in_err-layout
+returns-in_err-layout c =
+    let m = c.args.m in
+    let r = c.from_residual-in_err-layout in
+    let p = err_from_is_err_and r.result r.ensures.1 in
+    let (e, b) = shut (goal.at.returns-in_err-layout c).In_err-layout in
+    let opens = rw c.in_ok-c.ensures at (opened-script (limits_of m.lookups m.objects) _ c.in_ok-c.c.begun (script-shut _ e)) in
+    rw (p.1, p.2) (answered-refused (refused-opened opens (rw b)))
+
+pub returns-then-w-layout : goal.returns-then-w-layout
+returns-then-w-layout c =
+    let a = c.args in
+    let l = opened-at (goal.at.returns-then-w-layout c).In_ok-layout in
+    let refuses = rw c.in_ok-c.ensures at c.without_table.ensures in
+    answered-refused (refuses c.in_ok-layout.layout a.m.lookups (length a.w.now) (length a.report.now) l (omega arith))
+
+pub with_table-requires : goal.with_table-requires
+with_table-requires c = (opened-at (goal.at.with_table-requires c).In_ok-layout, omega arith)

@@ -1,0 +1,30 @@
+// What a report is written from.
+ghost use Rattle.std.specs.Prelude.{◌≡◌, ◌*◌, ◌≤◌, length, take, drop};
+
+// The corpus, its script block, the resolved work buffer with so many script objects in front, and how many objects a path may have.
+#[derive(Clone, Copy)]
+pub struct Source<'a> {
+    pub corpus: &'a [u8],
+    pub script: &'a [u8],
+    pub work: &'a [u8],
+    pub objects: usize,
+    pub limit: usize,
+}
+
+impl<'a> Source<'a> {
+    // The script objects in the front of the work buffer.
+    pub fn front(&self) -> &'a [u8]
+        requires { 48 * self.now.objects ≤ length self.now.work.now }
+        ensures { result.now ≡ take (48 * self.now.objects) self.now.work.now }
+    {
+        &self.work[..48 * self.objects]
+    }
+
+    // What stands behind them: classes and rows.
+    pub fn rest(&self) -> &'a [u8]
+        requires { 48 * self.now.objects ≤ length self.now.work.now }
+        ensures { result.now ≡ drop (48 * self.now.objects) self.now.work.now }
+    {
+        &self.work[48 * self.objects..]
+    }
+}
