@@ -1,4 +1,5 @@
-// The number that a call returns, packed and unpacked by shifts and masks.
+// The number that a call returns, packed and unpacked by shifts and masks. Unpacked it is for callers in Rattle, of which this repository has none: C has
+// include/classreport.h for it, and Rust host/answer.
 ghost use Rattle.std.specs.Prelude.{◌≡◌};
 ghost use Rattle.base.specs.Answer.{refusal, is_refusal, question_of, block_of};
 ghost use Rattle.base.specs.Refusal.{number};
@@ -6,6 +7,7 @@ ghost use Rattle.base.specs.Refusal.{number};
 use super::refusal::Refused;
 
 // The number of a refusal: bit 63, the question in bits 32 to 39, the block in bits 0 to 31.
+// Kept: numbers, since they are packed for C; those of a Refused come by `number`.
 pub fn refuse(question: u8, block: u32) -> u64
     ensures { result ≡ refusal question block }
 {

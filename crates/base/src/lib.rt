@@ -1,4 +1,4 @@
-// Layer 1, at its bottom: numbers in bytes.
+// Layer 1, at its bottom: numbers in bytes, indices, refusals and answers.
 
 #![tactic(auto)]
 

@@ -1,15 +1,18 @@
 // Numbers in bytes: read in either order of bytes.
-ghost use Rattle.std.specs.Prelude.{◌≡◌, ◌+◌, ◌*◌, ◌^◌, ◌≤◌, ◌<◌, length};
+ghost use Rattle.std.specs.Prelude.{◌≡◌, ◌+◌, ◌≤◌, length};
 ghost use Rattle.base.specs.Number.{le_at, be_at};
 
-// Kept: a function for each width and order, since a trait over the widths would have these bodies, one an `impl`.
+// Kept: a function for each width and order: `from_le_bytes` is of no trait, so a trait over the widths would have these lines, each in an `impl`.
+
+// Kept: a slice and a place in it are two parameters, and that the place lies inside is a `requires`, here and wherever something is read at a place: a
+// struct of the two that holds the fact would be made anew for each field, as `Spot { s, at: at + 4 }.le32()`.
 
 // The u16 of the two bytes from a place on, little-endian.
 pub fn le16(s: &[u8], at: usize) -> u16
     requires { at + 2 ≤ length s.now }
     ensures { result ≡ le_at 2 s.now at }
 {
-    u16::from_le_bytes([s[at], s[at + 1]])
+    u16::from_le_bytes(s[at..at + 2].try_into().unwrap())
 }
 
 // The u32 of the four bytes from a place on, little-endian.
@@ -17,7 +20,7 @@ pub fn le32(s: &[u8], at: usize) -> u32
     requires { at + 4 ≤ length s.now }
     ensures { result ≡ le_at 4 s.now at }
 {
-    u32::from_le_bytes([s[at], s[at + 1], s[at + 2], s[at + 3]])
+    u32::from_le_bytes(s[at..at + 4].try_into().unwrap())
 }
 
 // The u64 of the eight bytes from a place on, little-endian.
@@ -25,16 +28,7 @@ pub fn le64(s: &[u8], at: usize) -> u64
     requires { at + 8 ≤ length s.now }
     ensures { result ≡ le_at 8 s.now at }
 {
-    u64::from_le_bytes([
-        s[at],
-        s[at + 1],
-        s[at + 2],
-        s[at + 3],
-        s[at + 4],
-        s[at + 5],
-        s[at + 6],
-        s[at + 7],
-    ])
+    u64::from_le_bytes(s[at..at + 8].try_into().unwrap())
 }
 
 // The u32 of the four bytes from a place on, big-endian.
@@ -42,7 +36,7 @@ pub fn be32(s: &[u8], at: usize) -> u32
     requires { at + 4 ≤ length s.now }
     ensures { result ≡ be_at 4 s.now at }
 {
-    u32::from_be_bytes([s[at], s[at + 1], s[at + 2], s[at + 3]])
+    u32::from_be_bytes(s[at..at + 4].try_into().unwrap())
 }
 
 // The u64 of the eight bytes from a place on, big-endian.
@@ -50,14 +44,5 @@ pub fn be64(s: &[u8], at: usize) -> u64
     requires { at + 8 ≤ length s.now }
     ensures { result ≡ be_at 8 s.now at }
 {
-    u64::from_be_bytes([
-        s[at],
-        s[at + 1],
-        s[at + 2],
-        s[at + 3],
-        s[at + 4],
-        s[at + 5],
-        s[at + 6],
-        s[at + 7],
-    ])
+    u64::from_be_bytes(s[at..at + 8].try_into().unwrap())
 }

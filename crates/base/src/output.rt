@@ -3,6 +3,9 @@ ghost use Rattle.std.specs.Prelude.{[], ◌∷◌, ◌≤◌, length};
 ghost use Rattle.base.specs.Number.{be_bytes};
 ghost use Rattle.base.specs.Output.{Wrote};
 
+// Kept: a buffer and what is written to it are two parameters, and that it has room is a `requires`, here and in all that writes: a buffer whose type
+// says how much room it has would be made anew behind each part, as `Room::<4> { out: &mut out[n..] }.put_be32(m)`.
+
 // One byte.
 pub fn put_byte(out: &mut [u8], b: u8) -> usize
     requires { 1 ≤ length out.old }
@@ -12,6 +15,8 @@ pub fn put_byte(out: &mut [u8], b: u8) -> usize
     1
 }
 
+// Kept: one call of the library and its count: without the function each caller says both, as
+// `out[n..n + src.len()].copy_from_slice(src); n += src.len();`.
 // The bytes of src.
 pub fn put_bytes(out: &mut [u8], src: &[u8]) -> usize
     requires { length src.now ≤ length out.old }
@@ -21,15 +26,14 @@ pub fn put_bytes(out: &mut [u8], src: &[u8]) -> usize
     src.len()
 }
 
-// Kept: two functions, since a trait over u32 and u64 would have these bodies, one an `impl`.
+// Kept: two functions of one line: `to_be_bytes` is of no trait, so a trait over u32 and u64 would have this line in each `impl`.
 
 // A number in 4 bytes, big-endian.
 pub fn put_be32(out: &mut [u8], n: u32) -> usize
     requires { 4 ≤ length out.old }
     ensures { Wrote out.old (be_bytes 4 n) out.new result }
 {
-    out[..4].copy_from_slice(&n.to_be_bytes());
-    4
+    put_bytes(out, &n.to_be_bytes())
 }
 
 // A number in 8 bytes, big-endian.
@@ -37,6 +41,5 @@ pub fn put_be64(out: &mut [u8], n: u64) -> usize
     requires { 8 ≤ length out.old }
     ensures { Wrote out.old (be_bytes 8 n) out.new result }
 {
-    out[..8].copy_from_slice(&n.to_be_bytes());
-    8
+    put_bytes(out, &n.to_be_bytes())
 }

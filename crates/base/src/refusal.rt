@@ -4,34 +4,34 @@ ghost use Rattle.base.specs.Refusal.{number};
 
 #[derive(Clone, Copy, PartialEq, Eq)]
 pub enum Refusal {
-    Framing,
-    Version,
-    Cut,
-    HashVersion,
-    NameOutside,
-    IllFormedName,
-    StringsLeft,
-    NegativeCount,
-    CountTooLarge,
-    NameIndex,
-    NotAnObject,
-    RepeatedObject,
-    EntriesLeft,
-    Flag,
-    HeaderSize,
-    NegativeOffset,
-    OffsetOrder,
-    NegativeBulk,
-    BulkEnd,
-    Multiples,
-    ExportMultiples,
-    NamesLeft,
-    RepeatedClass,
-    WorkRoom,
-    ReportRoom,
-    Malformed,
-    HeaderRoom,
-    Limits,
+    Framing = 1,
+    Version = 2,
+    Cut = 3,
+    HashVersion = 4,
+    NameOutside = 5,
+    IllFormedName = 6,
+    StringsLeft = 7,
+    NegativeCount = 8,
+    CountTooLarge = 9,
+    NameIndex = 10,
+    NotAnObject = 11,
+    RepeatedObject = 12,
+    EntriesLeft = 13,
+    Flag = 14,
+    HeaderSize = 15,
+    NegativeOffset = 16,
+    OffsetOrder = 17,
+    NegativeBulk = 18,
+    BulkEnd = 19,
+    Multiples = 20,
+    ExportMultiples = 21,
+    NamesLeft = 22,
+    RepeatedClass = 24,
+    WorkRoom = 25,
+    ReportRoom = 26,
+    Malformed = 27,
+    HeaderRoom = 28,
+    Limits = 29,
 }
 
 impl Refusal {
@@ -39,40 +39,12 @@ impl Refusal {
     pub fn number(self) -> u8
         ensures { result ≡ number self }
     {
-        match self {
-            Refusal::Framing => 1,
-            Refusal::Version => 2,
-            Refusal::Cut => 3,
-            Refusal::HashVersion => 4,
-            Refusal::NameOutside => 5,
-            Refusal::IllFormedName => 6,
-            Refusal::StringsLeft => 7,
-            Refusal::NegativeCount => 8,
-            Refusal::CountTooLarge => 9,
-            Refusal::NameIndex => 10,
-            Refusal::NotAnObject => 11,
-            Refusal::RepeatedObject => 12,
-            Refusal::EntriesLeft => 13,
-            Refusal::Flag => 14,
-            Refusal::HeaderSize => 15,
-            Refusal::NegativeOffset => 16,
-            Refusal::OffsetOrder => 17,
-            Refusal::NegativeBulk => 18,
-            Refusal::BulkEnd => 19,
-            Refusal::Multiples => 20,
-            Refusal::ExportMultiples => 21,
-            Refusal::NamesLeft => 22,
-            Refusal::RepeatedClass => 24,
-            Refusal::WorkRoom => 25,
-            Refusal::ReportRoom => 26,
-            Refusal::Malformed => 27,
-            Refusal::HeaderRoom => 28,
-            Refusal::Limits => 29,
-        }
+        self as u8
     }
 }
 
 // A refusal, and the block that it is of: 0 for none, 1 for the script block, 2 and on for the packages.
+// Kept: block 0 and no Option: document 01 numbers the blocks so, and the number that C sees has it.
 #[derive(Clone, Copy, PartialEq, Eq)]
 pub struct Refused {
     pub why: Refusal,

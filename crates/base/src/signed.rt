@@ -6,7 +6,8 @@ ghost use Rattle.base.specs.SignedSize.{size_in};
 
 use super::number::{le32, le64};
 
-// Kept: two functions of each kind, since a trait over i32 and i64 would have these bodies, one an `impl`.
+// Kept: two functions of each kind: a trait over i32 and i64 would have `le_i32` and `le_i64` as its impls, and `le_size` over it be told the type in each
+// call, as `le_size::<i32>(b, at)`.
 
 // The i32 of the four bytes from a place on, little-endian.
 pub fn le_i32(s: &[u8], at: usize) -> i32

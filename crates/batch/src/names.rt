@@ -46,20 +46,14 @@ pub fn read_head(s: &[u8], h: usize) -> Head
 }
 
 // Every name, and that the strings are used up: questions 5 to 7.
-fn check_names(
-    s: &[u8],
-    count: usize,
-    headers: usize,
-    from: usize,
-    end: usize,
-) -> Result<(), Refusal>
-    requires { (headers + 2 * count ≤ length s.now) × (from ≤ end) × (end ≤ length s.now) }
-    ensures { numbered result ≡ checked (walk (strings (cells (head_at s.now) 2 headers count) (end - from)) s.now from) }
+fn check_names(s: &[u8], n: Names) -> Result<(), Refusal>
+    requires { (n.headers + 2 * n.count ≤ length s.now) × (n.strings ≤ n.«end») × (n.«end» ≤ length s.now) }
+    ensures { numbered result ≡ checked (walk (strings (cells (head_at s.now) 2 n.headers n.count) (n.«end» - n.strings)) s.now n.strings) }
 {
-    let mut p = from;
-    for i in 0..count {
-        let d = read_head(s, headers + 2 * i);
-        if end - p < d.size {
+    let mut p = n.strings;
+    for i in 0..n.count {
+        let d = read_head(s, n.headers + 2 * i);
+        if n.end - p < d.size {
             return Err(Refusal::NameOutside);
         }
         let next = p + d.size;
@@ -71,7 +65,7 @@ fn check_names(
         }
         p = next;
     }
-    if p != end {
+    if p != n.end {
         return Err(Refusal::StringsLeft);
     }
     Ok(())
@@ -95,13 +89,14 @@ fn read_body(s: &[u8], at: usize, count: usize, room: usize) -> Result<Names, Re
     if end < next {
         return Err(Refusal::Cut);
     }
-    check_names(s, count, headers, strings, next)?;
-    Ok(Names {
+    let n = Names {
         count,
         headers,
         strings,
         end: next,
-    })
+    };
+    check_names(s, n)?;
+    Ok(n)
 }
 
 // Past a count that is not 0: the length of the strings, the version, the body.

@@ -1,5 +1,6 @@
 // Notes of where the names of a batch start, so that a name is reached by its number without passing over all before it.
-ghost use Rattle.std.specs.Prelude.{◌≡◌, ◌<◌, ◌≤◌, length};
+ghost use Rattle.std.specs.Prelude.{◌≡◌, ◌<◌, length};
+ghost use Rattle.base.specs.NumberLaws.{Bytes};
 ghost use Rattle.batch.specs.Places.{name_start, place_at, Held};
 ghost use Rattle.batch.specs.Notes.{note_count, step_of, Noted};
 
@@ -16,71 +17,117 @@ fn step_of(count: usize) -> usize
     count / NOTES + 1
 }
 
-// Notes where each name starts: for fewer names than notes.
-fn note_each(s: &[u8], n: Names, notes: &mut [u32; NOTES])
-    requires { Held s.now n × (n.count < note_count) × (length notes.old ≡ note_count) }
-    ensures { Noted s.now n notes.new × (length notes.new ≡ note_count) }
-{
-    let mut p: usize = 0;
-    for k in 0..n.count {
-        notes[k] = p as u32;
-        p += read_head(s, n.headers + 2 * k).size;
-    }
+// Room for notes of where the names of a batch start, which a caller lends, since nothing may be allocated.
+#[derive(Drop)]
+pub struct Notes {
+    pub starts: [u32; NOTES],
+    pub ghost full: { length starts ≡ note_count },
 }
 
-// Notes where every step-th name starts.
-fn note_some(s: &[u8], n: Names, notes: &mut [u32; NOTES])
-    requires { Held s.now n × (length notes.old ≡ note_count) }
-    ensures { Noted s.now n notes.new × (length notes.new ≡ note_count) }
-{
-    let step = step_of(n.count);
-    let mut p = n.strings;
-    for k in 0..NOTES {
-        notes[k] = (p - n.strings) as u32;
-        let before = step * k;
-        if n.count - before < step {
-            return;
+impl Notes {
+    // With nothing noted.
+    pub fn new() -> Notes {
+        Notes { starts: [0; NOTES] }
+    }
+
+    // Kept: a block and its batch come apart here: as long as its names aren't noted only these functions ask for `Held`, and a struct of both would stand
+    // inside `NotedNames`, as `n.batch.names.count`.
+
+    // Notes where each name starts: for fewer names than notes.
+    fn note_each(&mut self, s: &[u8], n: Names)
+        requires { Held s.now n × (n.count < note_count) }
+        ensures { Noted s.now n self.new.starts }
+    {
+        let mut p: usize = 0;
+        for k in 0..n.count {
+            self.starts[k] = p as u32;
+            p += read_head(s, n.headers + 2 * k).size;
         }
-        p = name_start(s, n.headers + 2 * before, p, step);
+    }
+
+    // Notes where every step-th name starts.
+    fn note_some(&mut self, s: &[u8], n: Names)
+        requires { Held s.now n }
+        ensures { Noted s.now n self.new.starts }
+    {
+        let step = step_of(n.count);
+        let mut p = n.strings;
+        for k in 0..NOTES {
+            self.starts[k] = (p - n.strings) as u32;
+            let before = step * k;
+            if n.count - before < step {
+                return;
+            }
+            p = name_start(s, n.headers + 2 * before, p, step);
+        }
+    }
+
+    // Notes where the names of a batch start.
+    fn note(&mut self, s: &[u8], n: Names)
+        requires { Held s.now n }
+        ensures { Noted s.now n self.new.starts }
+    {
+        if n.count < NOTES {
+            self.note_each(s, n);
+        } else {
+            self.note_some(s, n);
+        }
     }
 }
 
-// Notes where the names of a batch start.
-pub fn note_names(s: &[u8], n: Names, notes: &mut [u32; NOTES])
-    requires { Held s.now n × (length notes.old ≡ note_count) }
-    ensures { Noted s.now n notes.new × (length notes.new ≡ note_count) }
-{
-    if n.count < NOTES {
-        note_each(s, n, notes);
-    } else {
-        note_some(s, n, notes);
-    }
+// A batch in its block, whose names are noted.
+#[derive(Clone, Copy)]
+pub struct NotedNames<'a> {
+    pub block: &'a [u8],
+    pub names: Names,
+    pub notes: &'a Notes,
+    pub ghost held: { Held block.now names },
+    pub ghost noted: { Noted block.now names notes.now.starts },
+    pub ghost fits: { Bytes block.now },
 }
 
-// Where name i starts, from the nearest note before it.
-fn start_of(s: &[u8], n: Names, notes: &[u32; NOTES], i: usize) -> usize
-    requires { Held s.now n × (i < n.count) × Noted s.now n notes.now }
-    ensures { result ≡ name_start s.now n.headers n.strings i }
-{
-    if n.count < NOTES {
-        return n.strings + notes[i] as usize;
+impl<'a> NotedNames<'a> {
+    // The batch, once its names are noted.
+    pub fn of(block: &'a [u8], names: Names, notes: &'a mut Notes) -> NotedNames<'a>
+        requires { Held block.now names }
+        ensures { (result.block ≡ block.entry) × (result.names ≡ names) }
+    {
+        notes.note(block, names);
+        NotedNames {
+            block,
+            names,
+            notes,
+        }
     }
-    let step = step_of(n.count);
-    let k = i / step;
-    let before = step * k;
-    name_start(
-        s,
-        n.headers + 2 * before,
-        n.strings + notes[k] as usize,
-        i - before,
-    )
-}
 
-// Where name i is.
-pub fn place_at(s: &[u8], n: Names, notes: &[u32; NOTES], i: usize) -> Place
-    requires { Held s.now n × (i < n.count) × Noted s.now n notes.now }
-    ensures { result ≡ place_at s.now n i }
-{
-    let start = start_of(s, n, notes, i);
-    Place::at(start, read_head(s, n.headers + 2 * i))
+    // Where name i starts, from the nearest note before it.
+    fn start(&self, i: usize) -> usize
+        requires { i < self.now.names.count }
+        ensures { result ≡ name_start self.now.block.now self.now.names.headers self.now.names.strings i }
+    {
+        let n = self.names;
+        if n.count < NOTES {
+            return n.strings + self.notes.starts[i] as usize;
+        }
+        let step = step_of(n.count);
+        let k = i / step;
+        let before = step * k;
+        name_start(
+            self.block,
+            n.headers + 2 * before,
+            n.strings + self.notes.starts[k] as usize,
+            i - before,
+        )
+    }
+
+    // Where name i is.
+    pub fn place(&self, i: usize) -> Place
+        requires { i < self.now.names.count }
+        ensures { result ≡ place_at self.now.block.now self.now.names i }
+    {
+        Place::at(
+            self.start(i),
+            read_head(self.block, self.names.headers + 2 * i),
+        )
+    }
 }

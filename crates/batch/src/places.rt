@@ -25,6 +25,13 @@ impl Place {
     }
 }
 
+// A name: where the text of its base stands in its block, and its instance number.
+#[derive(Clone, Copy)]
+pub struct Name {
+    pub place: Place,
+    pub number: u32,
+}
+
 // Where the i-th name from a header and a string on starts.
 pub fn name_start(s: &[u8], from: usize, first: usize, i: usize) -> usize
     requires { (from + 2 * i ≤ length s.now) × (name_start s.now from first i ≤ length s.now) }

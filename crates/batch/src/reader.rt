@@ -19,6 +19,7 @@ pub fn u32_le(s: &[u8], at: usize) -> usize
 }
 
 // The number of eight bytes.
+// Kept: base's `le64` by a second name, which goes with `u32_le` and `u30_le`: both of them answer a usize, and have no name in base.
 pub fn u64_le(s: &[u8], at: usize) -> u64
     requires { at + 8 ≤ length s.now }
     ensures { result ≡ le_at 8 s.now at }

@@ -9,8 +9,13 @@ ghost use Rattle.text.specs.Utf8.{utf8};
 ghost use Rattle.batch.specs.Places.{part_at};
 ghost use Rattle.batch.specs.Holds.{text_at, name_at, Holds, place_without};
 
-use super::places::Place;
+use super::places::{Name, Place};
 use text::text::{Part, Text};
+
+// Kept: block and name are two parameters, and that the place holds a text is a `requires`: rows and the work buffer keep names without their block,
+// so that a struct of both would be made anew for each call, as `Stands { block: b, name: u }.len()`.
+// Kept: an affix is bytes, and that they are ASCII a `requires`: each is a literal, of which a type would be made in the call, as
+// `Ascii { bytes: b"Class" }`.
 
 // The bytes at a place.
 pub fn part_of(b: &[u8], p: Place) -> &[u8]
@@ -37,27 +42,27 @@ pub fn text_of<'a>(b: &'a [u8], p: Place) -> Text<'a>
 }
 
 // How many bytes of UTF-8 the name takes.
-pub fn place_len(b: &[u8], p: Place, number: u32) -> usize
-    requires { Holds b.now p (text_at b.now p) }
-    ensures { (result ≡ length (utf8 (name_at b.now p number))) × (result ≤ 131089) }
+pub fn place_len(b: &[u8], n: Name) -> usize
+    requires { Holds b.now n.place (text_at b.now n.place) }
+    ensures { (result ≡ length (utf8 (name_at b.now n.place n.number))) × (result ≤ 131089) }
 {
-    text::plain::name_len(text_of(b, p), number)
+    text::plain::name_len(text_of(b, n.place), n.number)
 }
 
 // The name.
-pub fn put_place(out: &mut [u8], b: &[u8], p: Place, number: u32) -> usize
-    requires { Holds b.now p (text_at b.now p) × (length (utf8 (name_at b.now p number)) ≤ length out.old) }
-    ensures { Wrote out.old (utf8 (name_at b.now p number)) out.new result }
+pub fn put_place(out: &mut [u8], b: &[u8], n: Name) -> usize
+    requires { Holds b.now n.place (text_at b.now n.place) × (length (utf8 (name_at b.now n.place n.number)) ≤ length out.old) }
+    ensures { Wrote out.old (utf8 (name_at b.now n.place n.number)) out.new result }
 {
-    text::plain::put_name(out, text_of(b, p), number)
+    text::plain::put_name(out, text_of(b, n.place), n.number)
 }
 
 // The name as a text: its length in 4 bytes, then its bytes.
-pub fn put_place_text(out: &mut [u8], b: &[u8], p: Place, number: u32) -> usize
-    requires { Holds b.now p (text_at b.now p) × (length (text_bytes (name_at b.now p number)) ≤ length out.old) }
-    ensures { Wrote out.old (text_bytes (name_at b.now p number)) out.new result }
+pub fn put_place_text(out: &mut [u8], b: &[u8], n: Name) -> usize
+    requires { Holds b.now n.place (text_at b.now n.place) × (length (text_bytes (name_at b.now n.place n.number)) ≤ length out.old) }
+    ensures { Wrote out.old (text_bytes (name_at b.now n.place n.number)) out.new result }
 {
-    text::plain::put_name_text(out, text_of(b, p), number)
+    text::plain::put_name_text(out, text_of(b, n.place), n.number)
 }
 
 // Whether the text starts with an ASCII text.

@@ -8,6 +8,7 @@ ghost use Rattle.claims.specs.Verify as Verify;
 
 use base::refusal::{Refusal, Refused};
 use limits::in_range;
+use resolve::limits::Limits;
 
 mod limits; // question 29
 
@@ -23,7 +24,11 @@ pub extern "C" fn class_report(
     ensures { Called corpus.now lookups objects work.old report.old result report.new }
 {
     if in_range(lookups, objects) {
-        return report::call::class_report(corpus, work, report, lookups as usize, objects as usize);
+        let m = Limits {
+            lookups: lookups as usize,
+            objects: objects as usize,
+        };
+        return report::call::class_report(corpus, work, report, m);
     }
     Refused {
         why: Refusal::Limits,

@@ -1,4 +1,5 @@
 // What C sees of `capi`, under the names of its header: each slice is a pointer and a length. The functions and their clauses are those of `capi`.
+// Kept: each function twice: a crate is a library or a static library, not both (the C interface).
 
 #![tactic(auto)]
 

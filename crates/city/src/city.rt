@@ -37,24 +37,26 @@ pub fn hash_len16(u: u64, v: u64) -> u64
 }
 
 fn mul_of(n: usize) -> u64
-    requires { n ≤ 64 }
     ensures { result ≡ mul_of n }
 {
-    add(K2, (n as u64) * 2)
+    add(K2, mul(n as u64, 2))
 }
+
+// Kept: that a slice has as many bytes as its formula reads is a `requires`: `first_state` and `one_turn` are public, and a `&[u8; 64]`, as
+// `as_chunks::<64>` gives them, asks more of a caller than a slice of at least 64. The numbers that formulas take stay apart as CityHash64 has them.
+// Kept: a function for each length: one over the width would be told how to read and how to mix, as `ends(s, 4, le32, hash_halves)`.
 
 // The hash of n bytes, up to three, of the first, the middle and the last one.
 pub fn hash_bytes(n: usize, a: u8, b: u8, c: u8) -> u64
-    requires { n ≤ 64 }
     ensures { result ≡ hash_bytes n a b c }
 {
     let y = u64::from(a) + (u64::from(b) << 8);
-    let z = n as u64 + (u64::from(c) << 2);
+    let z = add(n as u64, u64::from(c) << 2);
     mul(shift_mix(mul(y, K2) ^ mul(z, K0)), K2)
 }
 
 fn hash_len1to3(s: &[u8]) -> u64
-    requires { (0 < length s.now) × (length s.now ≤ 64) }
+    requires { 0 < length s.now }
     ensures { result ≡ len1to3 s.now }
 {
     let n = s.len();
@@ -63,14 +65,13 @@ fn hash_len1to3(s: &[u8]) -> u64
 
 // The hash of n bytes, 4 to 7, of the first and the last four.
 pub fn hash_halves(n: usize, a: u32, b: u32) -> u64
-    requires { n ≤ 64 }
     ensures { result ≡ hash_halves n a b }
 {
-    hash_len16_mul(n as u64 + (u64::from(a) << 3), u64::from(b), mul_of(n))
+    hash_len16_mul(add(n as u64, u64::from(a) << 3), u64::from(b), mul_of(n))
 }
 
 fn hash_len4to7(s: &[u8]) -> u64
-    requires { (4 ≤ length s.now) × (length s.now ≤ 64) }
+    requires { 4 ≤ length s.now }
     ensures { result ≡ len4to7 s.now }
 {
     let n = s.len();
@@ -79,7 +80,6 @@ fn hash_len4to7(s: &[u8]) -> u64
 
 // The hash of n bytes, 8 to 16, of the first and the last eight.
 pub fn hash_two(n: usize, first: u64, b: u64) -> u64
-    requires { n ≤ 64 }
     ensures { result ≡ hash_two n first b }
 {
     let m = mul_of(n);
@@ -90,7 +90,7 @@ pub fn hash_two(n: usize, first: u64, b: u64) -> u64
 }
 
 fn hash_len8to16(s: &[u8]) -> u64
-    requires { (8 ≤ length s.now) × (length s.now ≤ 64) }
+    requires { 8 ≤ length s.now }
     ensures { result ≡ len8to16 s.now }
 {
     let n = s.len();
@@ -131,7 +131,6 @@ fn mix_four(a: u64, b: u64, c: u64, d: u64, m: u64) -> u64
 
 // The hash of n bytes, 17 to 32, of the first and the second eight, the last eight and those before them.
 pub fn hash_four(n: usize, a: u64, b: u64, c: u64, d: u64) -> u64
-    requires { n ≤ 64 }
     ensures { result ≡ hash_four n a b c d }
 {
     let m = mul_of(n);
@@ -139,7 +138,7 @@ pub fn hash_four(n: usize, a: u64, b: u64, c: u64, d: u64) -> u64
 }
 
 fn hash_len17to32(s: &[u8]) -> u64
-    requires { (16 ≤ length s.now) × (length s.now ≤ 64) }
+    requires { 16 ≤ length s.now }
     ensures { result ≡ len17to32 s.now }
 {
     let n = s.len();
@@ -213,7 +212,7 @@ impl EightWords {
 }
 
 fn hash_len33to64(s: &[u8]) -> u64
-    requires { (32 ≤ length s.now) × (length s.now ≤ 64) }
+    requires { 32 ≤ length s.now }
     ensures { result ≡ len33to64 s.now }
 {
     let n = s.len();

@@ -2,6 +2,10 @@
 ghost use Rattle.std.specs.Prelude.{◌≡◌, ◌<◌};
 ghost use Rattle.city.specs.Word.{addw, mulw, rotr, swap};
 
+// Kept: a name for each of the library's calls. `mul(shift_mix(mul(y, K2) ^ mul(z, K0)), K2)` would read
+// `shift_mix(y.wrapping_mul(K2) ^ z.wrapping_mul(K0)).wrapping_mul(K2)`, and `rotate(b, 37)` the longer `b.rotate_right(37)`. The library says a turn and
+// the other order in words of its own; here it is proved once, for each use, that they are `rotr` and `swap`, which the hash is defined by.
+
 // a + b, modulo 2^64.
 pub fn add(a: u64, b: u64) -> u64
     ensures { result ≡ addw a b }

@@ -1,10 +1,10 @@
 -- Laws of bytes of ASCII in a row: in well-formed bytes each is a character, and one unit as UTF-16LE. Assumes nothing.
 use Rattle.std.specs.Prelude.{◌≡◌, true, false, ◌&&◌, List, [], ◌∷◌, ◌++◌, ℕ, zero, suc, ◌+◌, ◌*◌, ◌-◌, ◌/◌, ◌%◌, ◌≤◌, ◌<◌, leb, length, take, drop, get_or, set}
+use Rattle.base.specs.Output.{Wrote}
+use Rattle.base.specs.OutputLaws.{wrote_as, wrote-byte, wrote_count}
 use Rattle.std.proofs.Common.{sym, ap, ◌∙◌, append_assoc, add-one, arith, le-leb, leb-true, ltb-true, length-take, length-drop, take-suc, get_or-drop}
 use Rattle.std.proofs.Math.Bool.{and-eq-true_iff}
 use Rattle.std.proofs.lemmas.Bool.{lt-leb}
-use Rattle.base.specs.Output.{Wrote}
-use Rattle.base.specs.OutputLaws.{wrote_as, wrote-byte, wrote_count}
 use Rattle.text.specs.UnitBytesLaws.{unit_bytes-length, unit_bytes_append}
 use Rattle.text.specs.Utf16.{is_well, unit_bytes, utf16le}
 use Rattle.decode.proofs.KnownLaws.{first_1}
@@ -86,6 +86,9 @@ module _ (s : List ℕ) (at : ℕ) (ok : is_well (from s at) ≡ true) where
         omega (arith, unit_bytes-length (take 8 (drop at s)), length-take 8 (drop at s), length-drop at s)
 
 -- ---- one byte written as a unit
+
+pub units-next : (x : List ℕ) (i v : ℕ) → i < length x → v ≡ get_or x i 0 → unit_bytes (take i x) ++ (v % 256 ∷ v / 256 ∷ []) ≡ unit_bytes (take (i + 1) x)
+units-next x i v h e = sym (rw (add-one i, e) (units-last x i h))
 
 pub units-wrote : {o out : List ℕ} (x : List ℕ) (i v : ℕ) → Wrote o (unit_bytes (take i x)) out (2 * i) → i < length x → 2 * i + 2 ≤ length o → v ≡ get_or x i 0 → v < 256
     → Wrote o (unit_bytes (take (i + 1) x)) (set (set out (2 * i) v) (2 * i + 1) 0) (2 * (i + 1))

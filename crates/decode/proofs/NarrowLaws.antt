@@ -24,7 +24,7 @@ use Rattle.decode.proofs.LatinLaws.{low_append}
 use Rattle.decode.specs.Step.{added}
 use Rattle.decode.proofs.StepLaws.{added_more}
 use Rattle.decode.proofs.PlainLaws.{plain-measured}
-use Rattle.decode.specs.Narrow.{wrong, all_right, ends, Window, last_byte}
+use Rattle.decode.specs.Narrow.{wrong, all_right, ends, SeenRight, last_byte}
 pub use Rattle.decode.specs.NarrowLaws.{Far, Good}
 
 -- two tests that both fail
@@ -133,12 +133,15 @@ low-not : (b : ℕ) → ltb b 0xC4 ≡ not (leb 0xC4 b)
 low-not b = ⊎_elim (λ (h : b < 0xC4). rw (lt-ltb b 0xC4 h, lt-leb 0xC4 b h)) (λ (h : 0xC4 ≤ b). rw (le-ltb b 0xC4 h, le-leb 0xC4 b h)) (lt_or_le b 0xC4)
 
 module _ {z : ℕ} {v : List ℕ} {y : ℕ} {r : List ℕ} {bad high : Bool} {u : ℕ} (f : Far z v y r bad high u) where
-  pub far-all : r ≡ [] → Window z v (record { right = not bad; low = not high; units = u })
-  far-all e = record {
-    right = sym (f.right ∙ rw (e, and-true (not bad)));
+  pub far-all : r ≡ [] → bad ≡ false → SeenRight z v (record { low = not high; units = u })
+  far-all e b = record {
+    right = f.right ∙ rw (e, b);
     low = sym (f.low ∙ rw (e, and-true (not high)));
     units = omega (arith, f.units, ap ends e);
   }
+
+  pub far-bad : bad ≡ true → all_right z v ≡ false
+  far-bad b = f.right ∙ rw b
 
   -- a byte that is on, and one that is masked out
   far-on : {b : ℕ} {t : List ℕ} → r ≡ b ∷ t → Far z v b t (bad || (wrong y b && true)) (high || (leb 0xC4 b && true)) (u + cond (ltb b 0xC0 && true) 1 0)
@@ -229,12 +232,12 @@ module _ (s : List ℕ) (from at : ℕ) (some : from < at) (fits : at ≤ length
       rw (e, take-add (at - from) n (drop from s), drop-drop (at - from) from s, d)
 
   -- a window more
-  pub good-next : {u : ℕ} {latin : Bool} → Good s from at u latin → (n : ℕ) {w : Seen} → Window (get_or s (at - 1) 0) (take n (drop at s)) w → w.right ≡ true
+  pub good-next : {u : ℕ} {latin : Bool} → Good s from at u latin → (n : ℕ) {w : Seen} → SeenRight (get_or s (at - 1) 0) (take n (drop at s)) w
       → Good s from (at + n) (u + w.units) (latin && w.low)
-  good-next g n w e =
+  good-next g n w =
       let v = take n (drop at s) in
       record {
-        right = rw (part_then n, right_append 0 part v, part-last, g.right) (sym w.right ∙ e);
+        right = rw (part_then n, right_append 0 part v, part-last, g.right) w.right;
         low = rw (part_then n, low_append part v, g.low, w.low);
         units = rw (part_then n) (omega (arith, ends_append part v, g.units, w.units));
       }

@@ -2,7 +2,7 @@
 -- behind those that are write them. Assumes nothing.
 use Rattle.std.specs.Prelude.{◌≡◌, Bool, true, false, cond, List, [], ◌∷◌, ◌++◌, ltb, length, set, take, drop}
 use Rattle.std.proofs.Math.Path.{refl}
-use Rattle.std.proofs.Common.{sym, ap, ◌∙◌, append_assoc, append-nil, ⊎_elim, zero-add, add-one, lt-ltb, le-ltb, ltb-true, ltb-false, eq-eqb, ne_eqb, length-set, take-append-drop, drop_of_length-le, take-suc, drop-cons, drop-set-lt, get_or-set_same, get_or-set_other, get_or-take, length-take-le}
+use Rattle.std.proofs.Common.{sym, ap, ◌∙◌, append_assoc, append-nil, ⊎_elim, zero-add, add-one, lt-ltb, le-ltb, ltb-true, ltb-false, eq-eqb, ne_eqb, length-set, take-append-drop, take_all, drop-drop, length-append, length-take, length-drop, get_or-drop, drop_of_length-le, take-suc, drop-cons, drop-set-lt, get_or-set_same, get_or-set_other, get_or-take, length-take-le}
 use Rattle.std.proofs.Math.Bool.{and-eq-true_iff}
 use Prim.Native.Nat.{ℕ, ◌+◌, ◌-◌, ◌*◌, ◌/◌, ◌%◌, ◌≤◌, ◌<◌}
 use native.Mathlib.Omega.{arith}
@@ -12,6 +12,7 @@ use Rattle.std.proofs.lemmas.Nat.Bits.{and_high}
 use Rattle.std.proofs.lemmas.Nat.{or_disjoint}
 use Rattle.std.proofs.Math.ListN.{get_or}
 use Rattle.std.proofs.lemmas.List.{take-set-le}
+use Rattle.std.proofs.Math.Seq.{take-append-add, drop-append-add}
 use Rattle.base.specs.Choose.{lt_or_le}
 use Rattle.base.specs.Output.{over, Wrote}
 use Rattle.text.specs.Utf16.{is_well}
@@ -62,27 +63,67 @@ kept-two before b c d s h =
 
 -- ---- loops that store bytes
 
-pub filling_none : (old s : List ℕ) → Tailed 0 s → length (kept 0 s) ≤ length old → Filling old s old 0 0 0
-filling_none old s h r = record { is = refl; size = omega arith; room = r; same = refl; rest = refl; ends = h }
+pub filling_none : (old : List ℕ) (first : ℕ) (s : List ℕ) → Tailed first s → length (kept first s) ≤ length old → Filling old first s old 0 0 first
+filling_none old first s h r = record { is = refl; size = omega arith; room = r; same = refl; rest = refl; ends = h }
 
--- from there on as a beginning of its own, and what follows put behind it
-pub filling_here : {old s o : List ℕ} {i n before : ℕ} → Filling old s o i n before → Filling o s o i n before
-filling_here k = record { is = k.is; size = k.size; room = omega (arith, k.room, k.same); same = refl; rest = refl; ends = k.ends }
+-- the part `&mut out[n..]` has room for what is still to come
+pub filling-left : {old s o : List ℕ} {first i n before : ℕ} → Filling old first s o i n before
+    → length (kept before (drop i s)) ≤ length (take (length o - n) (drop n o))
+filling-left k = simp (length-take, length-drop) (omega (arith, k.size, k.room, k.same))
 
-pub filling_then : {old s o p : List ℕ} {i n before j m last : ℕ} → Filling old s o i n before → Filling o s p j m last → Filling old s p j m last
-filling_then k l = record { is = l.is; size = l.size; room = k.room; same = l.same ∙ k.same; rest = l.rest ∙ k.rest; ends = l.ends }
+-- that part was filled further, or to the end, and has come back: the list is as the borrow checker leaves it
+module _ {old s o : List ℕ} {first i n before : ℕ} (k : Filling old first s o i n before) where
+  abbrev part : List ℕ
+  part = take (length o - n) (drop n o)
 
-pub filling_wrote : {old s o p : List ℕ} {i n before m : ℕ} → Filling old s o i n before → Wrote o (kept 0 s) p m → Wrote old (kept 0 s) p m
+  part-is : part ≡ drop n o
+  part-is = take_all (length o - n) (drop n o) (simp length-drop (omega arith))
+
+  behind : drop (length o - n) (drop n o) ≡ []
+  behind = drop_of_length-le (drop n o) {i = length o - n} (simp length-drop (omega arith))
+
+  front : length (take n o) ≡ n
+  front = length-take-le n o (omega (arith, k.size, k.room, k.same))
+
+  pub filling-part : {p : List ℕ} {j m last : ℕ} → Filling part before (drop i s) p j m last
+      → Filling old first s (take n o ++ (p ++ drop (length o - n) (drop n o))) (i + j) (n + m) last
+  filling-part {p} {j} {m} {last} l =
+      let x = length (kept before (drop i s)) in
+      let back : take n o ++ (p ++ drop (length o - n) (drop n o)) ≡ take n o ++ p = rw (behind, append-nil p) in
+      let d : drop j (drop i s) ≡ drop (i + j) s = drop-drop j i s in
+      let taken : take (n + m) (take n o ++ p) ≡ take n o ++ take m p = rw front at (take-append-add (take n o) p m) in
+      let left : drop (n + x) (take n o ++ p) ≡ drop x p = rw front at (drop-append-add (take n o) p x) in
+      let e : n + x ≡ length (kept first s) = k.size in
+      let f : length p ≡ length (drop n o) = rw part-is at l.same in
+      let g : length p ≡ length o - n = f ∙ length-drop n o in
+      record {
+        is = rw (back, taken, append_assoc, ← d, l.is) k.is;
+        size = rw (← d) (omega (arith, l.size, k.size));
+        room = k.room;
+        same = rw back (simp length-append (omega (arith, front, g, k.same, k.size, k.room)));
+        rest = rw (back, ← e, left) (l.rest ∙ rw (part-is, drop-drop x n o, e) k.rest);
+        ends = rw d at l.ends;
+      }
+
+  pub filling-end : {p : List ℕ} {m : ℕ} → Wrote part (kept before (drop i s)) p m
+      → Wrote old (kept first s) (take n o ++ (p ++ drop (length o - n) (drop n o))) (n + m)
+  unfolding over
+  filling-end {p} {m} w =
+      let x = length (kept before (drop i s)) in
+      let e : n + x ≡ length (kept first s) = k.size in
+      record {
+        size = omega (arith, w.size, k.size);
+        fits = omega (arith, w.size, k.size, k.room);
+        is = rw (behind, append-nil p, w.is, part-is, ← append_assoc, k.is, drop-drop x n o, e, k.rest);
+      }
+
+pub filling_all : {old s o : List ℕ} {first i n before : ℕ} → Filling old first s o i n before → length s ≤ i → Wrote old (kept first s) o n
 unfolding over
-filling_wrote k w = record { size = w.size; fits = omega (arith, w.size, k.room); is = w.is ∙ rw k.rest }
-
-pub filling_all : {old s o : List ℕ} {i n before : ℕ} → Filling old s o i n before → length s ≤ i → Wrote old (kept 0 s) o n
-unfolding over
-filling_all {old} {s} {o} {i} {n} k h =
+filling_all {old} {s} {o} {first} {i} {n} k h =
     let d = drop_of_length-le s h in
-    let t : take n o ≡ kept 0 s = sym (append-nil (take n o)) ∙ rw d at k.is in
-    let z : n + 0 ≡ length (kept 0 s) = rw d at k.size in
-    let e : n ≡ length (kept 0 s) = omega arith in
+    let t : take n o ≡ kept first s = sym (append-nil (take n o)) ∙ rw d at k.is in
+    let z : n + 0 ≡ length (kept first s) = rw d at k.size in
+    let e : n ≡ length (kept first s) = omega arith in
     record {
       size = e;
       fits = omega (arith, k.room);
@@ -90,41 +131,41 @@ filling_all {old} {s} {o} {i} {n} k h =
     }
 
 -- a byte is stored where what stands there doesn't matter
-filling_store : {old s o : List ℕ} {i n before : ℕ} → Filling old s o i n before → (m v : ℕ) → n ≤ m → m < length (kept 0 s)
-    → Filling old s (set o m v) i n before
-filling_store {old} {s} {o} {i} {n} k m v h l = record {
+filling_store : {old s o : List ℕ} {first i n before : ℕ} → Filling old first s o i n before → (m v : ℕ) → n ≤ m → m < length (kept first s)
+    → Filling old first s (set o m v) i n before
+filling_store {old} {s} {o} {first} {i} {n} k m v h l = record {
   is = rw (take-set-le n o m v h) k.is;
   size = k.size;
   room = k.room;
   same = length-set o m v ∙ k.same;
-  rest = drop-set-lt (length (kept 0 s)) o m v l ∙ k.rest;
+  rest = drop-set-lt (length (kept first s)) o m v l ∙ k.rest;
   ends = k.ends;
 }
 
-module _ {old s o : List ℕ} {i n before : ℕ} (k : Filling old s o i n before) (h : i < length s) where
+module _ {old s o : List ℕ} {first i n before : ℕ} (k : Filling old first s o i n before) (h : i < length s) where
   here : drop i s ≡ get_or s i 0 ∷ drop (i + 1) s
   here = rw (add-one i) (drop-cons s i 0 h)
 
-  left : take n o ++ kept before (get_or s i 0 ∷ drop (i + 1) s) ≡ kept 0 s
+  left : take n o ++ kept before (get_or s i 0 ∷ drop (i + 1) s) ≡ kept first s
   left = rw here at k.is
 
-  count : n + length (kept before (get_or s i 0 ∷ drop (i + 1) s)) ≡ length (kept 0 s)
+  count : n + length (kept before (get_or s i 0 ∷ drop (i + 1) s)) ≡ length (kept first s)
   count = rw here at k.size
 
   ending : Tailed before (get_or s i 0 ∷ drop (i + 1) s)
   ending = rw here at k.ends
 
   -- there is room for each byte, kept or not
-  pub filling_room : n < length (kept 0 s)
+  pub filling_room : n < length (kept first s)
   filling_room = omega (arith, kept-some before (get_or s i 0) (drop (i + 1) s) ending, count)
 
   -- past a byte that is kept, where it is stored, and past one that is not
-  filling_low : get_or s i 0 < 0xC0 → get_or o n 0 ≡ raised before (get_or s i 0) → Filling old s o (i + 1) (n + 1) (get_or s i 0)
+  filling_low : get_or s i 0 < 0xC0 → get_or o n 0 ≡ raised before (get_or s i 0) → Filling old first s o (i + 1) (n + 1) (get_or s i 0)
   filling_low l e =
       let b = get_or s i 0 in
       let r = drop (i + 1) s in
       let g = kept_low before b r l in
-      let z : n + length (raised before b ∷ kept b r) ≡ length (kept 0 s) = rw g at count in
+      let z : n + length (raised before b ∷ kept b r) ≡ length (kept first s) = rw g at count in
       let f : n < length o = omega (arith, filling_room, k.room, k.same) in
       record {
         is = rw (add-one n, take-suc o n 0 f, e) (append_assoc (take n o) (raised before b ∷ []) (kept b r) ∙ rw g at left);
@@ -135,36 +176,58 @@ module _ {old s o : List ℕ} {i n before : ℕ} (k : Filling old s o i n before
         ends = ending.1;
       }
 
-  filling_high : 0xC0 ≤ get_or s i 0 → Filling old s o (i + 1) n (get_or s i 0)
+  filling_high : 0xC0 ≤ get_or s i 0 → Filling old first s o (i + 1) n (get_or s i 0)
   filling_high l =
       let g = kept_high before (get_or s i 0) (drop (i + 1) s) l in
       record { is = rw g at left; size = rw g at count; room = k.room; same = k.same; rest = k.rest; ends = ending.1 }
 
 -- a byte is stored, and passed
-module _ {old s o : List ℕ} {i n before : ℕ} (k : Filling old s o i n before) (h : i < length s) where
-  pub filling_byte : Filling old s (set o n (raised before (get_or s i 0))) (i + 1) (n + bool_byte (ltb (get_or s i 0) 0xC0)) (get_or s i 0)
+module _ {old s o : List ℕ} {first i n before : ℕ} (k : Filling old first s o i n before) (h : i < length s) where
+  pub filling_byte : Filling old first s (set o n (raised before (get_or s i 0))) (i + 1) (n + bool_byte (ltb (get_or s i 0) 0xC0)) (get_or s i 0)
   filling_byte = go (ltb (get_or s i 0) 0xC0) refl
     where
       v : ℕ
       v = raised before (get_or s i 0)
 
-      f : Filling old s (set o n v) i n before
+      f : Filling old first s (set o n v) i n before
       f = filling_store k n v (omega arith) (filling_room k h)
 
-      go : (t : Bool) → ltb (get_or s i 0) 0xC0 ≡ t → Filling old s (set o n v) (i + 1) (n + bool_byte t) (get_or s i 0)
+      go : (t : Bool) → ltb (get_or s i 0) 0xC0 ≡ t → Filling old first s (set o n v) (i + 1) (n + bool_byte t) (get_or s i 0)
       go true e =
           let l : n < length o = omega (arith, filling_room k h, k.room, k.same) in
           filling_low f h (ltb-true (get_or s i 0) 0xC0 e) (get_or-set_same o n v 0 l)
       go false e = let z : n + 0 ≡ n = omega arith in rw z (filling_high f h (ltb-false (get_or s i 0) 0xC0 e))
 
 -- the first of all
-filling_first : (old s : List ℕ) → Tailed 0 s → length (kept 0 s) ≤ length old → 0 < length s
-    → Filling old s (set old 0 (get_or s 0 0)) 1 (bool_byte (ltb (get_or s 0 0) 0xC0)) (get_or s 0 0)
-filling_first old s t r h =
-    rw (zero-add (bool_byte (ltb (get_or s 0 0) 0xC0)), raised-not 0 (get_or s 0 0) (omega arith)) at (filling_byte (filling_none old s t r) h)
+pub filling-first : (old : List ℕ) (first : ℕ) (s : List ℕ) → Tailed first s → length (kept first s) ≤ length old → 0 < length s
+    → Filling old first s (set old 0 (raised first (get_or s 0 0))) 1 (bool_byte (ltb (get_or s 0 0) 0xC0)) (get_or s 0 0)
+filling-first old first s t r h = rw (zero-add (bool_byte (ltb (get_or s 0 0) 0xC0))) at (filling_byte (filling_none old first s t r) h)
+
+-- the same of the text from place i on, and a byte more
+module _ (old s : List ℕ) (i before : ℕ) (ends : Tailed before (drop i s)) (room : length (kept before (drop i s)) ≤ length old) (h : i < length s) where
+  pub left-room : 0 < length old
+  left-room = omega (arith, filling_room (filling_none old before (drop i s) ends room) (simp length-drop (omega arith)))
+
+  pub left-first : Filling old before (drop i s) (set old 0 (raised before (get_or s i 0))) 1 (bool_byte (ltb (get_or s i 0) 0xC0)) (get_or s i 0)
+  left-first =
+      let z : i + 0 ≡ i = omega arith in
+      let e : get_or (drop i s) 0 0 ≡ get_or s i 0 = get_or-drop i s 0 0 ∙ rw z in
+      rw e at (filling-first old before (drop i s) ends room (simp length-drop (omega arith)))
+
+  module _ (l : i + 1 < length s) where
+    one-more : 1 < length (drop i s)
+    one-more = simp length-drop (omega arith)
+
+    pub next-room : bool_byte (ltb (get_or s i 0) 0xC0) < length old
+    next-room = omega (arith, filling_room left-first one-more)
+
+    pub left-next : Filling old before (drop i s)
+        (set (set old 0 (raised before (get_or s i 0))) (bool_byte (ltb (get_or s i 0) 0xC0)) (raised (get_or s i 0) (get_or s (i + 1) 0)))
+        2 (bool_byte (ltb (get_or s i 0) 0xC0) + bool_byte (ltb (get_or s (i + 1) 0) 0xC0)) (get_or s (i + 1) 0)
+    left-next = rw (get_or-drop i s 1 0) at (filling_byte left-first one-more)
 
 -- two bytes are stored, and passed
-module _ {old s o : List ℕ} {i n before : ℕ} (k : Filling old s o i n before) (h : i + 2 < length s) where
+module _ {old s o : List ℕ} {first i n before : ℕ} (k : Filling old first s o i n before) (h : i + 2 < length s) where
   next-three : drop i s ≡ get_or s i 0 ∷ get_or s (i + 1) 0 ∷ get_or s (i + 2) 0 ∷ drop (i + 3) s
   next-three =
       let e : i + 1 + 1 ≡ i + 2 = omega arith in
@@ -174,7 +237,7 @@ module _ {old s o : List ℕ} {i n before : ℕ} (k : Filling old s o i n before
       let r : drop (i + 2) s ≡ get_or s (i + 2) 0 ∷ drop (i + 3) s = rw (← f, add-one (i + 2)) (drop-cons s (i + 2) 0 (omega arith)) in
       rw (p, q, r)
 
-  pub filling_room-two : n + 1 < length (kept 0 s)
+  pub filling_room-two : n + 1 < length (kept first s)
   filling_room-two =
       omega (
         arith,
@@ -183,7 +246,7 @@ module _ {old s o : List ℕ} {i n before : ℕ} (k : Filling old s o i n before
       )
 
   pub filling_pair : (x y : ℕ) → x ≡ picked before (get_or s i 0) (get_or s (i + 1) 0) → y ≡ picked (get_or s i 0) (get_or s (i + 1) 0) (get_or s (i + 2) 0)
-      → Filling old s (set (set o n x) (n + 1) y) (i + 2) (n + ran (get_or s i 0) (get_or s (i + 1) 0)) (get_or s (i + 1) 0)
+      → Filling old first s (set (set o n x) (n + 1) y) (i + 2) (n + ran (get_or s i 0) (get_or s (i + 1) 0)) (get_or s (i + 1) 0)
   unfolding picked ran
   filling_pair x y p q = let w : i + 1 + 1 ≡ i + 2 = omega arith in rw w at (go (ltb (get_or s i 0) 0xC0) (ltb (get_or s (i + 1) 0) 0xC0) refl refl)
     where
@@ -199,7 +262,7 @@ module _ {old s o : List ℕ} {i n before : ℕ} (k : Filling old s o i n before
       l : n + 1 < length o
       l = omega (arith, filling_room-two, k.room, k.same)
 
-      f : Filling old s z i n before
+      f : Filling old first s z i n before
       f = filling_store (filling_store k n x (omega arith) (omega (arith, filling_room-two))) (n + 1) y (omega arith) filling_room-two
 
       gx : get_or z n 0 ≡ x
@@ -208,10 +271,10 @@ module _ {old s o : List ℕ} {i n before : ℕ} (k : Filling old s o i n before
       gy : get_or z (n + 1) 0 ≡ y
       gy = get_or-set_same (set o n x) (n + 1) y 0 (rw (length-set o n x) l)
 
-      low : b < 0xC0 → x ≡ raised before b → Filling old s z (i + 1) (n + 1) b
+      low : b < 0xC0 → x ≡ raised before b → Filling old first s z (i + 1) (n + 1) b
       low m g = filling_low f (omega (arith, h)) m (gx ∙ g)
 
-      go : (t u : Bool) → ltb b 0xC0 ≡ t → ltb c 0xC0 ≡ u → Filling old s z (i + 1 + 1) (n + (cond t 1 0 + cond u 1 0)) c
+      go : (t u : Bool) → ltb b 0xC0 ≡ t → ltb c 0xC0 ≡ u → Filling old first s z (i + 1 + 1) (n + (cond t 1 0 + cond u 1 0)) c
       go true true d e =
           let m : n + 1 + 1 ≡ n + 2 = omega arith in
           rw m at (filling_low (low (ltb-true b 0xC0 d) (p ∙ rw d)) (omega (arith, h)) (ltb-true c 0xC0 e) (gy ∙ q ∙ rw e))
@@ -254,23 +317,29 @@ counted-small {s} {i = i} p k h =
     go false true = omega arith
     go false false = omega arith
 
--- a pair of bytes of the text that is the first bytes of s is stored as it was looked up
-pub filling_paired : {old s o x y : List ℕ} {to i m n : ℕ} (j : ℕ) → Filling old (take to s) o (i + 2 * j) n (get_or s (i + 2 * j - 1) 0) → Meant s i (2 * m) x
-    → Counted s i m y → j < m → i + 2 * j + 2 < to → to ≤ length s
-    → Filling old (take to s) (set (set o n (get_or x (2 * j) 0)) (n + 1) (get_or x (2 * j + 1) 0)) (i + 2 * j + 2) (n + get_or y j 0) (get_or s (i + 2 * j + 1) 0)
+-- how many bytes the text from a place to another has
+pub part_long : (i to : ℕ) (s : List ℕ) → to ≤ length s → (k : ℕ) → i + k < to → k < length (drop i (take to s))
+part_long i to s fits k l = omega (arith, length-drop i (take to s), length-take-le to s fits)
+
+-- a pair of bytes of the text from place i of s to another is stored as it was looked up
+pub filling_paired : {old s o x y : List ℕ} {first to i m n : ℕ} (j : ℕ) → Filling old first (drop i (take to s)) o (2 * j) n (get_or s (i + 2 * j - 1) 0)
+    → Meant s i (2 * m) x → Counted s i m y → j < m → i + 2 * j + 2 < to → to ≤ length s
+    → Filling old first (drop i (take to s)) (set (set o n (get_or x (2 * j) 0)) (n + 1) (get_or x (2 * j + 1) 0)) (2 * j + 2) (n + get_or y j 0) (get_or s (i + 2 * j + 1) 0)
 filling_paired {s = s} {x = x} {to = to} {i = i} j f p q h l fits =
     let k = i + 2 * j in
+    let t = drop i (take to s) in
     let u : i + (2 * j + 1) - 1 ≡ i + 2 * j = omega arith in
     let v : i + (2 * j + 1) ≡ i + 2 * j + 1 = omega arith in
     let w : i + 2 * j + 1 + 1 ≡ i + 2 * j + 2 = omega arith in
-    let a : get_or (take to s) k 0 ≡ get_or s k 0 = get_or-take to s k 0 (omega arith) in
-    let b : get_or (take to s) (k + 1) 0 ≡ get_or s (k + 1) 0 = get_or-take to s (k + 1) 0 (omega arith) in
-    let c : get_or (take to s) (k + 2) 0 ≡ get_or s (k + 2) 0 = get_or-take to s (k + 2) 0 (omega arith) in
-    let first : get_or x (2 * j) 0 ≡ picked (get_or s (k - 1) 0) (get_or (take to s) k 0) (get_or (take to s) (k + 1) 0) =
+    let z : i + (2 * j + 2) ≡ i + 2 * j + 2 = omega arith in
+    let a : get_or t (2 * j) 0 ≡ get_or s k 0 = get_or-drop i (take to s) (2 * j) 0 ∙ get_or-take to s k 0 (omega arith) in
+    let b : get_or t (2 * j + 1) 0 ≡ get_or s (k + 1) 0 = get_or-drop i (take to s) (2 * j + 1) 0 ∙ rw v (get_or-take to s (k + 1) 0 (omega arith)) in
+    let c : get_or t (2 * j + 2) 0 ≡ get_or s (k + 2) 0 = get_or-drop i (take to s) (2 * j + 2) 0 ∙ rw z (get_or-take to s (k + 2) 0 (omega arith)) in
+    let first-is : get_or x (2 * j) 0 ≡ picked (get_or s (k - 1) 0) (get_or t (2 * j) 0) (get_or t (2 * j + 1) 0) =
     rw (a, b) (p.byte (2 * j) (omega arith)) in
-    let next : get_or x (2 * j + 1) 0 ≡ picked (get_or (take to s) k 0) (get_or (take to s) (k + 1) 0) (get_or (take to s) (k + 2) 0) =
+    let next-is : get_or x (2 * j + 1) 0 ≡ picked (get_or t (2 * j) 0) (get_or t (2 * j + 1) 0) (get_or t (2 * j + 2) 0) =
     rw (a, b, c) (rw (u, v, w) at (p.byte (2 * j + 1) (omega arith))) in
-    rw (q.size j h) (rw (a, b) at (filling_pair f (omega (arith, length-take-le to s fits)) _ _ first next))
+    rw (q.size j h) (rw (a, b) at (filling_pair f (part_long i to s fits (2 * j + 2) (omega arith)) _ _ first-is next-is))
 
 -- ---- the bytes of a text
 
@@ -318,11 +387,11 @@ module _ (s : List ℕ) (ok : is_well (from_utf8 s) ≡ true) where
 
   -- the first byte is stored
   pub bytes-first : (old : List ℕ) → fits_latin1 (text_of s) ≡ true → length (text_of s) ≤ length old → 0 < length s
-      → Filling old s (set old 0 (get_or s 0 0)) 1 (bool_byte (ltb (get_or s 0 0) 0xC0)) (get_or s 0 0)
-  bytes-first old e r h = filling_first old s bytes_tailed (kept-room e (length old) r) h
+      → Filling old 0 s (set old 0 (get_or s 0 0)) 1 (bool_byte (ltb (get_or s 0 0) 0xC0)) (get_or s 0 0)
+  bytes-first old e r h = rw (raised-not 0 (get_or s 0 0) (omega arith)) at (filling-first old 0 s bytes_tailed (kept-room e (length old) r) h)
 
 -- of the text that is the first bytes of s
 pub part-first : (s : List ℕ) (to : ℕ) → 0 < to → to ≤ length s → is_well (from_utf8 (take to s)) ≡ true → fits_latin1 (text_of (take to s)) ≡ true
     → (old : List ℕ) → length (text_of (take to s)) ≤ length old
-    → Filling old (take to s) (set old 0 (get_or s 0 0)) 1 (bool_byte (ltb (get_or s 0 0) 0xC0)) (get_or s 0 0)
+    → Filling old 0 (take to s) (set old 0 (get_or s 0 0)) 1 (bool_byte (ltb (get_or s 0 0) 0xC0)) (get_or s 0 0)
 part-first s to h l ok e old r = rw (get_or-take to s 0 0 h) at (bytes-first (take to s) ok old e r (omega (arith, length-take-le to s l)))

@@ -1,5 +1,5 @@
 -- Text of characters of one and two bytes, by each byte and the one before. Assumes nothing.
-use Rattle.std.specs.Prelude.{◌≡◌, Bool, true, cond, not, ◌&&◌, ◌||◌, List, [], ◌∷◌, ℕ, ◌+◌, leb, ltb}
+use Rattle.std.specs.Prelude.{◌≡◌, Bool, true, false, cond, not, ◌&&◌, ◌||◌, List, [], ◌∷◌, ℕ, ◌+◌, leb, ltb, Option, None, Some}
 use Rattle.std.specs.Bool.{xor}
 use Rattle.decode.specs.declared.narrow.Seen.{Seen}
 use Rattle.decode.specs.Chars.{within, tail}
@@ -24,8 +24,13 @@ abbrev pub ends : List ℕ → ℕ
 ends [] = 0
 ends (b ∷ s) = cond (ltb b 0xC0) 1 0 + ends s
 
--- what is seen of some bytes after z
-pub record Window (z : ℕ) (s : List ℕ) (w : Seen) : Type 0 where
-  pub right : w.right ≡ all_right z s
+-- what is seen of some bytes after z that are right
+pub record SeenRight (z : ℕ) (s : List ℕ) (w : Seen) : Type 0 where
+  pub right : all_right z s ≡ true
   pub low : w.low ≡ all_low s
   pub units : w.units ≡ ends s
+
+-- what is seen of some bytes after z: nothing where one of them isn't right
+abbrev pub Window : ℕ → List ℕ → Option Seen → Type 0
+Window z s (Some w) = SeenRight z s w
+Window z s None = all_right z s ≡ false

@@ -19,14 +19,14 @@ Tailed before (b ∷ s) = (0xC0 ≤ before → b < 0xC0) × Tailed b s
 
 -- ---- as the code writes them
 
--- the buffer old is now o: of the bytes of s that are kept, the n before place i are written to its front; what stands behind them, as far as those
--- that are still to come, doesn't matter
-pub record Filling (old s o : List ℕ) (i n before : ℕ) : Type 0 where
-  pub is : take n o ++ kept before (drop i s) ≡ kept 0 s
-  pub size : n + length (kept before (drop i s)) ≡ length (kept 0 s)
-  pub room : length (kept 0 s) ≤ length old
+-- the buffer old is now o: of the bytes of s, which come after first, those that are kept before place i are written to its front, and are n; what
+-- stands behind them, as far as those that are still to come, doesn't matter
+pub record Filling (old : List ℕ) (first : ℕ) (s o : List ℕ) (i n before : ℕ) : Type 0 where
+  pub is : take n o ++ kept before (drop i s) ≡ kept first s
+  pub size : n + length (kept before (drop i s)) ≡ length (kept first s)
+  pub room : length (kept first s) ≤ length old
   pub same : length o ≡ length old
-  pub rest : drop (length (kept 0 s)) o ≡ drop (length (kept 0 s)) old
+  pub rest : drop (length (kept first s)) o ≡ drop (length (kept first s)) old
   pub ends : Tailed before (drop i s)
 
 -- ---- two bytes at a time

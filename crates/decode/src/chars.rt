@@ -1,5 +1,5 @@
 // UTF-8 read one character at a time (RFC 3629, section 4).
-ghost use Rattle.std.specs.Prelude.{◌≡◌, true, ◌+◌, ◌-◌, ◌≤◌, ◌<◌, length, get_or, drop};
+ghost use Rattle.std.specs.Prelude.{◌≡◌, true, ◌+◌, ◌-◌, ◌≤◌, ◌<◌, length, get_or, drop, Some};
 ghost use Rattle.text.specs.Utf16.{is_well};
 ghost use Rattle.text.specs.Utf8.{from_utf8};
 ghost use Rattle.decode.specs.Chars.{Range, within, second, is_two, is_three, is_four, is_common, joined, char_of};
@@ -12,6 +12,7 @@ pub struct Char {
 }
 
 // Whether a byte is in a range.
+// Kept: a name for the library's call, since `within` is the word of the definitions, which clauses and proofs cite.
 pub fn within(low: u8, high: u8, b: u8) -> bool
     ensures { result ≡ within low high b }
 {
@@ -53,6 +54,10 @@ fn is_four(a: u8, b: u8, c: u8, d: u8) -> bool
     within(0xF0, 0xF4, a) && second(a, b) && within(0x80, 0xBF, c) && within(0x80, 0xBF, d)
 }
 
+// Kept: bytes, and their ranges a `requires`: with a type for a byte that is a tail `known_first` would make one of each byte that it knows to be one,
+// as `two(a, Tail { b: s[1] })`. And three functions: one over a size, as `joined::<3, 0xE0>([a, b, c])`, would go through a loop over the tails.
+// Kept: a scalar value is a u32: `char::from_u32` answers an Option of what is known to be one.
+
 // The scalar value of two bytes.
 pub fn two(a: u8, b: u8) -> u32
     requires { Range 0xC2 0xDF a × Range 0x80 0xBF b }
@@ -79,6 +84,7 @@ fn four(a: u8, b: u8, c: u8, d: u8) -> u32
 }
 
 // Byte i, or 0 where there is none.
+// Kept: no Option: 0 is no byte behind the first, so that the tests below refuse it as they refuse others.
 fn byte(s: &[u8], i: usize) -> u8
     ensures { result ≡ get_or s.now i 0 }
 {
@@ -166,41 +172,41 @@ pub fn quick_char(s: &[u8], at: usize) -> Option<Char>
 }
 
 // The first character of bytes that are known to be UTF-8: its first byte says how many it takes.
-fn known_first(s: &[u8]) -> Option<Char>
+fn known_first(s: &[u8]) -> Char
     requires { (0 < length s.now) × (is_well (from_utf8 s.now) ≡ true) }
-    ensures { result ≡ char_of s.now }
+    ensures { Some result ≡ char_of s.now }
 {
     let a = s[0];
     if a <= 0x7F {
-        return Some(Char {
+        return Char {
             value: u32::from(a),
             size: 1,
-        });
+        };
     }
     let b = s[1];
     if a <= 0xDF {
-        return Some(Char {
+        return Char {
             value: two(a, b),
             size: 2,
-        });
+        };
     }
     let c = s[2];
     if a <= 0xEF {
-        return Some(Char {
+        return Char {
             value: three(a, b, c),
             size: 3,
-        });
+        };
     }
-    Some(Char {
+    Char {
         value: four(a, b, c, s[3]),
         size: 4,
-    })
+    }
 }
 
 // The character at a place from which on the bytes are known to be UTF-8.
-pub fn known_char(s: &[u8], at: usize) -> Option<Char>
+pub fn known_char(s: &[u8], at: usize) -> Char
     requires { (at < length s.now) × (is_well (from_utf8 (drop at s.now)) ≡ true) }
-    ensures { result ≡ char_of (drop at s.now) }
+    ensures { Some result ≡ char_of (drop at s.now) }
 {
     known_first(&s[at..])
 }

@@ -1,4 +1,4 @@
-// Text that is known to be UTF-8: whether it fits Latin-1, by its bytes alone, none decoded.
+// Text that is known to be UTF-8: whether it fits Latin-1, by its bytes alone, none decoded. `all_below` serves tests for ASCII too, of any bytes.
 ghost use Rattle.std.specs.Prelude.{◌≡◌, true, ◌+◌, ◌≤◌, ltb, length, take, drop};
 ghost use Rattle.text.specs.Utf16.{is_well};
 ghost use Rattle.text.specs.Utf8.{from_utf8};

@@ -1,6 +1,6 @@
 // Text of characters of one and two bytes, tested and measured many bytes at a time: whether a byte is right shows by it and the one before,
 // so that no byte waits for another, and a window of the bytes has no branch in it.
-ghost use Rattle.std.specs.Prelude.{◌≡◌, true, ◌+◌, ◌-◌, ◌≤◌, ◌<◌, length, take, drop, get_or};
+ghost use Rattle.std.specs.Prelude.{◌≡◌, true, ◌+◌, ◌-◌, ◌≤◌, ◌<◌, length, take, drop, get_or, min};
 ghost use Rattle.text.specs.Utf8.{from_utf8};
 ghost use Rattle.decode.specs.Measure.{measured};
 ghost use Rattle.decode.specs.Narrow.{wrong, Window};
@@ -9,10 +9,9 @@ use super::chars::within;
 use super::measure::{Measured, measure};
 use text::plain::is_plain;
 
-// Of some bytes: whether all are right, whether all are below C4, and how many end a character.
+// Of some bytes that are right: whether all are below C4, and how many end a character.
 #[derive(Clone, Copy)]
 pub struct Seen {
-    pub right: bool,
     pub low: bool,
     pub units: u8,
 }
@@ -24,8 +23,12 @@ fn is_wrong(z: u8, b: u8) -> bool
     (within(0x80, 0xBF, b) ^ (0xC0 <= z)) | within(0xC0, 0xC1, b) | (0xE0 <= b)
 }
 
+// Kept: the text is no slice of its own, here, in write.rt and in pairs.rt, but ends at `to` in `s`: up to 32 bytes behind it are read too, so that a window
+// has no branch.
+
 // The first n of the 32 bytes from a place on; the others are seen too, and count for nothing. Where they are all of the 32, nothing is masked out.
-fn look_at<const ALL: bool>(s: &[u8], at: usize, n: u8) -> Seen
+// None: a byte isn't right.
+fn look_at<const ALL: bool>(s: &[u8], at: usize, n: u8) -> Option<Seen>
     requires { (0 < at) × (at + 32 ≤ length s.now) × (n ≤ 32) × (ALL ≡ true → n ≡ 32) }
     ensures { Window (get_or s.now (at - 1) 0) (take n (drop at s.now)) result }
 {
@@ -42,15 +45,14 @@ fn look_at<const ALL: bool>(s: &[u8], at: usize, n: u8) -> Seen
         units += u8::from((b < 0xC0) & on);
         k += 1;
     }
-    Seen {
-        right: !bad,
-        low: !high,
-        units,
+    if bad {
+        return None;
     }
+    Some(Seen { low: !high, units })
 }
 
 // The same, by how many they are.
-fn look(s: &[u8], at: usize, n: u8) -> Seen
+fn look(s: &[u8], at: usize, n: u8) -> Option<Seen>
     requires { (0 < at) × (at + 32 ≤ length s.now) × (n ≤ 32) }
     ensures { Window (get_or s.now (at - 1) 0) (take n (drop at s.now)) result }
 {
@@ -62,13 +64,14 @@ fn look(s: &[u8], at: usize, n: u8) -> Seen
 
 // How many of n bytes that are left are taken together.
 fn window(n: usize) -> u8
-    requires { 0 < n }
-    ensures { (0 < result) × (result ≤ n) × (result ≤ 32) }
+    ensures { result ≡ min n 32 }
 {
     n.min(32) as u8
 }
 
-// Any text. Its measure is made anew, so that one which a caller makes itself doesn't wait in memory for what this one would say.
+// Any text.
+// Kept: the measure is made anew, and not handed on, so that one which a caller makes itself doesn't wait in memory for what this one would say.
+// By itself `measure_at` takes as long either way.
 fn any(s: &[u8], from: usize, to: usize) -> Option<Measured>
     requires { (from ≤ to) × (to ≤ length s.now) }
     ensures { result ≡ measured (from_utf8 (take (to - from) (drop from s.now))) }
@@ -88,16 +91,13 @@ fn by_windows(s: &[u8], from: usize, to: usize) -> Option<Measured>
     }
     let mut units = usize::from(a < 0xC0);
     let mut latin = a < 0xC4;
-    let mut at = from + 1;
-    while at < to {
+    for at in (from + 1..to).step_by(32) {
         let n = window(to - at);
-        let w = look(s, at, n);
-        if !w.right {
+        let Some(w) = look(s, at, n) else {
             return any(s, from, to);
-        }
+        };
         units += usize::from(w.units);
         latin &= w.low;
-        at += usize::from(n);
     }
     Some(Measured { units, latin })
 }

@@ -1,20 +1,19 @@
 // Text that fits Latin-1, two bytes at a time: no two leading bytes stand together, so that one or two of each pair end a character. What pairs mean
 // is found for 16 at once, since it shows by bytes side by side, and always for 16, since the bytes behind the text may be looked at; then those that are
 // of the text are stored, and the place moves on by as many bytes as each has.
-ghost use Rattle.std.specs.Prelude.{◌≡◌, ◌+◌, ◌-◌, ◌*◌, ◌≤◌, ◌<◌, length, take, get_or};
-ghost use Rattle.decode.specs.Tails.{Filling, picked, ran, Meant, Counted};
+ghost use Rattle.std.specs.Prelude.{◌≡◌, ◌+◌, ◌-◌, ◌*◌, ◌≤◌, ◌<◌, length, take, drop, get_or};
+ghost use Rattle.decode.specs.Tails.{kept, Tailed, Filling, picked, ran, Meant, Counted};
 
 use super::tails::raised;
 
-// What a byte means between two others; a leading byte stands for its tail.
+// What a byte means between two others; a leading byte stands for its tail. `raised` is called once: of a call for each case the compiler makes a branch,
+// and looks at the bytes one by one.
 #[tactic(auto, unfolding(crate::specs::Tails::picked))]
 fn picked(a: u8, b: u8, c: u8) -> u8
     ensures { result ≡ picked a b c }
 {
-    if b < 0xC0 {
-        return raised(a, b);
-    }
-    raised(b, c)
+    let (before, byte) = if b < 0xC0 { (a, b) } else { (b, c) };
+    raised(before, byte)
 }
 
 // How many of two bytes end a character.
@@ -53,21 +52,23 @@ pub fn pairs_of(left: usize) -> usize
     ((left - 1) / 2).min(16)
 }
 
-// So many pairs from a place on, of the text that is the first bytes of s as far as another, behind so many bytes that are written already. Returns
-// how many there are then.
-pub fn put_pairs(out: &mut [u8], wrote: usize, s: &[u8], to: usize, i: usize, pairs: usize) -> usize
-    requires { (0 < i) × (pairs ≤ 16) × (i + 2 * pairs < to) × (to + 33 ≤ length s.now) × Filling out.old (take to s.now) out.old i wrote (get_or s.now (i - 1) 0) }
-    ensures { Filling out.old (take to s.now) out.new (i + 2 * pairs) result (get_or s.now (i + 2 * pairs - 1) 0) }
+// So many pairs from a place on, of the text that is the first bytes of s as far as another. Returns how many bytes were written.
+// `to` serves the clauses alone: they say what is left of the text, and that out has room for it.
+pub fn put_pairs(out: &mut [u8], s: &[u8], to: usize, i: usize, pairs: usize) -> usize
+    requires { (0 < i) × (pairs ≤ 16) × (i + 2 * pairs < to) × (to + 33 ≤ length s.now) × Tailed (get_or s.now (i - 1) 0) (drop i (take to s.now))
+        × (length (kept (get_or s.now (i - 1) 0) (drop i (take to s.now))) ≤ length out.old) }
+    ensures { Filling out.old (get_or s.now (i - 1) 0) (drop i (take to s.now)) out.new (2 * pairs) result (get_or s.now (i + 2 * pairs - 1) 0) }
 {
+    // Kept: two arrays: each is filled by a loop of its own with no branch; of an array of triples one loop would do both.
     let mut bytes = [0u8; 32];
     let mut sizes = [0u8; 16];
     look_bytes(&mut bytes, s, i);
     look_sizes(&mut sizes, s, i);
-    let mut n = wrote;
-    for j in 0..pairs {
-        out[n] = bytes[2 * j];
-        out[n + 1] = bytes[2 * j + 1];
-        n += usize::from(sizes[j]);
+    let mut n = 0;
+    for (pair, size) in bytes.chunks_exact(2).zip(&sizes).take(pairs) {
+        out[n] = pair[0];
+        out[n + 1] = pair[1];
+        n += usize::from(*size);
     }
     n
 }

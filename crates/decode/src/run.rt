@@ -93,6 +93,7 @@ pub fn is_run<L: Lead>(s: &[u8], at: usize) -> bool
 }
 
 // A unit, the low byte first.
+// Kept: ids' wide.rt has its own, whose contract says unit i of a buffer by `set`; here it is `Wrote`, as of all that goes one behind another.
 pub fn put_unit(out: &mut [u8], unit: u16)
     requires { 2 ≤ length out.old }
     ensures { Wrote out.old (unit % 256 ∷ unit / 256 ∷ []) out.new 2 }

@@ -12,11 +12,13 @@ use super::pairs::{pairs_of, put_pairs};
 use super::run::{Three, Two, is_run, put_run, put_unit};
 use super::tails::{put_each, put_last};
 
-// Kept: that bytes are UTF-8 is a `requires` on a slice, on its first bytes or on those from a place on. A struct with that as a ghost field would be
-// made anew where one of these becomes another: `put_run::<Two>(out, Utf8 { bytes: &s[at..] })`.
+// Kept: that bytes are UTF-8 is a `requires` on a slice, on its first bytes or on those from a place on, here and wherever text that is known to be UTF-8
+// is read. A struct with that as a ghost field would be made anew where one of these becomes another: `put_run::<Two>(out, Utf8 { bytes: &s[at..] })`.
+// And no `&str`: `&text[at..]` needs that `at` is a boundary of characters, and `put_latin1` reads bytes behind the text.
 
 // The text that is the first bytes of s, as Latin-1: pairs of bytes, many at once, behind its first byte, and its last byte or two alone. Where few bytes
 // follow the text, it is written byte by byte.
+// Kept: `while`: a `for` whose step is 32 bytes doesn't say behind which byte its last pairs end, so that `put_last` would have to find that a second time.
 pub fn put_latin1(out: &mut [u8], s: &[u8], to: usize) -> usize
     requires { (to ≤ length s.now) × (is_well (from_utf8 (take to s.now)) ≡ true) × (fits_latin1 (text_of (take to s.now)) ≡ true)
         × (length (text_of (take to s.now)) ≤ length out.old) }
@@ -32,10 +34,10 @@ pub fn put_latin1(out: &mut [u8], s: &[u8], to: usize) -> usize
     let mut i = 1;
     while 3 <= to - i {
         let pairs = pairs_of(to - i);
-        n = put_pairs(out, n, s, to, i, pairs);
+        n += put_pairs(&mut out[n..], s, to, i, pairs);
         i += 2 * pairs;
     }
-    put_last(out, n, text, i)
+    n + put_last(&mut out[n..], text, i)
 }
 
 // The units of a scalar value, each in two bytes, the low one first.
@@ -53,6 +55,7 @@ fn put_units(out: &mut [u8], c: u32) -> usize
 }
 
 // The text as UTF-16LE: eight characters of ASCII at once, four of two bytes or of three at once, others one by one.
+// Kept: `while`, since the text decides how far a turn goes: no `for` has such a step.
 pub fn put_utf16le(out: &mut [u8], s: &[u8]) -> usize
     requires { (is_well (from_utf8 s.now) ≡ true) × (length (utf16le (text_of s.now)) ≤ length out.old) }
     ensures { Wrote out.old (utf16le (text_of s.now)) out.new result }
@@ -83,9 +86,7 @@ pub fn put_utf16le(out: &mut [u8], s: &[u8]) -> usize
                 continue;
             }
         }
-        let Some(c) = known_char(s, at) else {
-            return n;
-        };
+        let c = known_char(s, at);
         n += put_units(&mut out[n..], c.value);
         at += c.size;
     }

@@ -1,7 +1,7 @@
 -- What the call accepts and what it refuses: 27 and 28, exactly.
 use Rattle.std.specs.Prelude.{◌≡◌, List, ℕ, ◌≤◌, ◌<◌, length}
 use Rattle.std.proofs.Math.Bool.{true}
-use Rattle.written.specs.HeaderBytes.{Description, imported_texts, header_size, header_of, longest_header, short, writable, described}
+use Rattle.written.specs.HeaderBytes.{Description, imported_texts, header_size, header_of, longest_header, short, writable}
 use Rattle.zen.specs.Zen.{named}
 use Rattle.meaning.specs.Call.{accepted}
 use Rattle.description.specs.FormBytes.{description_bytes}

@@ -1,5 +1,5 @@
 -- Laws of a chain made object by object, from the innermost on: what it holds, and that it tells the path. Assumes nothing.
-use Rattle.std.specs.Prelude.{◌≡◌, length, set, take, drop, Some, None}
+use Rattle.std.specs.Prelude.{◌≡◌, length, set, take, drop, Some}
 use Rattle.std.proofs.Math.Path.{refl, ap}
 use Rattle.std.proofs.Common.{sym, ◌∙◌, subst, length-take-le}
 use mathlib.Core.List.{List, [], ◌∷◌, ◌++◌, append_assoc, append-nil, map, map-append}
@@ -28,28 +28,28 @@ use Rattle.objects.specs.ToldLaws.{path-deep}
 use Rattle.objects.specs.Work.{ObjectsIn, object_no, place_of}
 use Rattle.objects.specs.WorkLaws.{name_no}
 use Rattle.objects.specs.declared.object.Object.{Object}
-use Rattle.hashes.specs.Chain.{no_link, place_no, number_no, piece, pieces, chain_units, Named, Says, Tells}
+use Rattle.hashes.specs.Chain.{no_name, place_no, number_no, piece, pieces, chain_units, Named, Says, Tells}
 use Rattle.hashes.specs.Hashed.{hashed_as}
 use Rattle.hashes.specs.SlashLaws.{name-slashed}
 use Rattle.hashes.specs.PieceLaws.{pieces-next, pieces-take, pieces_none}
-use Rattle.hashes.specs.declared.chain.Link.{Link}
+use Rattle.batch.specs.declared.places.Name.{Name}
 
 -- ---- objects
 
-module _ (c : List Link) (k : ℕ) (u : Link) where
+module _ (c : List Name) (k : ℕ) (u : Name) where
   -- object k is stored
   pub set_place : k < length c → place_no (set c k u) k ≡ u.place
-  set_place h = ap (λ (x : Link). x.place) (get_or-set_same c k u no_link h)
+  set_place h = ap (λ (x : Name). x.place) (get_or-set_same c k u no_name h)
 
   set_number : k < length c → number_no (set c k u) k ≡ u.number
-  set_number h = ap (λ (x : Link). x.number) (get_or-set_same c k u no_link h)
+  set_number h = ap (λ (x : Name). x.number) (get_or-set_same c k u no_name h)
 
   -- the objects before it
   pub before-place : (j : ℕ) → j < k → place_no (set c k u) j ≡ place_no c j
-  before-place j h = ap (λ (x : Link). x.place) (get_or-set_other c k j u no_link (λ e. omega arith))
+  before-place j h = ap (λ (x : Name). x.place) (get_or-set_other c k j u no_name (λ e. omega arith))
 
   before-number : (j : ℕ) → j < k → number_no (set c k u) j ≡ number_no c j
-  before-number j h = ap (λ (x : Link). x.number) (get_or-set_other c k j u no_link (λ e. omega arith))
+  before-number j h = ap (λ (x : Name). x.number) (get_or-set_other c k j u no_name (λ e. omega arith))
 
   pub before-pieces : (b : List ℕ) (d : ℕ) → d ≤ k → pieces b (set c k u) d ≡ pieces b c d
   unfolding pieces
@@ -97,7 +97,7 @@ led-more t name (some p) deep =
 
 -- ---- an object at hand: the place of its name, and the name there
 
-pub record Own (b : List ℕ) (o : Objects) (at : ℕ) (u : Link) : Type 0 where
+pub record Own (b : List ℕ) (o : Objects) (at : ℕ) (u : Name) : Type 0 where
   pub holds : Holds b u.place (text_at b u.place)
   pub name : object_name o (entry_no o at) ≡ name_at b u.place u.number
 
@@ -111,46 +111,45 @@ own-work {b} {o} t y i h {u} e {p} q =
 
 -- ---- a chain on the way: `depth` objects stand in c, and at is the next
 
-pub record Reached (b : List ℕ) (o : Objects) (limit i : ℕ) (c : List Link) (depth at : ℕ) : Type 0 where
+pub record Reached (b : List ℕ) (o : Objects) (limit i : ℕ) (c : List Name) (depth at : ℕ) : Type 0 where
   pub holds : (k : ℕ) → k < depth → Holds b (place_no c k) (text_at b (place_no c k))
   pub path : led_of [] (path_no limit o i) ≡ led_of (map slash (pieces b c depth)) (path_no (limit - depth) o at)
 
-pub reached_none : (b : List ℕ) (o : Objects) (limit i : ℕ) (c : List Link) → Reached b o limit i c 0 i
+pub reached_none : (b : List ℕ) (o : Objects) (limit i : ℕ) (c : List Name) → Reached b o limit i c 0 i
 reached_none b o limit i c =
     let z : limit - 0 ≡ limit = omega arith in
     record { holds = λ k h. absurd (omega arith); path = rw (pieces_none b c, z) }
 
-unknown : (b : List ℕ) (c : List Link) (x : Maybe Path) → led_of [] x ≡ none → Tells b c None x
-unknown b c none e = record { named = tt; says = tt }
-unknown b c (some p) e = none-some (sym e)
+unknown : (x : Maybe Path) → led_of [] x ≡ none → x ≡ none
+unknown none e = refl
+unknown (some p) e = none-some (sym e)
 
 -- the first n objects of an array as a chain of their own
-module _ (b : List ℕ) (c : List Link) (n : ℕ) (l : n ≤ length c) where
-  first_named : n ≤ 65 → ((k : ℕ) → k < n → Holds b (place_no c k) (text_at b (place_no c k))) → Named b (take n c)
-  first_named few h =
-      let e : length (take n c) ≡ n = length-take-le n c l in
-      record {
-        few = omega arith;
-        holds = λ k m.
-            let z : place_no (take n c) k ≡ place_no c k = ap (λ (u : Link). u.place) (get_or-take n c k no_link (omega arith)) in
-            rw z (h k (omega arith));
-      }
+module _ (b : List ℕ) (c : List Name) (n : ℕ) (l : n ≤ length c) where
+  first-count : length (take n c) ≡ n
+  first-count = length-take-le n c l
+
+  first_holds : ((k : ℕ) → k < n → Holds b (place_no c k) (text_at b (place_no c k)))
+      → (k : ℕ) → k < length (take n c) → Holds b (place_no (take n c) k) (text_at b (place_no (take n c) k))
+  first_holds h k m =
+      let z : place_no (take n c) k ≡ place_no c k = ap (λ (u : Name). u.place) (get_or-take n c k no_name (omega (arith, first-count))) in
+      rw z (h k (omega (arith, first-count)))
 
   first_units : chain_units b (take n c) ≡ drop 1 (map slash (pieces b c n))
   unfolding chain_units
-  first_units = let e : length (take n c) ≡ n = length-take-le n c l in rw (e, pieces-take b c n n (omega arith))
+  first_units = rw (first-count, pieces-take b c n n (omega arith))
 
-module _ {b : List ℕ} {o : Objects} {limit i : ℕ} {c : List Link} {depth at : ℕ} (r : Reached b o limit i c depth at) where
+module _ {b : List ℕ} {o : Objects} {limit i : ℕ} {c : List Name} {depth at : ℕ} (r : Reached b o limit i c depth at) where
   -- no more objects may follow
-  pub reached_end : limit ≤ depth → Tells b c None (path_no limit o i)
-  reached_end h = unknown b c (path_no limit o i) (r.path ∙ rw (path_end (limit - depth) o at (omega arith)))
+  pub reached_end : limit ≤ depth → path_no limit o i ≡ none
+  reached_end h = unknown (path_no limit o i) (r.path ∙ rw (path_end (limit - depth) o at (omega arith)))
 
   -- the object at hand is stored
-  module _ (less : depth < limit) (most : limit ≤ 65) (l : length c ≡ 65) {u : Link} (w : Own b o at u) where
-    abbrev c' : List Link
+  module _ (less : depth < limit) (l : length c ≡ limit) {u : Name} (w : Own b o at u) where
+    abbrev c' : List Name
     c' = set c depth u
 
-    size : length c' ≡ 65
+    size : length c' ≡ limit
     size = simp length-set l
 
     place : place_no c' depth ≡ u.place
@@ -170,53 +169,55 @@ module _ {b : List ℕ} {o : Objects} {limit i : ℕ} {c : List Link} {depth at 
         ∙ rw (e, before-pieces c depth u b depth (omega arith), piece-slashed b u.place u.number, ← w.name)
 
     -- k is where its outer leads
-    module _ {k : ℕ} (q : k ≡ link_of o (entry_no o at).outer) where
-      pub reached_lost : k ≡ 0 → Tells b c' None (path_no limit o i)
-      reached_lost z = unknown b c' (path_no limit o i) (r.path ∙ rw (path-lost (limit - depth) o at (omega arith) q z))
+    abbrev goes : ℕ → Type 0
+    goes k = k ≡ link_of o (entry_no o at).outer
 
-      pub reached_top : k ≡ 1 → Tells b c' (Some (depth + 1)) (path_no limit o i)
-      reached_top z =
-          record {
-            named = (omega arith, first_named b c' (depth + 1) (omega (arith, size)) (omega arith) holds_more);
-            says = go (path_no limit o i) (path-deep o limit i)
-                (r.path ∙ rw (path-top (limit - depth) o at (omega arith) q z, units_more')
-                (led-first (map slash (pieces b c depth)) (object_name o (entry_no o at))));
-          }
-        where
-          go : (x : Maybe Path) → ((p : Path) → x ≡ some p → (0 < p.depth) × (p.depth ≤ limit)) → led_of [] x ≡ some (map slash (pieces b c' (depth + 1)))
-              → Says b c' (Some (depth + 1)) x
-          go none deep e = none-some e
-          go (some p) deep e =
-              let f : led p ++ [] ≡ map slash (pieces b c' (depth + 1)) = cc in
-              let s : chain_units b (take (depth + 1) c') ≡ drop 1 (map slash (pieces b c' (depth + 1))) = first_units b c' (depth + 1) (omega (arith, size)) in
-              (omega arith, s ∙ ap (drop 1) (sym f ∙ append-nil (led p) ∙ led-deep p (deep p refl).0))
+    -- its outer is not there
+    pub reached_lost : goes 0 → path_no limit o i ≡ none
+    reached_lost q = unknown (path_no limit o i) (r.path ∙ rw (path-lost (limit - depth) o at (omega arith) q refl))
 
-      pub reached_up : 2 ≤ k → Reached b o limit i c' (depth + 1) (k - 2)
-      reached_up m =
-          let z : limit - depth - 1 ≡ limit - (depth + 1) = omega arith in
-          record {
-            holds = holds_more;
-            path =
-                r.path
-                ∙ (rw (path-up (limit - depth) o at (omega arith) q m, z, units_more')
-                (led-more (map slash (pieces b c depth)) (object_name o (entry_no o at)) (path_no (limit - (depth + 1)) o (k - 2))
-                (λ p e. (path-deep o (limit - (depth + 1)) (k - 2) p e).0)));
-          }
+    -- it has none
+    pub reached_top : goes 1 → Tells b (take (depth + 1) c') limit (path_no limit o i)
+    reached_top q =
+        let n : length (take (depth + 1) c') ≡ depth + 1 = first-count b c' (depth + 1) (omega (arith, size)) in
+        record {
+          some = omega arith;
+          few = omega arith;
+          holds = first_holds b c' (depth + 1) (omega (arith, size)) holds_more;
+          says = go (path_no limit o i) (path-deep o limit i)
+              (r.path ∙ rw (path-top (limit - depth) o at (omega arith) q refl, units_more')
+              (led-first (map slash (pieces b c depth)) (object_name o (entry_no o at))));
+        }
+      where
+        go : (x : Maybe Path) → ((p : Path) → x ≡ some p → (0 < p.depth) × (p.depth ≤ limit)) → led_of [] x ≡ some (map slash (pieces b c' (depth + 1)))
+            → Says b (take (depth + 1) c') x
+        go none deep e = none-some e
+        go (some p) deep e =
+            let f : led p ++ [] ≡ map slash (pieces b c' (depth + 1)) = cc in
+            let s : chain_units b (take (depth + 1) c') ≡ drop 1 (map slash (pieces b c' (depth + 1))) = first_units b c' (depth + 1) (omega (arith, size)) in
+            s ∙ ap (drop 1) (sym f ∙ append-nil (led p) ∙ led-deep p (deep p refl).0)
+
+    -- it is object k
+    pub reached_up : {k : ℕ} → goes (suc (suc k)) → Reached b o limit i c' (depth + 1) k
+    reached_up {k} q =
+        let z : limit - depth - 1 ≡ limit - (depth + 1) = omega arith in
+        let n : suc (suc k) - 2 ≡ k = omega arith in
+        record {
+          holds = holds_more;
+          path =
+              r.path
+              ∙ (rw (path-up (limit - depth) o at (omega arith) q (omega arith), n, z, units_more')
+              (led-more (map slash (pieces b c depth)) (object_name o (entry_no o at)) (path_no (limit - (depth + 1)) o k)
+              (λ p e. (path-deep o (limit - (depth + 1)) k p e).0)));
+        }
 
 -- ---- what a chain tells, answered
 
 -- there is an object, and each has the place of a name
-pub tells-some : {b : List ℕ} {c : List Link} {d : ℕ} (x : Maybe Path) → Tells b c (Some d) x → length c ≡ 65 → Named b (take d c) × (0 < length (take d c))
-tells-some none t l = absurd t.says
-tells-some {b} {c} {d} (some p) t l =
-    let e : length (take d c) ≡ d = length-take-le d c (omega (arith, t.named.0)) in
-    (t.named.1, omega (arith, t.says.0))
+pub tells-some : {b : List ℕ} {c : List Name} {limit : ℕ} {x : Maybe Path} → Tells b c limit x → limit ≤ 65 → Named b c × (0 < length c)
+tells-some t l = (record { few = omega (arith, t.few); holds = t.holds }, t.some)
 
-pub tells-unknown : {b : List ℕ} {c : List Link} (x : Maybe Path) → Tells b c None x → None ≡ hashed_as x
-tells-unknown none t = refl
-tells-unknown (some p) t = absurd t.says
-
-pub tells-known : {b : List ℕ} {c : List Link} {d h : ℕ} (x : Maybe Path) → Tells b c (Some d) x → h ≡ city_hash64 (unit_bytes (chain_units b (take d c)))
+pub tells-known : {b : List ℕ} {c : List Name} {limit h : ℕ} (x : Maybe Path) → Tells b c limit x → h ≡ city_hash64 (unit_bytes (chain_units b c))
     → Some h ≡ hashed_as x
 tells-known none t e = absurd t.says
-tells-known (some p) t e = ap Some (e ∙ rw t.says.1 (sym (hash-units p.text)))
+tells-known (some p) t e = ap Some (e ∙ rw t.says (sym (hash-units p.text)))

@@ -23,8 +23,8 @@ use Rattle.batch.specs.Holds.{text_at, Holds}
 use Rattle.batch.specs.Places.{part_at}
 use Rattle.batch.specs.declared.places.Place.{Place}
 use Rattle.meaning.specs.Verify.{slash}
-use Rattle.hashes.specs.Chain.{no_link, place_no, number_no, piece, pieces, piece_count, chain_units, Named, Sized}
-use Rattle.hashes.specs.declared.chain.Link.{Link}
+use Rattle.hashes.specs.Chain.{no_name, place_no, number_no, piece, pieces, piece_count, chain_units, Named, Sized}
+use Rattle.batch.specs.declared.places.Name.{Name}
 
 -- ---- how many
 
@@ -55,32 +55,32 @@ unfolding piece_count
 piece_count_lem y p d number = sym (piece-length y p d number)
 
 -- one object more
-pub pieces-next : (b : List ℕ) (c : List Link) (k : ℕ) → pieces b c (k + 1) ≡ piece b (place_no c k) (number_no c k) ++ pieces b c k
+pub pieces-next : (b : List ℕ) (c : List Name) (k : ℕ) → pieces b c (k + 1) ≡ piece b (place_no c k) (number_no c k) ++ pieces b c k
 unfolding pieces
 pieces-next b c k = let e : k + 1 ≡ suc k = omega arith in rw e
 
-pub pieces_none : (b : List ℕ) (c : List Link) → pieces b c 0 ≡ []
+pub pieces_none : (b : List ℕ) (c : List Name) → pieces b c 0 ≡ []
 unfolding pieces
 pieces_none b c = refl
 
-pub pieces-some : (b : List ℕ) (c : List Link) (k : ℕ) → 0 < length (pieces b c k) → 0 < k
+pub pieces-some : (b : List ℕ) (c : List Name) (k : ℕ) → 0 < length (pieces b c k) → 0 < k
 unfolding pieces
 pieces-some b c zero h = absurd (omega arith)
 pieces-some b c (suc k) h = omega arith
 
 -- the first n objects bring the same in a longer chain
-pub pieces-take : (b : List ℕ) (c : List Link) (n k : ℕ) → k ≤ n → pieces b (take n c) k ≡ pieces b c k
+pub pieces-take : (b : List ℕ) (c : List Name) (n k : ℕ) → k ≤ n → pieces b (take n c) k ≡ pieces b c k
 unfolding pieces
 pieces-take b c n zero h = refl
 pieces-take b c n (suc k) h =
-    let e : get_or (take n c) k no_link ≡ get_or c k no_link = get_or-take n c k no_link (omega arith) in
-    ap₂ (λ (u : Link) (l : List ℕ). piece b u.place u.number ++ l) e (pieces-take b c n k (omega arith))
+    let e : get_or (take n c) k no_name ≡ get_or c k no_name = get_or-take n c k no_name (omega arith) in
+    ap₂ (λ (u : Name) (l : List ℕ). piece b u.place u.number ++ l) e (pieces-take b c n k (omega arith))
 
 piece-some : (b : List ℕ) (p : Place) (number : ℕ) → 0 < length (piece b p number)
 unfolding piece
 piece-some b p number = omega arith
 
-pub pieces-full : (b : List ℕ) (c : List Link) (k : ℕ) → 0 < k → 0 < length (pieces b c k)
+pub pieces-full : (b : List ℕ) (c : List Name) (k : ℕ) → 0 < k → 0 < length (pieces b c k)
 pieces-full b c k h =
     let e : k ≡ k - 1 + 1 = omega arith in
     let p = piece b (place_no c (k - 1)) (number_no c (k - 1)) in
@@ -92,7 +92,7 @@ pieces-full b c k h =
       piece-some b (place_no c (k - 1)) (number_no c (k - 1)),
     )
 
-pub count_next : {b : List ℕ} → Bytes b → (c : List Link) (k : ℕ) → Holds b (place_no c k) (text_at b (place_no c k)) → (total r : ℕ) → total ≡ length (pieces b c k)
+pub count_next : {b : List ℕ} → Bytes b → (c : List Name) (k : ℕ) → Holds b (place_no c k) (text_at b (place_no c k)) → (total r : ℕ) → total ≡ length (pieces b c k)
     → r ≡ piece_count (place_no c k) (number_no c k) → total + r ≡ length (pieces b c (k + 1))
 count_next {b} y c k d total r e q =
     omega (arith, q ∙ piece_count_lem y (place_no c k) d (number_no c k), ap length (pieces-next b c k), length-append (piece b (place_no c k) (number_no c k)) (pieces b c k))
@@ -129,7 +129,7 @@ map-drop f zero l = refl
 map-drop f (suc n) [] = refl
 map-drop f (suc n) (x ∷ l) = map-drop f n l
 
-pub chain-window : (b : List ℕ) (c : List Link) (from n : ℕ)
+pub chain-window : (b : List ℕ) (c : List Name) (from n : ℕ)
     → map slash (take n (drop (from + 1) (pieces b c (length c)))) ≡ take n (drop from (chain_units b c))
 unfolding chain_units
 chain-window b c from n =
@@ -140,12 +140,12 @@ chain-window b c from n =
     drop-drop from 1 us ∙ ap (λ (k : ℕ). drop k us) e ∙ map-drop slash (from + 1) (pieces b c d) in
     sym (ap (take n) behind ∙ map-take slash n (drop (from + 1) (pieces b c d)))
 
-pub chain_length : (b : List ℕ) (c : List Link) (n : ℕ) → length (pieces b c (length c)) ≡ n + 1 → length (chain_units b c) ≡ n
+pub chain_length : (b : List ℕ) (c : List Name) (n : ℕ) → length (pieces b c (length c)) ≡ n + 1 → length (chain_units b c) ≡ n
 unfolding chain_units
 chain_length b c n e = length-drop 1 (map slash (pieces b c (length c))) ∙ rw (length-map (pieces b c (length c)) slash, e) (omega arith)
 
 -- so many units of a path take twice as many bytes
-pub window-size : {b : List ℕ} {c : List Link} {n : ℕ} → Sized b c n → (from m : ℕ) → from + m ≤ n → length (unit_bytes (take m (drop from (chain_units b c)))) ≡ 2 * m
+pub window-size : {b : List ℕ} {c : List Name} {n : ℕ} → Sized b c n → (from m : ℕ) → from + m ≤ n → length (unit_bytes (take m (drop from (chain_units b c)))) ≡ 2 * m
 window-size {b} {c} {n} t from m h =
     unit_bytes-length (take m (drop from (chain_units b c)))
     ∙ ap (λ (k : ℕ). 2 * k) (length-take-le m (drop from (chain_units b c)) (simp length-drop (omega (arith, chain_length b c n t.count))))
@@ -196,17 +196,17 @@ window-split left skip past here xs ys ep eh =
     rw (drop-both skip xs ys, d, i, take-both left (drop past xs) (drop (skip - past) ys), n, a, k)
 
 -- the part of object u, which is object k, of a window that passes over `skip` units of what it and the k objects inside it bring, and takes `left`
-pub record Part (b : List ℕ) (c : List Link) (u : Link) (k skip left count past here : ℕ) : Type 0 where
+pub record Part (b : List ℕ) (c : List Name) (u : Name) (k skip left count past here : ℕ) : Type 0 where
   pub bytes : Bytes b
   pub named : Named b c
   pub most : k < length c
-  pub object : u ≡ get_or c k no_link
+  pub object : u ≡ get_or c k no_name
   pub room : skip + left ≤ length (pieces b c (k + 1))
   pub counts : count ≡ piece_count u.place u.number
   pub passed : past ≡ min skip count
   pub taken : here ≡ min left (count - past)
 
-module _ {b : List ℕ} {c : List Link} {u : Link} {k skip left count past here : ℕ} (t : Part b c u k skip left count past here) where
+module _ {b : List ℕ} {c : List Name} {u : Name} {k skip left count past here : ℕ} (t : Part b c u k skip left count past here) where
   abbrev own : List ℕ
   own = piece b u.place u.number
 
@@ -217,7 +217,7 @@ module _ {b : List ℕ} {c : List Link} {u : Link} {k skip left count past here 
   counted = t.counts ∙ piece_count_lem t.bytes u.place own-holds u.number
 
   next : pieces b c (k + 1) ≡ own ++ pieces b c k
-  next = pieces-next b c k ∙ ap (λ (v : Link). piece b v.place v.number ++ pieces b c k) (sym t.object)
+  next = pieces-next b c k ∙ ap (λ (v : Name). piece b v.place v.number ++ pieces b c k) (sym t.object)
 
   pub own-fits : past + here ≤ length own
   own-fits = within counted t.passed t.taken
@@ -273,7 +273,7 @@ module _ {s x o rest : List ℕ} {at : ℕ} (w : Filled s x o rest at) where
         }
 
 -- the object's part has room where the window has, and is written next
-module _ {b : List ℕ} {c : List Link} {u : Link} {k skip left count past here : ℕ} (t : Part b c u k skip left count past here) {s x o : List ℕ} {at : ℕ}
+module _ {b : List ℕ} {c : List Name} {u : Name} {k skip left count past here : ℕ} (t : Part b c u k skip left count past here) {s x o : List ℕ} {at : ℕ}
     (w : Filled s x o (unit_bytes (take left (drop skip (pieces b c (k + 1))))) at) where
   abbrev part : List ℕ
   part = unit_bytes (take here (drop past (piece b u.place u.number)))

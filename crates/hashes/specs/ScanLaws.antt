@@ -1,4 +1,4 @@
--- Laws of a chain made by looking in the block alone: its names' starts are counted from where the block's names start. Assumes nothing.
+-- Laws of a chain made by looking in the block: its names' starts are counted from where the block's names start. Assumes nothing.
 use Rattle.std.specs.Prelude.{◌≡◌, refl, Bool, true, false, cond, List, [], ◌∷◌, ℕ, zero, suc, ◌+◌, ◌-◌, ◌≤◌, ◌<◌, eqb, length, get_or, take, drop, Ok}
 use Rattle.std.proofs.Common.{◌∙◌, ap, arith, length-drop, drop-drop}
 use Rattle.std.proofs.Math.Seq.{take-length}

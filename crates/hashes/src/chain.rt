@@ -1,5 +1,6 @@
-// An object and those outside it, the innermost first, as links in a lent array.
-ghost use Rattle.std.specs.Prelude.{List, ◌≡◌, ℕ, ◌*◌, ◌≤◌, ◌<◌, length, drop};
+// An object and those outside it, the innermost first, by their names in a lent array.
+ghost use Rattle.std.specs.Prelude.{List, ◌≡◌, ℕ, ◌*◌, ◌<◌, length, drop, MatchOption};
+ghost use Rattle.std.proofs.Math.Option.{none};
 ghost use Rattle.base.specs.NumberLaws.{Bytes};
 ghost use Rattle.base.specs.Reading.{gives, run};
 ghost use Rattle.scriptblock.specs.Script.{Objects, script};
@@ -8,24 +9,15 @@ ghost use Rattle.objects.specs.Work.{Linked, ObjectsIn};
 ghost use Rattle.hashes.specs.Chain.{Tells};
 
 use base::index::{Kind, index_kind};
-use batch::places::Place;
-use objects::object::{object_at, place_of};
+use batch::places::{Name, Place};
+use objects::object::{Outer, name_of, object_at};
 use scan::script::Script;
-use scriptblock::objects::{find_entry, object_place};
-use scriptblock::script::entry_at;
 
-// How many objects a chain has at most.
+// How many objects a chain has at most, and so how many names a caller lends room for.
 pub const DEPTH: usize = 65;
 
-// An object: where its name is, and its instance number.
-#[derive(Clone, Copy)]
-pub struct Link {
-    pub place: Place,
-    pub number: u32,
-}
-
-// What a chain's array is lent with.
-pub const NO_LINK: Link = Link {
+// What that room holds before.
+pub const NO_NAME: Name = Name {
     place: Place {
         start: 0,
         size: 0,
@@ -34,51 +26,51 @@ pub const NO_LINK: Link = Link {
     number: 0,
 };
 
-// The chain of object i, of at most `limit` objects, by the links in the work buffer: how many objects, if its path is known.
-pub fn chain_in(w: &[u8], i: usize, limit: usize, chain: &mut [Link; DEPTH]) -> Option<usize>
-    requires { Linked w.now × (48 * i < length w.now) × (limit ≤ 65) }
-    ensures { (b : List ℕ) (o : Objects) → ObjectsIn b o w.now → Bytes b → Tells b chain.new result (path_no limit o i) }
+// Kept: a loop for each way: over a closure they would be `chain_by(i, chain, |at| linked(w, at))` and `chain_by(i, chain, |at| scanned(s, at))`, with
+// functions to `(Name, Outer)` nearly as long as these bodies; and its contract would say besides where the closure may be called, where an outer that it
+// tells leads, and that it tells object `at`, which rests on the links in the work buffer here and on the block's entries there.
+
+// The chain of object i, of at most as many objects as there is room for, by the links in the work buffer, if its path is known.
+pub fn chain_in<'a>(w: &[u8], i: usize, chain: &'a mut [Name]) -> Option<&'a [Name]>
+    requires { Linked w.now × (48 * i < length w.now) }
+    ensures { (b : List ℕ) (o : Objects) → ObjectsIn b o w.now → Bytes b → MatchOption result (path_no (length chain.old) o i ≡ none)
+        (λ c. Tells b c.now (length chain.old) (path_no (length chain.old) o i)) }
 {
     let mut at = i;
-    for depth in 0..limit {
+    for depth in 0..chain.len() {
         let u = object_at(w, at);
-        chain[depth] = Link {
-            place: place_of(u),
-            number: u.number,
-        };
-        if u.outer == 0 {
-            return None;
+        chain[depth] = name_of(u);
+        match Outer::of(u.outer) {
+            Outer::Missing => return None,
+            Outer::Nothing => return Some(&chain[..depth + 1]),
+            Outer::Object(outer) => at = outer,
         }
-        if u.outer == 1 {
-            return Some(depth + 1);
-        }
-        at = u.outer - 2;
     }
     None
 }
 
-// The same by looking in the block alone. A name's start is counted from where the block's names start.
-pub fn chain_by_scan(s: &Script, i: usize, limit: usize, chain: &mut [Link; DEPTH]) -> Option<usize>
-    requires { (i < s.now.layout.count) × (limit ≤ 65) }
-    ensures { (o : Objects) → run script 0 s.now.block.now ≡ gives o
-        → Tells (drop s.now.layout.names.strings s.now.block.now) chain.new result (path_no limit o i) }
+// The same with no work buffer, by looking in the block. A name's start is counted from where the block's names start.
+pub fn chain_by_scan<'a>(s: &Script, i: usize, chain: &'a mut [Name]) -> Option<&'a [Name]>
+    requires { i < s.now.block.layout.count }
+    ensures { (o : Objects) → run script 0 s.now.block.bytes.now ≡ gives o → MatchOption result (path_no (length chain.old) o i ≡ none)
+        (λ c. Tells (drop s.now.names.names.strings s.now.block.bytes.now) c.now (length chain.old) (path_no (length chain.old) o i)) }
 {
     let mut at = i;
-    for depth in 0..limit {
-        let e = entry_at(s.block, s.layout, at);
-        let p = object_place(s.block, s.layout, s.notes, e.index);
-        chain[depth] = Link {
+    for depth in 0..chain.len() {
+        let e = s.block.entry(at);
+        let p = s.names.place(e.index);
+        chain[depth] = Name {
             place: Place {
-                start: p.start - s.layout.names.strings,
+                start: p.start - s.names.names.strings,
                 size: p.size,
                 wide: p.wide,
             },
             number: e.number,
         };
         if let Kind::Null = index_kind(e.outer) {
-            return Some(depth + 1);
+            return Some(&chain[..depth + 1]);
         }
-        at = find_entry(s.block, s.layout, e.outer)?;
+        at = s.block.find(e.outer)?;
     }
     None
 }

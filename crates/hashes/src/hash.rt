@@ -1,4 +1,5 @@
-// The hash of a chain's path: of the whole text where it is short, else 64 bytes at a time as CityHash64 asks for them, the last first.
+// The hash of a chain's path: of the whole text where it is short, else of its last 64 bytes, and then of up to 1,024 at a time from the first on,
+// as CityHash64 asks for them.
 ghost use Rattle.std.specs.Prelude.{◌≡◌, ◌+◌, ◌-◌, ◌*◌, ◌/◌, ◌≤◌, ◌<◌, length, take, drop};
 ghost use Rattle.city.specs.City.{turns, start, city_hash64};
 ghost use Rattle.base.specs.Number.{le_at};

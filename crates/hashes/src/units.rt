@@ -10,13 +10,13 @@ ghost use Rattle.hashes.specs.Chain.{piece, pieces, chain_units, piece_count, Na
 ghost use Rattle.hashes.specs.Once.{once};
 ghost use Rattle.hashes.specs.Slash.{slash_low, slash_bytes};
 
-use super::chain::Link;
+use batch::places::Name;
 use batch::texts::text_of;
-use ids::id::{Name, put_units};
+use ids::id;
 use text::name::{put_suffix, suffix_len};
 
 // How many units a name brings, with the `/` before it.
-fn piece_count(u: Link) -> usize
+fn piece_count(u: Name) -> usize
     requires { u.place.size < 65536 }
     ensures { (result ≡ piece_count u.place u.number) × (result < 2 ^ 32) }
 {
@@ -28,7 +28,7 @@ fn piece_count(u: Link) -> usize
 }
 
 // How many units the names of a chain bring, each with the `/` before it.
-fn count_units(names: &[u8], chain: &[Link]) -> usize
+fn count_units(names: &[u8], chain: &[Name]) -> usize
     requires { Named names.now chain.now }
     ensures { (result ≡ length (pieces names.now chain.now (length chain.now))) × (result ≤ length chain.now * 2 ^ 32) }
 {
@@ -39,8 +39,11 @@ fn count_units(names: &[u8], chain: &[Link]) -> usize
     total
 }
 
+// Kept: out, from and n are three parameters, and that so many units are there is a `requires`: a struct of the three would be made anew wherever a
+// part of the units goes on, as `put_piece(Window { out: &mut out[2 * (n - left)..], from: past, n: here }, self.names, *u)`.
+
 // The n units of a lowered name from a place on.
-fn put_name(out: &mut [u8], s: &[u8], u: Link, from: usize, n: usize) -> usize
+fn put_name(out: &mut [u8], s: &[u8], u: Name, from: usize, n: usize) -> usize
     requires { Holds s.now u.place (text_at s.now u.place) × (from + n ≤ length (name_units (text_at s.now u.place) (suffix u.number)))
         × (2 * n ≤ length out.old) }
     ensures { Wrote out.old (unit_bytes (take n (drop from (name_units (text_at s.now u.place) (suffix u.number))))) out.new result }
@@ -48,15 +51,15 @@ fn put_name(out: &mut [u8], s: &[u8], u: Link, from: usize, n: usize) -> usize
     let mut digits = [0u8; 24];
     let k = put_suffix(&mut digits, u.number);
     let text = text_of(s, u.place);
-    let name = Name {
+    let name = id::Name {
         text,
         suffix: &digits[..k],
     };
-    put_units(out, name, from, n)
+    id::put_units(out, name, from, n)
 }
 
 // The n units of a lowered name and the `/` before it, from a place on.
-fn put_piece(out: &mut [u8], s: &[u8], u: Link, from: usize, n: usize) -> usize
+fn put_piece(out: &mut [u8], s: &[u8], u: Name, from: usize, n: usize) -> usize
     requires { Holds s.now u.place (text_at s.now u.place) × (from + n ≤ length (piece s.now u.place u.number)) × (2 * n ≤ length out.old) }
     ensures { Wrote out.old (unit_bytes (take n (drop from (piece s.now u.place u.number)))) out.new result }
 {
@@ -97,7 +100,7 @@ fn slash_units(out: &mut [u8], n: usize)
 #[derive(Clone, Copy)]
 pub struct PathUnits<'a> {
     pub names: &'a [u8],
-    pub chain: &'a [Link],
+    pub chain: &'a [Name],
     pub count: usize,
     pub ghost sized: { Sized names.now chain.now count } by { Prim.hlevel once },
     pub ghost fits: { Bytes names.now },
@@ -105,7 +108,7 @@ pub struct PathUnits<'a> {
 
 impl<'a> PathUnits<'a> {
     // Of one object or more.
-    pub fn of(names: &'a [u8], chain: &'a [Link]) -> PathUnits<'a>
+    pub fn of(names: &'a [u8], chain: &'a [Name]) -> PathUnits<'a>
         requires { Named names.now chain.now × (0 < length chain.now) }
         ensures names { result.names.now ≡ names.now }
         ensures chain { result.chain.now ≡ chain.now }

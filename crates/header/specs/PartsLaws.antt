@@ -1,9 +1,8 @@
 -- Laws of a description's texts by position: one that can be written, or not; one text more. Assumes nothing.
-use Rattle.std.specs.Prelude.{◌≡◌, Bool, cond, ◌&&◌, List, eqb, ltb, Option, Some, None, MatchBool, take, drop, get_or}
-use Rattle.std.specs.List.{AllWithin, HoldsAt, range_with_len}
-use Rattle.std.proofs.lemmas.List.FromFn.{length-range_with_len, get_or-range_with_len}
+use Rattle.std.specs.Prelude.{◌≡◌, Bool, cond, ◌&&◌, List, eqb, ltb, Option, Some, None, MatchBool, take, drop}
+use Rattle.std.specs.List.{AllWithin, HoldsAt}
 use Rattle.std.proofs.Math.Path.{refl}
-use Rattle.std.proofs.Common.{sym, ◌∙◌, ap, zero-add, mul-suc, length-append}
+use Rattle.std.proofs.Common.{sym, ◌∙◌, ap, mul-suc, length-append}
 use Rattle.std.proofs.Math.Bool.{true, false, and-eq-true_iff}
 use Prim.Native.Nat.{ℕ, zero, suc, ◌+◌, ◌*◌, ◌-◌, ◌≤◌, ◌<◌}
 use native.Mathlib.Omega.{arith}
@@ -14,7 +13,7 @@ use Rattle.base.specs.Choose.{pick}
 use Rattle.base.specs.Find.{flat}
 use Rattle.base.specs.Never.{never}
 use Rattle.base.specs.Number.{be_at}
-use Rattle.base.specs.ReadingRows.{cells}
+use Rattle.base.specs.ReadingRows.{cells, cells_at, cells-length}
 use Rattle.text.specs.Utf16.{is_well, encode16, utf16le}
 use Rattle.text.specs.Utf8.{from_utf8}
 use Rattle.text.specs.UnitBytesLaws.{unit_bytes-length}
@@ -288,17 +287,14 @@ module _ (s : List ℕ) (count : ℕ) where
 
   -- what the code's chain says: each is within the list, or one is not
   pub all-named : (at k : ℕ) (r : Bool)
-      → MatchBool r (AllWithin (λ i. be_at 4 s (at + 40 * i) < count) (range_with_len 0 k) 0 (length (range_with_len 0 k)))
-      ((i : ℕ) × (i < length (range_with_len 0 k)) × HoldsAt (λ i. count ≤ be_at 4 s (at + 40 * i)) (range_with_len 0 k) i)
+      → MatchBool r (AllWithin (λ n. n < count) (cells (be_at 4 s) 40 at k) 0 (length (cells (be_at 4 s) 40 at k)))
+      ((i : ℕ) × (i < length (cells (be_at 4 s) 40 at k)) × HoldsAt (λ n. count ≤ n) (cells (be_at 4 s) 40 at k) i)
       → r ≡ named count (cells (export_in s) 40 at k)
   all-named at k true m =
-      sym (named-each k at (λ i h.
-      let e : get_or (range_with_len 0 k) i 0 ≡ i = get_or-range_with_len 0 k i 0 h ∙ zero-add i in
-      rw e at (m i 0 (omega arith) (omega (arith, length-range_with_len 0 k)))))
+      sym (named-each k at (λ i h. rw (cells_at (be_at 4 s) 40 at k i 0 h) at (m i 0 (omega arith) (omega (arith, cells-length (be_at 4 s) 40 at k)))))
   all-named at k false (i, h, m) =
-      let l : i < k = omega (arith, length-range_with_len 0 k) in
-      let e : get_or (range_with_len 0 k) i 0 ≡ i = get_or-range_with_len 0 k i 0 l ∙ zero-add i in
-      sym (named-one k at i l (rw e at (m 0)))
+      let l : i < k = omega (arith, cells-length (be_at 4 s) 40 at k) in
+      sym (named-one k at i l (rw (cells_at (be_at 4 s) 40 at k i 0 l) at (m 0)))
 
 -- ---- sizes
 

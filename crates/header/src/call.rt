@@ -1,5 +1,5 @@
 // The header written from a checked description, and the call (27, 28).
-ghost use Rattle.std.specs.Prelude.{◌≡◌, ◌≤◌, length};
+ghost use Rattle.std.specs.Prelude.{◌≡◌, ◌≤◌, length, MatchResult};
 ghost use Rattle.base.specs.Answer.{refusal};
 ghost use Rattle.base.specs.Find.{flat};
 ghost use Rattle.base.specs.Number.{le_bytes};
@@ -65,8 +65,11 @@ impl Plan<'_> {
     {
         let p = self.parts;
         let a = put_le64(out, 0);
-        let b = a + put_hashes(&mut out[a..], self.s, p.hashes, p.keys);
-        b + put_exports(&mut out[b..], self.s, p.exports, p.entries)
+        let b = a + put_hashes(&mut out[a..], &self.s[p.hashes..p.hashes + 8 * p.keys]);
+        b + put_exports(
+            &mut out[b..],
+            &self.s[p.exports..p.exports + 40 * p.entries],
+        )
     }
 
     // The imported names: a batch, then their numbers.
@@ -110,28 +113,32 @@ impl Plan<'_> {
     }
 }
 
-// The number of a refusal of the description or its buffer: no block is in it.
-fn refused(why: Refusal) -> u64
-    ensures { result ≡ refusal (number why) 0 }
-{
-    Refused { why, block: 0 }.number()
-}
-
-// The call: nothing is written before both questions are asked.
-pub fn class_header(description: &[u8], header: &mut [u8]) -> u64
-    ensures { (result ≡ number_of (header_answer description.now (length header.old)))
+// How much is written of a description's header, or what it is refused for: nothing is written before both questions are asked.
+fn answer(description: &[u8], header: &mut [u8]) -> Result<usize, Refusal>
+    ensures { MatchResult result (λ n. n ≡ number_of (header_answer description.now (length header.old)))
+        (λ r. refusal (number r) 0 ≡ number_of (header_answer description.now (length header.old)))
         × (header.new ≡ buffer_after (header_answer description.now (length header.old)) header.old) }
 {
-    let Some(parts) = check(description) else {
-        return refused(Refusal::Malformed);
-    };
+    let parts = check(description).ok_or(Refusal::Malformed)?;
     let plan = Plan {
         s: description,
         parts,
         regions: regions_of(parts),
     };
     if header.len() < plan.regions.size {
-        return refused(Refusal::HeaderRoom);
+        return Err(Refusal::HeaderRoom);
     }
-    plan.put_header(header) as u64
+    Ok(plan.put_header(header))
+}
+
+// The call: a refusal is of no block.
+// Kept: the number that C sees: of a Result capi would make it, by this same match.
+pub fn class_header(description: &[u8], header: &mut [u8]) -> u64
+    ensures { (result ≡ number_of (header_answer description.now (length header.old)))
+        × (header.new ≡ buffer_after (header_answer description.now (length header.old)) header.old) }
+{
+    match answer(description, header) {
+        Ok(n) => n as u64,
+        Err(why) => Refused { why, block: 0 }.number(),
+    }
 }

@@ -1,5 +1,5 @@
 // A description checked (27), and where its parts are.
-ghost use Rattle.std.specs.Prelude.{◌≡◌, ◌+◌, ◌*◌, ◌^◌, ◌≤◌, ◌<◌, length};
+ghost use Rattle.std.specs.Prelude.{◌≡◌, ◌+◌, ◌*◌, ◌/◌, ◌^◌, ◌≤◌, ◌<◌, length};
 ghost use Rattle.base.specs.Number.{be_at};
 ghost use Rattle.base.specs.ReadingRows.{cells};
 ghost use Rattle.zen.specs.Zen.{named};
@@ -49,6 +49,7 @@ const LONGEST_NAME: usize = 32767;
 const LONGEST_HEADER: usize = 2147483647;
 
 // The number in 4 bytes at a place.
+// Kept: as in packages' frame.rt: in base `be_size32` would stand beside `le_size32`, which is signed and answers an Option.
 pub fn size_at(s: &[u8], at: usize) -> usize
     requires { at + 4 ≤ length s.now }
     ensures { (result ≡ be_at 4 s.now at) × (result < 2 ^ 32) }
@@ -92,6 +93,8 @@ fn sized_text(s: &[u8], at: usize, more: usize) -> Option<Extent>
 }
 
 // So many texts from a place on. None: one of them can't be written.
+// Kept: that the count fits 32 bits is a `requires` here, at `batch_size` and of the batch that is written: `Texts` is public, and as a ghost field
+// of it this would be asked of all who make one, for their numbers too.
 fn sized_texts(s: &[u8], from: usize, count: usize, more: usize) -> Option<Extent>
     requires { (from ≤ length s.now) × (count < 2 ^ 32) × (more ≤ 4) }
     ensures { result ≡ sized_texts 0 more s.now from count }
@@ -106,12 +109,15 @@ fn sized_texts(s: &[u8], from: usize, count: usize, more: usize) -> Option<Exten
     Some(Extent { next, size })
 }
 
-// Each export's text number is within the list.
-fn check_exports(s: &[u8], from: usize, n: usize, count: usize) -> bool
-    requires { from + 40 * n ≤ length s.now }
-    ensures { result ≡ named count (cells (export_in s.now) 40 from n) }
+// Each export's text number is within the list; an export stands in 40 bytes.
+// Kept: zen's tables.rt has its own, for exports of another form: one for both would be told how wide they are and how to read the name, as
+// `all_named(exports.chunks_exact(40), |export| size_at(export, 0), count)`, which says what stands here in other words.
+fn check_exports(exports: &[u8], count: usize) -> bool
+    ensures { result ≡ named count (cells (export_in exports.now) 40 0 (length exports.now / 40)) }
 {
-    (0..n).all(|i| size_at(s, from + 40 * i) < count)
+    exports
+        .chunks_exact(40)
+        .all(|export| size_at(export, 0) < count)
 }
 
 // How many bytes a batch takes.
@@ -154,7 +160,8 @@ fn check_whole(s: &[u8], p: Parts) -> Option<Parts>
     if LONGEST_HEADER < g.size {
         return None;
     }
-    check_exports(s, p.exports, p.entries, p.texts).then_some(p)
+    let exports = &s[p.exports..p.exports + 40 * p.entries];
+    check_exports(exports, p.texts).then_some(p)
 }
 
 // The imported names, behind the hashes' end, and nothing left over.

@@ -35,6 +35,7 @@ pub struct Put {
 }
 
 // The string of the name that is the first bytes of s: Latin-1, or UTF-16LE where the text doesn't fit. ASCII is written as it stands.
+// Kept: the text is no slice of its own, as in decode's narrow.rt: bytes behind the text are read.
 fn put_string(out: &mut [u8], s: &[u8], to: usize) -> Put
     requires { (to ≤ length s.now) × (is_well (from_utf8 (take to s.now)) ≡ true) × (length (string_bytes (text_of (take to s.now))) ≤ length out.old) }
     ensures { Wrote out.old (string_bytes (text_of (take to s.now))) out.new result.size

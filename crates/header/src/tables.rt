@@ -1,5 +1,5 @@
 // Hashes, exports and the numbers of imported names, written to the front of a lent buffer. Each function returns how many bytes it wrote.
-ghost use Rattle.std.specs.Prelude.{◌≡◌, ◌+◌, ◌*◌, ◌≤◌, length};
+ghost use Rattle.std.specs.Prelude.{◌≡◌, ◌+◌, ◌/◌, ◌≤◌, length};
 ghost use Rattle.base.specs.Find.{flat};
 ghost use Rattle.base.specs.Number.{be_at, le_bytes};
 ghost use Rattle.base.specs.Output.{Wrote};
@@ -13,12 +13,19 @@ use super::names::{Texts, next_text};
 use super::pieces::put_pieces;
 use base::number::{be32, be64};
 
-// So many hashes from a place on.
-pub fn put_hashes(out: &mut [u8], s: &[u8], from: usize, count: usize) -> usize
-    requires { (from + 8 * count ≤ length s.now) × (length (flat (le_bytes 8) (cells (be_at 8 s.now) 8 from count)) ≤ length out.old) }
-    ensures { Wrote out.old (flat (le_bytes 8) (cells (be_at 8 s.now) 8 from count)) out.new result }
+// Kept: hashes and exports by number, since `put_pieces` is the loop: `for hash in hashes.chunks_exact(8) { n += put_le64(&mut out[n..], be64(hash, 0)); }`
+// would be a loop of its own, for exports another.
+
+// Hashes, which stand in 8 bytes each.
+pub fn put_hashes(out: &mut [u8], hashes: &[u8]) -> usize
+    requires { length (flat (le_bytes 8) (cells (be_at 8 hashes.now) 8 0 (length hashes.now / 8))) ≤ length out.old }
+    ensures { Wrote out.old (flat (le_bytes 8) (cells (be_at 8 hashes.now) 8 0 (length hashes.now / 8))) out.new result }
 {
-    put_pieces(out, count, |out, i| put_le64(out, be64(s, from + 8 * i)))
+    put_pieces(
+        out,
+        hashes.len() / 8,
+        |out, i| put_le64(out, be64(hashes, 8 * i)),
+    )
 }
 
 // The export at a place: of its nine numbers of 8 bytes, the third is the name.
@@ -40,12 +47,16 @@ fn put_export(out: &mut [u8], s: &[u8], at: usize) -> usize
     put_pieces(out, numbers.len(), |out, i| put_le64(out, numbers[i]))
 }
 
-// So many exports from a place on.
-pub fn put_exports(out: &mut [u8], s: &[u8], from: usize, count: usize) -> usize
-    requires { (from + 40 * count ≤ length s.now) × (length (flat export_bytes (cells (export_in s.now) 40 from count)) ≤ length out.old) }
-    ensures { Wrote out.old (flat export_bytes (cells (export_in s.now) 40 from count)) out.new result }
+// Exports, which stand in 40 bytes each.
+pub fn put_exports(out: &mut [u8], exports: &[u8]) -> usize
+    requires { length (flat export_bytes (cells (export_in exports.now) 40 0 (length exports.now / 40))) ≤ length out.old }
+    ensures { Wrote out.old (flat export_bytes (cells (export_in exports.now) 40 0 (length exports.now / 40))) out.new result }
 {
-    put_pieces(out, count, |out, i| put_export(out, s, from + 40 * i))
+    put_pieces(
+        out,
+        exports.len() / 40,
+        |out, i| put_export(out, exports, 40 * i),
+    )
 }
 
 // The numbers of imported names, each behind its text.

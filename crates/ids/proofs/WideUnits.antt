@@ -1,6 +1,6 @@
 -- Lemmas for wide text lowered by script: that its units are those of the lowered text where they pass the test of the script. Assumes nothing.
 use mathlib.Core.Path.{◌≡◌, refl, sym, ◌∙◌, ap}
-use mathlib.Core.Bool.{Bool, true, and-eq-true_iff}
+use mathlib.Core.Bool.{Bool, true, false, cond, and-eq-true_iff}
 use mathlib.Core.List.{List, [], ◌∷◌, ◌++◌, map}
 use mathlib.Core.Logic.{inr, by_cases}
 use Prim.Native.Nat.{ℕ, zero, suc, ◌+◌, ◌*◌, ◌≤◌, ◌<◌}
@@ -10,6 +10,7 @@ use native.Mathlib.Omega.{arith}
 use lib.Bits.{bit_or, or_add_and, and_le_l, and_le_r}
 use lib.ListN.{length, get_or, take, drop, length-map, length-take, length-drop, get_or-map}
 use lib.Seq.{take-suc, get_or-take, get_or-drop, ext_get_or}
+use Rattle.std.specs.Prelude.{Option, None, Some}
 use Rattle.lower.specs.Ascii.{lower_ascii}
 use Rattle.lower.specs.Lower.{lowered}
 use Rattle.lower.proofs.LowerLaws.{lower-single}
@@ -17,6 +18,7 @@ use Rattle.rules.specs.Caseless.{caseless}
 use Rattle.rules.specs.CaselessLaws.{ascii-caseless}
 use Rattle.rules.specs.Scripts.{LowersBy}
 use Rattle.rules.specs.ScriptLaws.{caseless-script}
+use Rattle.base.specs.Never.{never}
 use Rattle.base.specs.NumberLaws.{Bytes}
 use Rattle.base.specs.Output.{Wrote}
 use Rattle.base.specs.OutputLaws.{wrote-taken}
@@ -41,11 +43,21 @@ lowered-word b u h =
     (λ (k : ¬ (u < 0xE000)). rw (single-lowered b u (inr (omega arith))) (lower-single u h))))
 
 -- so is each of a lowered text
-pub lowered-fits : (part : List ℕ) (b : Bytes part) (w : is_well (decoded true part) ≡ true) (i : ℕ) → i < length (units_of true part)
-    → get_or (encode16 (lowered (base true part))) i 0 < 65536
-lowered-fits part b w i h =
-    let us : List ℕ = units_of true part in
-    rw (place true part b w i h).0 (lowered-word (get_or (0 ∷ us) i 0) (get_or us i 0) (units_of-words true part b i))
+pub lowered-fits : (wide : Bool) (part : List ℕ) (b : Bytes part) (w : is_well (decoded wide part) ≡ true) (i : ℕ) → i < length (units_of wide part)
+    → get_or (encode16 (lowered (base wide part))) i 0 < 65536
+lowered-fits wide part b w i h =
+    let us : List ℕ = units_of wide part in
+    rw (place wide part b w i h).0 (lowered-word (get_or (0 ∷ us) i 0) (get_or us i 0) (units_of-words wide part b i))
+
+-- ---- what is known where the table is not to be asked
+
+pub none-asked : (t : Bool) (v : ℕ) → ◌≡◌ {A = Option ℕ} None (cond t None (Some v)) → t ≡ true
+none-asked true v e = refl
+none-asked false v e = never (cc)
+
+pub some-known : (t : Bool) (v : ℕ) {u : ℕ} → ◌≡◌ {A = Option ℕ} (Some u) (cond t None (Some v)) → u ≡ v
+some-known true v e = never (cc)
+some-known false v e = cc
 
 -- ---- a test of each unit
 

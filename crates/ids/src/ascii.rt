@@ -9,7 +9,7 @@ ghost use Rattle.text.specs.Units.{units_of};
 ghost use Rattle.ids.specs.LoweredUnits.{all_are, bits_from, name_units};
 
 use super::short::put_each;
-use super::wide::Wide;
+use super::wide::{Wide, WideName};
 use lower::ascii::lower_ascii;
 use text::text::Part;
 
@@ -69,14 +69,20 @@ fn put_lowered(units: &mut [u32], text: Wide) -> u32
 }
 
 // The units of a lowered name of wide text, if its base is ASCII, and whether it is.
-pub fn put_name(units: &mut [u32], text: Wide, suffix: &[u8]) -> bool
-    requires { length (name_units (base true text.bytes.now) suffix.now) ≤ length units.old }
-    ensures { result ≡ true → Wrote units.old (name_units (base true text.entry.bytes.now) suffix.now) units.new
-        (length (name_units (base true text.entry.bytes.now) suffix.now)) }
+// Kept: no `Option<Numbers<'a>>` over `units: &'a mut [u32]`: a `&mut` that may have gone into the result has no value after the call (so says the check of
+// `units.new` in its contract), so nothing would be promised of the array, as here that nothing behind the units changes.
+pub fn put_name(units: &mut [u32], name: WideName) -> bool
+    requires { length (name_units (base true name.text.bytes.now) name.suffix.now) ≤ length units.old }
+    ensures { result ≡ true → Wrote units.old (name_units (base true name.entry.text.bytes.now) name.entry.suffix.now) units.new
+        (length (name_units (base true name.entry.text.bytes.now) name.entry.suffix.now)) }
 {
-    if 0x7F < put_lowered(units, text) {
+    if 0x7F < put_lowered(units, name.text) {
         return false;
     }
-    put_each(&mut units[text.count()..], suffix, |b| u32::from(b));
+    put_each(
+        &mut units[name.text.count()..],
+        name.suffix,
+        |b| u32::from(b),
+    );
     true
 }

@@ -15,7 +15,7 @@ ghost use Rattle.ids.specs.Id.{id_of};
 
 use super::ascii::{is_tried, put_name};
 use super::short::{Narrow, Numbers, Units, array_hash, one_hash, short_hash};
-use super::wide::{Wide, put_unit, put_wide};
+use super::wide::{Wide, WideName, put_unit, put_wide};
 use base::number::le64;
 use city::city::{State, city_hash64};
 use rules::latin::lower_byte;
@@ -28,6 +28,15 @@ pub struct Name<'a> {
     pub text: Text<'a>,
     pub suffix: &'a [u8],
     ghost fits: { Bytes suffix.now },
+}
+
+impl<'a> Name<'a> {
+    // How many units it has, lowered.
+    pub fn count(self) -> usize
+        ensures { result ≡ length (name_units (base_in self.entry.text.part) self.entry.suffix.now) }
+    {
+        self.text.part.count() + self.suffix.len()
+    }
 }
 
 // A unit for each byte, in UTF-16LE.
@@ -100,8 +109,8 @@ pub fn put_units(out: &mut [u8], name: Name, from: usize, n: usize) -> usize
 }
 
 // The 64 bytes of the 32 units of a lowered name from a place on.
-// Kept: (b) `put_units(&mut chunk, name, from, 32)` in place of its two ways: the compiler keeps `put_mixed` apart only while it has two callers, and names
-// of 7 and 8 letters take a fifth more otherwise.
+// Kept: the two ways, where `put_units(&mut chunk, name, from, 32)` would do: the compiler keeps `put_mixed` apart only while it has two callers, and
+// names of 7 and 8 letters take a fifth more otherwise.
 fn chunk_at(name: Name, from: usize) -> [u8; 64]
     requires { from + 32 ≤ length (name_units (base_in name.text.part) name.suffix.now) }
     ensures { result ≡ unit_bytes (take 32 (drop from (name_units (base_in name.entry.text.part) name.entry.suffix.now))) }
@@ -127,10 +136,11 @@ fn first_word(name: Name) -> u64
 }
 
 // CityHash64 of a lowered name of more than 32 units.
-fn long_hash(name: Name, n: usize) -> u64
-    requires { (n ≡ length (name_units (base_in name.text.part) name.suffix.now)) × (32 < n) × (n < 2 ^ 33) }
+fn long_hash(name: Name) -> u64
+    requires { (32 < length (name_units (base_in name.text.part) name.suffix.now)) × (length (name_units (base_in name.text.part) name.suffix.now) < 2 ^ 33) }
     ensures { result ≡ city_hash64 (unit_bytes (name_units (base_in name.entry.text.part) name.entry.suffix.now)) }
 {
+    let n = name.count();
     let last = chunk_at(name, n - 32);
     let first = first_word(name);
     let mut t = State::first_state(2 * (n as u64), &last, first);
@@ -180,35 +190,32 @@ fn narrow_hash(name: Narrow) -> u64
 }
 
 // CityHash64 of a lowered name of wide text that has up to 32 units, by its bytes.
-fn chunk_hash(text: Wide, suffix: &[u8], n: usize) -> u64
-    requires { (n ≡ length (name_units (base true text.bytes.now) suffix.now)) × (n ≤ 32) }
-    ensures { result ≡ city_hash64 (unit_bytes (name_units (base true text.entry.bytes.now) suffix.now)) }
+fn chunk_hash(name: WideName) -> u64
+    requires { length (name_units (base true name.text.bytes.now) name.suffix.now) ≤ 32 }
+    ensures { result ≡ city_hash64 (unit_bytes (name_units (base true name.entry.text.bytes.now) name.entry.suffix.now)) }
 {
     let mut chunk = [0u8; 64];
-    let size = put_units(
-        &mut chunk,
-        Name {
-            text: text.text(),
-            suffix,
-        },
-        0,
-        n,
-    );
+    let all = Name {
+        text: Text::from(name.text),
+        suffix: name.suffix,
+    };
+    let size = put_units(&mut chunk, all, 0, all.count());
     city_hash64(&chunk[..size])
 }
 
 // The same, by words where it is short and ASCII.
-fn wide_hash(text: Wide, suffix: &[u8], n: usize) -> u64
-    requires { (n ≡ length (name_units (base true text.bytes.now) suffix.now)) × (n ≤ 32) }
-    ensures { result ≡ city_hash64 (unit_bytes (name_units (base true text.entry.bytes.now) suffix.now)) }
+fn wide_hash(name: WideName) -> u64
+    requires { length (name_units (base true name.text.bytes.now) name.suffix.now) ≤ 32 }
+    ensures { result ≡ city_hash64 (unit_bytes (name_units (base true name.entry.text.bytes.now) name.entry.suffix.now)) }
 {
-    if is_tried(text.bytes, n) {
+    let n = name.count();
+    if is_tried(name.text.bytes, n) {
         let mut units = [0u32; 16];
-        if put_name(&mut units, text, suffix) {
+        if put_name(&mut units, name) {
             return array_hash(Numbers { units: &units[..n] });
         }
     }
-    chunk_hash(text, suffix, n)
+    chunk_hash(name)
 }
 
 // CityHash64 of a lowered name. One-byte text with a number is put as a whole up to 64 units: `long_hash` would put its end twice.
@@ -217,21 +224,24 @@ fn units_hash(name: Name) -> u64
     ensures { result ≡ city_hash64 (unit_bytes (name_units (base_in name.entry.text.part) name.entry.suffix.now)) }
 {
     let part = name.text.part;
-    let n = part.count() + name.suffix.len();
+    let n = name.count();
     let narrow = Narrow {
         base: part.bytes,
         suffix: name.suffix,
     };
     if n <= 32 {
         if part.wide {
-            return wide_hash(Wide { bytes: part.bytes }, name.suffix, n);
+            return wide_hash(WideName {
+                text: Wide { bytes: part.bytes },
+                suffix: name.suffix,
+            });
         }
         return narrow_hash(narrow);
     }
     if !part.wide && n <= 64 && part.bytes.len() < n {
         return whole_hash::<128>(narrow);
     }
-    long_hash(name, n)
+    long_hash(name)
 }
 
 // The id of a name. One letter is hashed before anything is laid out for more.

@@ -1,5 +1,5 @@
 // A text as the units of its lowered text.
-ghost use Rattle.std.specs.Prelude.{◌≡◌, cond, Some, None, ◌∷◌, ◌<◌, length, get_or};
+ghost use Rattle.std.specs.Prelude.{◌≡◌, cond, Some, None, ◌<◌, length, get_or};
 ghost use Rattle.lower.specs.Lower.{lowered};
 ghost use Rattle.rules.specs.Quick.{asks};
 ghost use Rattle.text.specs.Utf16.{encode16};
@@ -11,7 +11,7 @@ ghost use Rattle.ids.specs.LoweredUnits.{lowered_unit};
 use lower::ascii::lower_ascii;
 use lower::search::lower_in;
 use rules::rules::{lower_pair, lower_quick};
-use text::text::{Part, Text};
+use text::text::Text;
 
 // A trailing surrogate lowered, with the leading one before it.
 fn lower_trailing(before: u32, u: u32) -> u32
@@ -22,39 +22,8 @@ fn lower_trailing(before: u32, u: u32) -> u32
     0xDC00 + (lower_pair(c) - 0x1_0000) % 0x400
 }
 
-// A unit lowered by the table, when the one before it is known.
-fn lower_by(before: u32, u: u32) -> u32
-    requires { (u < 65536) × (Low u → High before) }
-    ensures { (result ≡ lowered_unit before u) × (result < 65536) }
-{
-    match u {
-        0xD800..=0xDBFF => u,
-        0xDC00..=0xDFFF => lower_trailing(before, u),
-        _ => lower_in(u),
-    }
-}
-
-// The unit before unit i of a part; 0 before the first.
-fn unit_before(part: Part, i: usize) -> u32
-    requires { i < length (units_in part) }
-    ensures { result ≡ get_or (0 ∷ units_in part.entry) i 0 }
-{
-    if i == 0 {
-        return 0;
-    }
-    part.unit(i - 1)
-}
-
-// Unit i of a lowered text, by the table.
-pub fn lowered_unit(text: Text, i: usize) -> u32
-    requires { i < length (units_in text.part) }
-    ensures { (result ≡ get_or (encode16 (lowered (base_in text.entry.part))) i 0) × (result < 65536) }
-{
-    let u = text.part.unit(i);
-    lower_by(unit_before(text.part, i), u)
-}
-
-// Unit i of a lowered text, by the rules; none where the table is to be asked. Most units of most names are ASCII, which is asked first.
+// Unit i of a lowered text, by the rules; none where the table is to be asked. Most units of most names are ASCII, which is asked first. A
+// trailing surrogate is never the first unit.
 pub fn quick_unit(text: Text, i: usize) -> Option<u32>
     requires { i < length (units_in text.part) }
     ensures { result ≡ cond (asks (get_or (units_in text.entry.part) i 0)) None
@@ -66,7 +35,18 @@ pub fn quick_unit(text: Text, i: usize) -> Option<u32>
     }
     match u {
         0xD800..=0xDBFF => Some(u),
-        0xDC00..=0xDFFF => Some(lower_trailing(unit_before(text.part, i), u)),
+        0xDC00..=0xDFFF => Some(lower_trailing(text.part.unit(i - 1), u)),
         _ => lower_quick(u),
     }
+}
+
+// The same, by the table where the rules have none.
+pub fn lowered_unit(text: Text, i: usize) -> u32
+    requires { i < length (units_in text.part) }
+    ensures { (result ≡ get_or (encode16 (lowered (base_in text.entry.part))) i 0) × (result < 65536) }
+{
+    if let Some(u) = quick_unit(text, i) {
+        return u;
+    }
+    lower_in(text.part.unit(i))
 }

@@ -1,14 +1,16 @@
 // Scripts whose units are lowered with no branch, so that the compiler can take many units a turn. What units are of is told by what is gathered of
 // them while they are lowered.
-ghost use Rattle.std.specs.Prelude.{◌≡◌, List, [], ◌∷◌, ◌++◌, ℕ};
+ghost use Rattle.std.specs.Prelude.{◌≡◌, Bool, List, [], ◌∷◌, ◌++◌, ℕ};
 ghost use Rattle.lower.specs.Ascii.{lower_ascii};
 ghost use Rattle.rules.specs.Caseless.{caseless};
-ghost use Rattle.rules.specs.Scripts.{is_latin, lower_latin, is_greek, lower_greek};
+ghost use Rattle.rules.specs.Scripts.{is_latin, lower_latin, is_greek, lower_greek, LowersBy};
+ghost use Rattle.rules.specs.ScriptLaws.{latin-script, greek_script, caseless-script};
 ghost use Rattle.ids.specs.LoweredUnits.{all_are, bits_from};
 
 use lower::ascii::lower_ascii;
 use rules::caseless::is_caseless;
 use rules::scripts::{is_greek, is_latin, lower_greek_unit, lower_latin_unit};
+use std::marker::PhantomData;
 
 // What is gathered of units while they are lowered as those of a script.
 pub trait Script: Copy {
@@ -27,6 +29,14 @@ pub trait Script: Copy {
     // A unit lowered.
     fn lower(u: u16) -> u16
         ensures { result ≡ lowered u };
+}
+
+// A unit with A to Z lowered.
+fn lower_ascii_unit(u: u16) -> u16
+    ensures { result ≡ lower_ascii u }
+{
+    let v = lower_ascii(u32::from(u));
+    v as u16
 }
 
 // All bits of units together, which tell what they look like. A to Z are lowered.
@@ -51,30 +61,71 @@ impl Script for Bits {
     }
 
     fn lower(u: u16) -> u16 {
-        let v = lower_ascii(u32::from(u));
-        v as u16
+        lower_ascii_unit(u)
     }
 }
 
-// Whether units are of Latin.
-#[derive(Clone, Copy)]
-pub struct Latin {
-    pub all: bool,
+// A script that a test tells: lowering is right where it holds.
+pub trait Test: Copy {
+    ghost tests: { ℕ → Bool };
+
+    ghost lowered: { ℕ → ℕ };
+
+    // Whether a unit is of it.
+    fn is(u: u16) -> bool
+        ensures { result ≡ tests u };
+
+    // A unit of it lowered.
+    fn lower(u: u16) -> u16
+        ensures { result ≡ lowered u };
+
+    ghost right: { LowersBy tests lowered };
 }
 
-impl Script for Latin {
+// Whether units are all of a script.
+#[derive(Clone, Copy)]
+pub struct All<T: Test> {
+    pub all: bool,
+    of: PhantomData<T>,
+}
+
+impl<T: Test> Script for All<T> {
+    ghost lowered = { T.lowered };
+
+    ghost gathered = { λ us. record { all = all_are T.tests us; of = record {} } };
+
+    fn none() -> All<T> {
+        All {
+            all: true,
+            of: PhantomData,
+        }
+    }
+
+    fn with(self, u: u16) -> All<T> {
+        All {
+            all: self.all & T::is(u),
+            of: PhantomData,
+        }
+    }
+
+    fn lower(u: u16) -> u16 {
+        T::lower(u)
+    }
+}
+
+// Latin.
+#[derive(Clone, Copy)]
+pub struct Latin;
+
+impl Test for Latin {
+    ghost tests = { is_latin };
+
     ghost lowered = { lower_latin };
 
-    ghost gathered = { λ us. record { all = all_are is_latin us } };
+    ghost right = { latin-script };
 
-    fn none() -> Latin {
-        Latin { all: true }
-    }
-
-    fn with(self, u: u16) -> Latin {
-        Latin {
-            all: self.all & is_latin(u),
-        }
+    fn is(u: u16) -> bool {
+        is_latin(u)
     }
 
     fn lower(u: u16) -> u16 {
@@ -82,25 +133,19 @@ impl Script for Latin {
     }
 }
 
-// The same of Greek or Cyrillic.
+// Greek or Cyrillic.
 #[derive(Clone, Copy)]
-pub struct Greek {
-    pub all: bool,
-}
+pub struct Greek;
 
-impl Script for Greek {
+impl Test for Greek {
+    ghost tests = { is_greek };
+
     ghost lowered = { lower_greek };
 
-    ghost gathered = { λ us. record { all = all_are is_greek us } };
+    ghost right = { greek_script };
 
-    fn none() -> Greek {
-        Greek { all: true }
-    }
-
-    fn with(self, u: u16) -> Greek {
-        Greek {
-            all: self.all & is_greek(u),
-        }
+    fn is(u: u16) -> bool {
+        is_greek(u)
     }
 
     fn lower(u: u16) -> u16 {
@@ -108,29 +153,22 @@ impl Script for Greek {
     }
 }
 
-// Whether A to Z is all there is to lower.
+// What has no letter to lower but A to Z.
 #[derive(Clone, Copy)]
-pub struct Caseless {
-    pub all: bool,
-}
+pub struct Caseless;
 
-impl Script for Caseless {
+impl Test for Caseless {
+    ghost tests = { caseless };
+
     ghost lowered = { lower_ascii };
 
-    ghost gathered = { λ us. record { all = all_are caseless us } };
+    ghost right = { caseless-script };
 
-    fn none() -> Caseless {
-        Caseless { all: true }
-    }
-
-    fn with(self, u: u16) -> Caseless {
-        Caseless {
-            all: self.all & is_caseless(u32::from(u)),
-        }
+    fn is(u: u16) -> bool {
+        is_caseless(u32::from(u))
     }
 
     fn lower(u: u16) -> u16 {
-        let v = lower_ascii(u32::from(u));
-        v as u16
+        lower_ascii_unit(u)
     }
 }

@@ -14,6 +14,7 @@ use lower::ascii::lower_ascii;
 use rules::latin::{lower_byte, lower_latin};
 
 // Units that are read one by one.
+// Kept: they are u32, as `Part::unit` gives them: they are compared with scalar values and added in words, so as u16 each use would say `u32::from(u)`.
 pub trait Units: Copy {
     ghost units: { Self → List ℕ };
 
@@ -36,6 +37,7 @@ pub struct Narrow<'a> {
 }
 
 // The lower-case form of a character of Latin-1: ASCII first, which most are.
+// Kept: not `u32::from(lower_byte(b))` in its place: names of two to eight letters took 6 to 10 % longer.
 fn lower_latin1(c: u32) -> u32
     requires { c < 0x100 }
     ensures { result ≡ lower c }

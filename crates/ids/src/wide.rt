@@ -9,9 +9,10 @@ ghost use Rattle.base.specs.Output.{Wrote};
 ghost use Rattle.text.specs.Utf16.{is_well, encode16, unit_bytes};
 ghost use Rattle.text.specs.Name.{decoded, base};
 ghost use Rattle.text.specs.Units.{units_of};
+ghost use Rattle.ids.specs.LoweredUnits.{name_units};
 
 use super::lowered::{lowered_unit, quick_unit};
-use super::script::{Bits, Caseless, Greek, Latin, Script};
+use super::script::{All, Bits, Caseless, Greek, Latin, Script, Test};
 use text::text::{Part, Text};
 
 // Wide text whose surrogates pair.
@@ -22,24 +23,26 @@ pub struct Wide<'a> {
     ghost well: { is_well (decoded true bytes.now) ≡ true },
 }
 
-impl<'a> Wide<'a> {
-    // The same as a text of either width.
-    pub fn text(self) -> Text<'a>
-        ensures { (result.part.wide ≡ true) × (result.part.bytes ≡ self.entry.bytes) }
-    {
+// The same as a text of either width.
+impl<'a> From<Wide<'a>> for Text<'a> {
+    ghost from_gives = { λ wide text. (text.part.wide ≡ true) × (text.part.bytes ≡ wide.bytes) };
+
+    fn from(wide: Wide<'a>) -> Text<'a> {
         Text {
             part: Part {
-                bytes: self.bytes,
+                bytes: wide.bytes,
                 wide: true,
             },
         }
     }
+}
 
+impl<'a> Wide<'a> {
     // How many units it has.
     pub fn count(self) -> usize
         ensures { result ≡ length (units_of true self.entry.bytes.now) }
     {
-        self.text().part.count()
+        Text::from(self).part.count()
     }
 
     // Unit i.
@@ -47,7 +50,25 @@ impl<'a> Wide<'a> {
         requires { i < length (units_of true self.bytes.now) }
         ensures { (result ≡ get_or (units_of true self.entry.bytes.now) i 0) × (result < 65536) }
     {
-        self.text().part.unit(i)
+        Text::from(self).part.unit(i)
+    }
+}
+
+// Kept: apart from `Name`: of a `Name<T>` over the text's type `count` would stand in an `impl` for each type, as it does now.
+// A name of wide text: the text of its base, and its suffix as it stands.
+#[derive(Clone, Copy)]
+pub struct WideName<'a> {
+    pub text: Wide<'a>,
+    pub suffix: &'a [u8],
+    ghost fits: { Bytes suffix.now },
+}
+
+impl<'a> WideName<'a> {
+    // How many units it has, lowered.
+    pub fn count(self) -> usize
+        ensures { result ≡ length (name_units (base true self.entry.text.bytes.now) self.entry.suffix.now) }
+    {
+        self.text.count() + self.suffix.len()
     }
 }
 
@@ -60,6 +81,9 @@ pub fn put_unit(out: &mut [u8], i: usize, u: u16)
     out[2 * i] = low;
     out[2 * i + 1] = high;
 }
+
+// Kept: text or name, from and n are three parameters, here and in id.rt, and that so many units are there is a `requires`: a struct of the three would be
+// made anew wherever a part of the units goes on, as `put_singly(out, Run { from: r.from + k, n: r.n - k, ..r })`.
 
 // The n units of wide text from a place on lowered as those of a script, and what is gathered of them. The loop runs to the end whatever it meets, so
 // that the compiler can take many units a turn.
@@ -85,7 +109,7 @@ fn put_ruled(out: &mut [u8], text: Wide, from: usize, n: usize) -> usize
         × ((result ≡ n) ⊎ (asks (get_or (units_of true text.entry.bytes.now) (from + result) 0) ≡ true)) }
 {
     for i in 0..n {
-        let Some(u) = quick_unit(text.text(), from + i) else {
+        let Some(u) = quick_unit(Text::from(text), from + i) else {
             return i;
         };
         put_unit(out, i, u as u16);
@@ -93,20 +117,23 @@ fn put_ruled(out: &mut [u8], text: Wide, from: usize, n: usize) -> usize
     n
 }
 
-// The same by the table, all n of them.
-// Kept: (d) one loop over a closure that answers an Option would make this one unwrap what is never None: `put_by(out, text, from, n, |i| Some(..))`.
+// The same by the rules or the table, all n of them.
+// Kept: two loops: with this one alone, for all that `put_singly` puts, units that the rules know took 5 to 10 % longer (names of 7 units and of full-width
+// letters).
 fn put_lowered(out: &mut [u8], text: Wide, from: usize, n: usize)
     requires { (n ≤ length (units_of true text.bytes.now) - from) × (2 * n ≤ length out.old) }
     ensures { Wrote out.old (unit_bytes (take n (drop from (encode16 (lowered (base true text.entry.bytes.now))))))
         out.new (2 * n) }
 {
     for i in 0..n {
-        let u = lowered_unit(text.text(), from + i);
+        let u = lowered_unit(Text::from(text), from + i);
         put_unit(out, i, u as u16);
     }
 }
 
-// The n units of lowered wide text from a place on by the rules, and from the first unit on for which the table is to be asked, by the table.
+// The n units of lowered wide text from a place on: by the rules alone up to the first for which the table is to be asked, and from there on with the table.
+// Kept: this and `put_wide` are alike but for the two functions that they call. One function over two closures would say in its contract what each closure
+// does to every buffer, from every place on, and that what the first leaves behind its units is written over: that contract is longer than both bodies.
 fn put_singly(out: &mut [u8], text: Wide, from: usize, n: usize)
     requires { (n ≤ length (units_of true text.bytes.now) - from) × (from + n < 2 ^ 64)
         × (2 * n ≤ length out.old) }
@@ -165,6 +192,19 @@ fn tried(out: &mut [u8], text: Wide, from: usize, n: usize) -> Guess
     guessed(put_script::<Bits>(out, text, from, n).bits)
 }
 
+// How many of the n units of lowered wide text from a place on were put as those of a script: all of them where they are of it, or none.
+fn put_whole<T: Test>(out: &mut [u8], text: Wide, from: usize, n: usize) -> usize
+    requires { (n ≤ length (units_of true text.bytes.now) - from) × (from + n < 2 ^ 64) × (2 * n ≤ length out.old) }
+    ensures { (result ≤ n) × (take (2 * result) out.new ≡ unit_bytes (take result (drop from (encode16 (lowered (base true text.entry.bytes.now))))))
+        × Wrote out.old (take (2 * n) out.new) out.new (2 * n) }
+{
+    if put_script::<All<T>>(out, text, from, n).all {
+        n
+    } else {
+        0
+    }
+}
+
 // How many of the n units of lowered wide text from a place on were put many a turn: all of them, by script all but the last up to seven, or none.
 // What a try left behind them is to be written over.
 fn put_turns(out: &mut [u8], text: Wide, from: usize, n: usize) -> usize
@@ -176,21 +216,9 @@ fn put_turns(out: &mut [u8], text: Wide, from: usize, n: usize) -> usize
     let m = n - n % 8;
     match tried(out, text, from, n) {
         Guess::Ascii => n,
-        Guess::Latin => if put_script::<Latin>(out, text, from, m).all {
-            m
-        } else {
-            0
-        },
-        Guess::Greek => if put_script::<Greek>(out, text, from, m).all {
-            m
-        } else {
-            0
-        },
-        Guess::Other => if put_script::<Caseless>(out, text, from, n).all {
-            n
-        } else {
-            0
-        },
+        Guess::Latin => put_whole::<Latin>(out, text, from, m),
+        Guess::Greek => put_whole::<Greek>(out, text, from, m),
+        Guess::Other => put_whole::<Caseless>(out, text, from, n),
     }
 }
 

@@ -1,6 +1,6 @@
 -- Length and count fields are right: those of the report, of each package's name, of each row and of each text in it, as they stand in the
 -- bytes of every accepted report (document 01, "Report": "4-byte length of the rest", "Text: 4-byte length, UTF-8").
-use Rattle.std.specs.Prelude.{◌≡◌, Bool, true, false, ℕ, ◌+◌, ◌^◌, ◌≤◌, ◌<◌, take, drop}
+use Rattle.std.specs.Prelude.{◌≡◌, Bool, true, false, ℕ, ◌^◌, ◌≤◌, ◌<◌, take, drop}
 use Rattle.std.proofs.Common.{sym, ◌∙◌, ap, mod-eq_of_lt, arith, take_at, drop_at}
 use mathlib.Core.List.{List, [], ◌∷◌, ◌++◌, append_assoc, append-nil, Memᴰ}
 use Rattle.std.proofs.Math.Option.{Option}

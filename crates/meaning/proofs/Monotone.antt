@@ -7,7 +7,7 @@ use Rattle.std.proofs.Common.{sym, ◌∙◌}
 use Rattle.std.proofs.Math.Path.{ap}
 use mathlib.Core.List.{List, []}
 use Rattle.base.specs.Reading.{gives}
-use Rattle.scriptblock.specs.Script.{Objects, script}
+use Rattle.scriptblock.specs.Script.{Objects}
 use Rattle.scriptblock.specs.ScriptGood.{Good}
 use Rattle.scriptblock.proofs.ScriptGood.{script-good}
 use Rattle.zen.specs.declared.tables.Export.{Export}

@@ -3,7 +3,6 @@
 use Rattle.std.specs.Prelude.{Bool}
 use Rattle.std.proofs.Math.Bool.{true, false}
 use Rattle.std.proofs.Math.Option.{Option, none, some}
-use Prim.Native.Nat.{◌-◌}
 use Rattle.text.specs.Affix.{ends_with}
 use Rattle.base.specs.Find.{option}
 use Rattle.meaning.specs.Path.{Path}

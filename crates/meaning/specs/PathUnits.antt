@@ -1,6 +1,6 @@
 -- The units that a path's hash is of (document 02, Q-2), name by name: each separator is `/`, a name's base is slashed and lowered, and its number
 -- stands as it is; slashing is unit by unit. So the hash says nothing of separators, and a path's units can be made without its text.
-use Rattle.std.specs.Prelude.{List, [], ◌∷◌, ℕ, zero, suc, ◌-◌}
+use Rattle.std.specs.Prelude.{List, [], ◌∷◌, ℕ, zero, suc}
 use Rattle.text.specs.Utf16.{encode16}
 use Rattle.lower.specs.Lower.{lowered}
 use Rattle.meaning.specs.Verify.{slashed}

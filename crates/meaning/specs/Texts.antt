@@ -1,6 +1,5 @@
 -- Every text of a report is one of the Unicode Standard (demand 2): a list of scalar values, so that its bytes are UTF-8 and say it again.
 use mathlib.Core.List.{List, Memᴰ}
-use Prim.Native.Nat.{◌-◌}
 use Rattle.base.specs.Perm.{All}
 use Rattle.text.specs.Utf16.{Scalars}
 use Rattle.scriptblock.specs.Script.{Objects}

@@ -84,6 +84,10 @@ outer_number Missing = 0
 outer_number Nothing = 1
 outer_number (OuterObject i) = suc (suc i)
 
+-- the columns that stand from a place on
+abbrev pub columns_at : List ℕ → ℕ → Object
+columns_at w at = record { outer = le_at 4 w at; start = le_at 4 w (at + 4); size = le_at 4 w (at + 8); number = le_at 4 w (at + 12) }
+
 -- object i by its columns
 unfoldable pub object_no : List ℕ → Objects → ℕ → Object
 object_no b o i = record {

@@ -10,7 +10,7 @@ ghost use Rattle.objects.specs.Work.{ObjectsIn, Linked, place_of, Stands};
 ghost use Rattle.objects.specs.Told.{told, path_bytes, Written, Roomy};
 ghost use Rattle.objects.specs.PutLaws.{OuterRead, TwoRoom};
 
-use super::object::{Object, Outer, object_at, place_of};
+use super::object::{Object, Outer, name_of, object_at};
 use batch::texts::put_place;
 use table::entries::record_at;
 use table::words::get32;
@@ -22,6 +22,7 @@ pub struct Path {
     pub objects: usize,
 }
 
+// Kept: the limit is a usize, and that it is below 2^32 a `requires`: as a u32 it would be cast for each count, as `objects: depth as usize + 1`.
 // The path of object i, of at most `limit` objects, measured; None where it is unknown.
 pub fn path_len(w: &[u8], i: usize, limit: usize) -> Option<Path>
     requires { Linked w.now × (48 * i < length w.now) × (limit < 2 ^ 32) }
@@ -55,7 +56,7 @@ fn put_name(out: &mut [u8], b: &[u8], u: Object) -> usize
     requires { Holds b.now (place_of u) (text_at b.now (place_of u)) × (length (utf8 (name_at b.now (place_of u) u.number)) ≤ length out.old) }
     ensures { Wrote out.old (utf8 (name_at b.now (place_of u) u.number)) out.new result }
 {
-    put_place(out, b, place_of(u), u.number)
+    put_place(out, b, name_of(u))
 }
 
 // What stands before a name behind so many others.

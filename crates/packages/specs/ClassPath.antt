@@ -15,7 +15,7 @@ use Rattle.packages.specs.Package.{read_in, PackageIn}
 use Rattle.packages.specs.PackageLaws.{export-named, home-named, name-holds}
 use Rattle.packages.specs.Row.{export_no, is_local, name_in, home_in, row_in, base_at, whole_at}
 use Rattle.packages.specs.RowLaws.{outer-some, outer-none}
-use Rattle.packages.specs.declared.names.Name.{Name}
+use Rattle.batch.specs.declared.places.Name.{Name}
 use Rattle.packages.specs.declared.package.Parts.{Parts}
 use Rattle.packages.specs.declared.rows.Candidate.{Candidate}
 use Rattle.packages.specs.declared.rows.Row.{Row}

@@ -1,6 +1,7 @@
 -- The kinds of candidates and of class references by their numbers in a report (document 01: "kind 1", "kind 2"; "class kinds 0 to 7: script found,
 -- script unresolved, import found, import unresolved, export found, export unresolved, null, bad"). Assumes nothing.
-use Rattle.std.specs.Prelude.{◌≡◌, refl, eqb, Bool, true, false, ℕ, Option, Some, None}
+use Rattle.std.specs.Prelude.{◌≡◌, refl, cond, eqb, Bool, true, false, ℕ, zero, suc, ◌≤◌, Option, Some, None}
+use Rattle.std.proofs.Common.{arith}
 use Rattle.packages.specs.declared.package.ClassKind.{ClassKind}
 use Rattle.packages.specs.declared.package.ClassKind.TheVariants.{Script, Import, Export, Null, Bad}
 use Rattle.packages.specs.declared.rows.Candidate.{Candidate}
@@ -11,6 +12,10 @@ abbrev pub candidate_number : Option Candidate → ℕ
 candidate_number None = 0
 candidate_number (Some Variable) = 1
 candidate_number (Some Subobject) = 2
+
+-- the kind with a number, none for any other
+abbrev pub candidate_of : ℕ → Option Candidate
+candidate_of n = cond (eqb n 1) (Some Variable) (cond (eqb n 2) (Some Subobject) None)
 
 -- a class kind, where it is found
 abbrev pub class_code : ClassKind → ℕ
@@ -31,3 +36,10 @@ pub variable-is : (k : Option Candidate) → is_variable k ≡ eqb (candidate_nu
 variable-is None = refl
 variable-is (Some Variable) = refl
 variable-is (Some Subobject) = refl
+
+-- a kind is that of its number
+pub number-of : (n : ℕ) → n ≤ 2 → candidate_number (candidate_of n) ≡ n
+number-of zero l = refl
+number-of (suc zero) l = refl
+number-of (suc (suc zero)) l = refl
+number-of (suc (suc (suc n))) l = absurd (omega (arith, l))

@@ -15,7 +15,7 @@ use Rattle.zen.specs.declared.tables.Export.{Export}
 use Rattle.meaning.specs.Scan.{outer_of, gen_variable}
 use Rattle.packages.specs.Kinds.{is_variable}
 use Rattle.packages.specs.Package.{read_in}
-use Rattle.packages.specs.declared.names.Name.{Name}
+use Rattle.batch.specs.declared.places.Name.{Name}
 use Rattle.packages.specs.declared.package.Parts.{Parts}
 use Rattle.packages.specs.declared.rows.Candidate.{Candidate}
 use Rattle.packages.specs.declared.rows.Candidate.TheVariants.{Variable}

@@ -31,7 +31,7 @@ use Rattle.packages.specs.PackageLaws.{export_count_lem, export-named, name-hold
 use Rattle.packages.specs.MeaningLaws.{get-there, get_none}
 use Rattle.packages.specs.Row.{export_no, is_local, row_with, row_in, base_at, whole_at, instance_base, instance_at, shorter, instance_place, names_at, RowHolds}
 use Rattle.packages.specs.declared.package.Parts.{Parts}
-use Rattle.packages.specs.declared.names.Name.{Name}
+use Rattle.batch.specs.declared.places.Name.{Name}
 use Rattle.packages.specs.declared.rows.Candidate.{Candidate}
 use Rattle.packages.specs.declared.rows.Candidate.TheVariants.{Variable, Subobject}
 use Rattle.packages.specs.declared.rows.Row.{Row}

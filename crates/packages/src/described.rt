@@ -4,11 +4,14 @@ ghost use Rattle.batch.specs.Places.{place_at};
 ghost use Rattle.packages.specs.Row.{home_in, row_in, outer_start};
 
 use super::block::Block;
-use super::names::Name;
 use super::rows::Row;
 use batch::names::read_head;
-use batch::places::Place;
+use batch::places::{Name, Place};
 use batch::reader::u30_le;
+
+// Kept: `row_from` and `home_from` beside `row` and `home`: over closures that find a name they would be
+// `row_by(i, kind, |e| self.name_of(e), |u| self.name_of(u))` and `row_by(i, None, |e| named(e, own), |u| named(u, outer))`, and the contract of one would
+// speak of both closures.
 
 impl<'a> Block<'a> {
     // Where name i is, whose start is known.
@@ -33,14 +36,15 @@ impl<'a> Block<'a> {
             place: self.place_from(e.index, own),
             number: e.number,
         };
-        let above = if self.parts.is_local(e.outer) {
-            let u = self.export(e.outer as usize);
-            Some(Name {
-                place: self.place_from(u.index, outer),
-                number: u.number,
-            })
-        } else {
-            None
+        let above = match self.parts.local(e.outer) {
+            Some(k) => {
+                let u = self.export(k);
+                Some(Name {
+                    place: self.place_from(u.index, outer),
+                    number: u.number,
+                })
+            }
+            None => None,
         };
         Row {
             kind: None,

@@ -3,27 +3,24 @@ ghost use Rattle.std.specs.Prelude.{◌≡◌, [], ◌+◌, ◌*◌, ◌<◌, ge
 ghost use Rattle.base.specs.Index.{import_name, import_hash};
 ghost use Rattle.ids.specs.Id.{id_of};
 ghost use Rattle.batch.specs.Holds.{Holds};
-ghost use Rattle.batch.specs.Notes.{Noted};
 ghost use Rattle.batch.specs.Places.{place_at};
 ghost use Rattle.zen.specs.Zen.{no_export, imported_name};
 ghost use Rattle.meaning.specs.Reference.{ref_in};
 ghost use Rattle.packages.specs.Package.{read_in, package_in};
-ghost use Rattle.packages.specs.Row.{home_in};
+ghost use Rattle.packages.specs.Row.{home_in, name_in};
 ghost use Rattle.packages.specs.Meaning.{keyed, words_of};
 
-use super::block::Block;
-use super::names::Name;
+use super::block::{Block, Package};
 use super::package::ClassKind;
 use base::index::{import_hash, import_name};
-use batch::notes::{NOTES, place_at};
-use batch::places::Place;
+use batch::places::{Name, Place};
 use batch::reader::u30_le;
 use zen::id::place_id;
 use zen::tables::Export;
 
 // What an index means: where hi is not 0, the class with the key (lo, hi); else the script object with index lo, where lo is not 0; else
 // nothing.
-// Kept: two numbers, as they stand in the work buffer.
+// Kept: two numbers, as the work buffer has them: an enum made here would be taken apart by `put_words` and `describe`, and made again by `words_at`.
 #[derive(Clone, Copy)]
 pub struct Words {
     pub lo: u64,
@@ -41,6 +38,8 @@ fn keyed(id: u64, hash: u64) -> Words
 }
 
 impl<'a> Block<'a> {
+    // Kept: a package and the number of an export come apart, and that it is one of its exports is a `requires`, here and above: as a place in a slice.
+
     // Export i.
     pub fn export(&self, i: usize) -> Export
         requires { i < self.now.parts.count }
@@ -64,60 +63,73 @@ impl<'a> Block<'a> {
     {
         base::number::le32(self.bytes, self.parts.imported.end + 4 * i)
     }
+}
 
+impl<'a> Package<'a> {
     // Where name i is.
-    pub fn name(&self, names: &[u32; NOTES], i: usize) -> Place
-        requires { Noted self.now.bytes.now self.now.parts.names names.now × (i < self.now.parts.names.count) }
-        ensures { (result ≡ place_at self.now.bytes.now self.now.parts.names i)
-            × Holds self.now.bytes.now result (get_or (read_in self.now.bytes.now).names i []) }
+    pub fn name(&self, i: usize) -> Place
+        requires { i < self.now.block.parts.names.count }
+        ensures { (result ≡ place_at self.now.block.bytes.now self.now.block.parts.names i)
+            × Holds self.now.block.bytes.now result (get_or (read_in self.now.block.bytes.now).names i []) }
     {
-        place_at(self.bytes, self.parts.names, names, i)
+        self.names.place(i)
     }
 
-    // Where imported name i is.
-    pub fn imported(&self, imported: &[u32; NOTES], i: usize) -> Place
-        requires { Noted self.now.bytes.now self.now.parts.imported imported.now × (i < self.now.parts.imported.count) }
-        ensures { (result ≡ place_at self.now.bytes.now self.now.parts.imported i)
-            × Holds self.now.bytes.now result (get_or (read_in self.now.bytes.now).imported i []) }
+    // Imported name i.
+    pub fn imported_name(&self, i: usize) -> Name
+        requires { i < self.now.block.parts.imported.count }
+        ensures { (result.place ≡ place_at self.now.block.bytes.now self.now.block.parts.imported i)
+            × Holds self.now.block.bytes.now result.place (get_or (read_in self.now.block.bytes.now).imported i [])
+            × (result.number ≡ get_or (read_in self.now.block.bytes.now).numbers i 0) }
     {
-        place_at(self.bytes, self.parts.imported, imported, i)
+        Name {
+            place: self.imported.place(i),
+            number: self.block.imported_number(i),
+        }
+    }
+
+    // The name of an export.
+    pub fn name_of(&self, e: Export) -> Name
+        requires { e.index < self.now.block.parts.names.count }
+        ensures { (result ≡ name_in self.now.block.bytes.now self.now.block.parts e)
+            × Holds self.now.block.bytes.now result.place (get_or (read_in self.now.block.bytes.now).names e.index []) }
+    {
+        Name {
+            place: self.name(e.index),
+            number: e.number,
+        }
     }
 
     // The key that a package import means.
-    fn import_key(&self, imported: &[u32; NOTES], index: u64) -> Words
-        requires { Noted self.now.bytes.now self.now.parts.imported imported.now × (import_name index < self.now.parts.imported.count)
-            × (import_hash index < self.now.parts.publics) }
-        ensures { result ≡ keyed (id_of (imported_name (read_in self.now.bytes.now) (import_name index)))
-            (get_or (read_in self.now.bytes.now).hashes (import_hash index) 0) }
+    fn import_key(&self, index: u64) -> Words
+        requires { (import_name index < self.now.block.parts.imported.count) × (import_hash index < self.now.block.parts.publics) }
+        ensures { result ≡ keyed (id_of (imported_name (read_in self.now.block.bytes.now) (import_name index)))
+            (get_or (read_in self.now.block.bytes.now).hashes (import_hash index) 0) }
     {
         let i = import_name(index) as usize;
-        let place = self.imported(imported, i);
-        let id = place_id(self.bytes, place, self.imported_number(i));
-        keyed(id, self.hash(import_hash(index) as usize))
+        let id = place_id(self.block.bytes, self.imported_name(i));
+        keyed(id, self.block.hash(import_hash(index) as usize))
     }
 
     // What an index means in the package, whose id is `id`.
-    pub fn meaning(&self, imported: &[u32; NOTES], id: u64, index: u64) -> Words
-        requires { Noted self.now.bytes.now self.now.parts.imported imported.now }
-        ensures { result ≡ words_of (ref_in (package_in id self.now.bytes.now) index) }
+    pub fn meaning(&self, id: u64, index: u64) -> Words
+        ensures { result ≡ words_of (ref_in (package_in id self.now.block.bytes.now) index) }
     {
-        match self.parts.kind_of(index) {
+        match self.block.parts.kind_of(index) {
             ClassKind::Script => Words { lo: index, hi: 0 },
-            ClassKind::Export => keyed(id, self.export(index as usize).hash),
-            ClassKind::Import => self.import_key(imported, index),
+            ClassKind::Export => keyed(id, self.block.export(index as usize).hash),
+            ClassKind::Import => self.import_key(index),
             ClassKind::Null | ClassKind::Bad => Words { lo: 0, hi: 0 },
         }
     }
 
     // Where the package's name is, and its number.
-    pub fn home(&self, names: &[u32; NOTES]) -> Name
-        requires { Noted self.now.bytes.now self.now.parts.names names.now }
-        ensures { result ≡ home_in self.now.bytes.now self.now.parts }
+    pub fn home(&self) -> Name
+        ensures { result ≡ home_in self.now.block.bytes.now self.now.block.parts }
     {
-        let place = place_at(self.bytes, self.parts.names, names, u30_le(self.bytes, 8));
         Name {
-            place,
-            number: base::number::le32(self.bytes, 12),
+            place: self.names.place(u30_le(self.block.bytes, 8)),
+            number: base::number::le32(self.block.bytes, 12),
         }
     }
 }

@@ -17,6 +17,7 @@ pub struct Frame {
     pub count: usize,
 }
 
+// Kept: `be32(c, at) as usize` by a name, as in header: in base `be_size32` would stand beside `le_size32`, which is signed and answers an Option.
 fn size_at(c: &[u8], at: usize) -> usize
     requires { at + 4 ≤ length c.now }
     ensures { result ≡ be_at 4 c.now at }

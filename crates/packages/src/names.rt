@@ -6,24 +6,17 @@ ghost use Rattle.text.specs.Utf8.{utf8};
 ghost use Rattle.batch.specs.Holds.{Holds, text_at, name_at};
 
 use base::output::put_bytes;
-use batch::places::Place;
+use batch::places::Name;
 use batch::texts::put_place;
 use text::digits::put_decimal;
 
-// Where a name's text is, and its number.
-#[derive(Clone, Copy)]
-pub struct Name {
-    pub place: Place,
-    pub number: u32,
-}
-
 // A text, and the name at a place behind it.
-pub fn put_behind(out: &mut [u8], text: &[u8], b: &[u8], place: Place, number: u32) -> usize
-    requires { Holds b.now place (text_at b.now place) × (length (text.now ++ utf8 (name_at b.now place number)) ≤ length out.old) }
-    ensures { Wrote out.old (text.now ++ utf8 (name_at b.now place number)) out.new result }
+pub fn put_behind(out: &mut [u8], text: &[u8], b: &[u8], n: Name) -> usize
+    requires { Holds b.now n.place (text_at b.now n.place) × (length (text.now ++ utf8 (name_at b.now n.place n.number)) ≤ length out.old) }
+    ensures { Wrote out.old (text.now ++ utf8 (name_at b.now n.place n.number)) out.new result }
 {
     let at = put_bytes(out, text);
-    at + put_place(&mut out[at..], b, place, number)
+    at + put_place(&mut out[at..], b, n)
 }
 
 // A text, and a number behind it.

@@ -1,5 +1,5 @@
 // Where the parts of an accepted package are, and what an index means by them.
-ghost use Rattle.std.specs.Prelude.{◌≡◌};
+ghost use Rattle.std.specs.Prelude.{◌≡◌, true, false, MatchOption};
 ghost use Rattle.packages.specs.Kinds.{class_code};
 ghost use Rattle.packages.specs.Package.{parts_at};
 ghost use Rattle.packages.specs.Row.{is_local};
@@ -21,13 +21,15 @@ pub struct Parts {
 }
 
 // What a class index refers to, were it found.
+// Kept: no values in it, and index and kind go together: contracts speak of the index (`ref_bytes b index`), so that of `Import { name, hash }` each arm would
+// say beside its values that they are those of the index, as `name ≡ import_name index`.
 #[derive(Clone, Copy, PartialEq, Eq)]
 pub enum ClassKind {
-    Script,
-    Import,
-    Export,
-    Null,
-    Bad,
+    Script = 0,
+    Import = 2,
+    Export = 4,
+    Null = 6,
+    Bad = 7,
 }
 
 impl ClassKind {
@@ -35,13 +37,7 @@ impl ClassKind {
     pub fn number(self) -> u8
         ensures { result ≡ class_code self }
     {
-        match self {
-            ClassKind::Script => 0,
-            ClassKind::Import => 2,
-            ClassKind::Export => 4,
-            ClassKind::Null => 6,
-            ClassKind::Bad => 7,
-        }
+        self as u8
     }
 }
 
@@ -74,6 +70,17 @@ impl Parts {
         ensures { result ≡ is_local self.now index }
     {
         index_kind(index) == Kind::Export && index < self.count as u64
+    }
+
+    // The number of the export that an index is of, if it is of one of the package.
+    pub fn local(&self, index: u64) -> Option<usize>
+        ensures { MatchOption result (is_local self.now index ≡ false) (λ k. (is_local self.now index ≡ true) × (k ≡ index)) }
+    {
+        if self.is_local(index) {
+            Some(index as usize)
+        } else {
+            None
+        }
     }
 
     // The class kind of an index, were it found.

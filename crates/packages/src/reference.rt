@@ -93,84 +93,65 @@ fn put_index(out: &mut [u8], text: &[u8], n: u64) -> usize
 
 impl<'a> Package<'a> {
     fn import_len(&self, index: u64) -> usize
-        requires { import_name index < self.now.parts.imported.count }
-        ensures { (result ≡ length (import_bytes (read_in self.now.bytes.now) index)) × (result ≤ 131116) }
+        requires { import_name index < self.now.block.parts.imported.count }
+        ensures { (result ≡ length (import_bytes (read_in self.now.block.bytes.now) index)) × (result ≤ 131116) }
     {
         let i = import_name(index) as usize;
-        let b = self.block();
-        27 + place_len(
-            self.bytes,
-            b.imported(self.imported, i),
-            b.imported_number(i),
-        )
+        27 + place_len(self.block.bytes, self.imported_name(i))
     }
 
     fn export_len(&self, i: usize) -> usize
-        requires { i < self.now.parts.count }
-        ensures { (result ≡ length (export_bytes (read_in self.now.bytes.now) i)) × (result ≤ 131096) }
+        requires { i < self.now.block.parts.count }
+        ensures { (result ≡ length (export_bytes (read_in self.now.block.bytes.now) i)) × (result ≤ 131096) }
     {
-        let b = self.block();
-        let e = b.export(i);
-        7 + place_len(self.bytes, b.name(self.names, e.index), e.number)
+        let e = self.block.export(i);
+        7 + place_len(self.block.bytes, self.name_of(e))
     }
 
     // How many bytes the text of an index's reference takes.
     pub fn reference_len(&self, index: u64, kind: ClassKind) -> usize
-        requires { class_code kind ≡ kind_by self.now.parts index }
-        ensures { (result ≡ length (ref_bytes self.now.bytes.now index)) × (result ≤ 131116) }
+        requires { class_code kind ≡ kind_by self.now.block.parts index }
+        ensures { (result ≡ length (ref_bytes self.now.block.bytes.now index)) × (result ≤ 131116) }
     {
         match kind {
             ClassKind::Script => 25,
             ClassKind::Import => self.import_len(index),
             ClassKind::Export => self.export_len(index as usize),
             ClassKind::Null => 4,
-            ClassKind::Bad => self.parts.bad_len(index),
+            ClassKind::Bad => self.block.parts.bad_len(index),
         }
     }
 
     fn put_import(&self, out: &mut [u8], index: u64) -> usize
-        requires { (import_name index < self.now.parts.imported.count) × (import_hash index < self.now.parts.publics)
-            × (length (import_bytes (read_in self.now.bytes.now) index) ≤ length out.old) }
-        ensures { Wrote out.old (import_bytes (read_in self.now.bytes.now) index) out.new result }
+        requires { (import_name index < self.now.block.parts.imported.count) × (import_hash index < self.now.block.parts.publics)
+            × (length (import_bytes (read_in self.now.block.bytes.now) index) ≤ length out.old) }
+        ensures { Wrote out.old (import_bytes (read_in self.now.block.bytes.now) index) out.new result }
     {
         let i = import_name(index) as usize;
-        let b = self.block();
-        let n = put_behind(
-            out,
-            b"package:",
-            self.bytes,
-            b.imported(self.imported, i),
-            b.imported_number(i),
-        );
-        n + put_index(&mut out[n..], b"#0x", b.hash(import_hash(index) as usize))
+        let n = put_behind(out, b"package:", self.block.bytes, self.imported_name(i));
+        let hash = self.block.hash(import_hash(index) as usize);
+        n + put_index(&mut out[n..], b"#0x", hash)
     }
 
     fn put_export(&self, out: &mut [u8], i: usize) -> usize
-        requires { (i < self.now.parts.count) × (length (export_bytes (read_in self.now.bytes.now) i) ≤ length out.old) }
-        ensures { Wrote out.old (export_bytes (read_in self.now.bytes.now) i) out.new result }
+        requires { (i < self.now.block.parts.count) × (length (export_bytes (read_in self.now.block.bytes.now) i) ≤ length out.old) }
+        ensures { Wrote out.old (export_bytes (read_in self.now.block.bytes.now) i) out.new result }
     {
-        let b = self.block();
-        let e = b.export(i);
-        put_behind(
-            out,
-            b"export:",
-            self.bytes,
-            b.name(self.names, e.index),
-            e.number,
-        )
+        let e = self.block.export(i);
+        put_behind(out, b"export:", self.block.bytes, self.name_of(e))
     }
 
     // The text of an index's reference.
     pub fn put_reference(&self, out: &mut [u8], index: u64, kind: ClassKind) -> usize
-        requires { (class_code kind ≡ kind_by self.now.parts index) × (length (ref_bytes self.now.bytes.now index) ≤ length out.old) }
-        ensures { Wrote out.old (ref_bytes self.now.bytes.now index) out.new result }
+        requires { (class_code kind ≡ kind_by self.now.block.parts index) × (length (ref_bytes self.now.block.bytes.now index) ≤ length out.old) }
+        ensures { Wrote out.old (ref_bytes self.now.block.bytes.now index) out.new result }
     {
         match kind {
             ClassKind::Script => put_index(out, b"script:0x", index),
             ClassKind::Import => self.put_import(out, index),
             ClassKind::Export => self.put_export(out, index as usize),
             ClassKind::Null => put_bytes(out, b"null"),
-            ClassKind::Bad => self.parts.put_bad(out, index),
+            ClassKind::Bad => self.block.parts.put_bad(out, index),
         }
     }
 }

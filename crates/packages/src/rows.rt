@@ -4,24 +4,21 @@ ghost use Rattle.text.specs.AffixLaws.{unit_size};
 ghost use Rattle.text.specs.Name.{text_bytes};
 ghost use Rattle.base.specs.Output.{Wrote};
 ghost use Rattle.text.specs.Utf8.{utf8};
-ghost use Rattle.batch.specs.Notes.{Noted};
 ghost use Rattle.meaning.specs.Scan.{candidate_kind};
-ghost use Rattle.packages.specs.Kinds.{candidate_number, is_variable};
+ghost use Rattle.packages.specs.Kinds.{candidate_number, candidate_of, is_variable};
 ghost use Rattle.packages.specs.Package.{read_in};
 ghost use Rattle.packages.specs.Row.{export_no, row_in, instance_place, outer_at, names_at, names_size, RowHolds};
 
-use super::block::Block;
-use super::names::Name;
+use super::block::Package;
 use base::output::put_be32;
-use batch::notes::NOTES;
-use batch::places::Place;
+use batch::places::Name;
 use batch::texts::{place_ends_with, place_len, place_starts_with, place_without, put_place_text};
 
 // What makes an export a candidate: its name ends in `_GEN_VARIABLE`, or that of its outer starts with `Default__`.
 #[derive(Clone, Copy, PartialEq, Eq)]
 pub enum Candidate {
-    Variable,
-    Subobject,
+    Variable = 1,
+    Subobject = 2,
 }
 
 impl Candidate {
@@ -29,13 +26,24 @@ impl Candidate {
     pub fn number(self) -> u8
         ensures { result ≡ candidate_number (Some self) }
     {
-        match self {
-            Candidate::Variable => 1,
-            Candidate::Subobject => 2,
+        self as u8
+    }
+
+    // The kind with a number, none for any other number.
+    // Kept: no TryFrom: a number that is none is no error, and each caller would say `Candidate::try_from(n).ok()`.
+    pub fn of(number: usize) -> Option<Candidate>
+        ensures { result ≡ candidate_of number }
+    {
+        match number {
+            1 => Some(Candidate::Variable),
+            2 => Some(Candidate::Subobject),
+            _ => None,
         }
     }
 }
 
+// Kept: a row has no bytes, and that its names stand in b is a `requires`: the definitions make rows of lists (`row_in`), and of a record with a slice in
+// it each contract would say field by field what `result ≡ row_in b p kind i` says.
 // An export as a candidate: its kind, if it is one; its name; its outer's, if it has one; its class index.
 #[derive(Clone, Copy)]
 pub struct Row {
@@ -54,44 +62,33 @@ impl Row {
     }
 }
 
-impl<'a> Block<'a> {
+impl<'a> Package<'a> {
     // The kind of candidate that export i is, if it is one.
-    pub fn candidate(&self, names: &[u32; NOTES], i: usize) -> Option<Candidate>
-        requires { Noted self.now.bytes.now self.now.parts.names names.now × (i < self.now.parts.count) }
-        ensures { candidate_number result ≡ candidate_kind (read_in self.now.bytes.now) (export_no self.now.bytes.now i) }
+    pub fn candidate(&self, i: usize) -> Option<Candidate>
+        requires { i < self.now.block.parts.count }
+        ensures { candidate_number result ≡ candidate_kind (read_in self.now.block.bytes.now) (export_no self.now.block.bytes.now i) }
     {
-        let e = self.export(i);
-        if place_ends_with(self.bytes, self.name(names, e.index), b"_GEN_VARIABLE") {
+        let e = self.block.export(i);
+        if place_ends_with(self.block.bytes, self.name(e.index), b"_GEN_VARIABLE") {
             return Some(Candidate::Variable);
         }
-        if !self.parts.is_local(e.outer) {
-            return None;
-        }
-        let u = self.export(e.outer as usize);
-        if place_starts_with(self.bytes, self.name(names, u.index), b"Default__") {
+        let u = self.block.export(self.block.parts.local(e.outer)?);
+        if place_starts_with(self.block.bytes, self.name(u.index), b"Default__") {
             return Some(Candidate::Subobject);
         }
         None
     }
 
     // Export i as a candidate of a kind.
-    pub fn row(&self, names: &[u32; NOTES], i: usize, kind: Option<Candidate>) -> Row
-        requires { Noted self.now.bytes.now self.now.parts.names names.now × (i < self.now.parts.count) }
-        ensures { result ≡ row_in self.now.bytes.now self.now.parts kind i }
+    pub fn row(&self, i: usize, kind: Option<Candidate>) -> Row
+        requires { i < self.now.block.parts.count }
+        ensures { result ≡ row_in self.now.block.bytes.now self.now.block.parts kind i }
     {
-        let e = self.export(i);
-        let own = Name {
-            place: self.name(names, e.index),
-            number: e.number,
-        };
-        let outer = if self.parts.is_local(e.outer) {
-            let u = self.export(e.outer as usize);
-            Some(Name {
-                place: self.name(names, u.index),
-                number: u.number,
-            })
-        } else {
-            None
+        let e = self.block.export(i);
+        let own = self.name_of(e);
+        let outer = match self.block.parts.local(e.outer) {
+            Some(k) => Some(self.name_of(self.block.export(k))),
+            None => None,
         };
         Row {
             kind,
@@ -102,15 +99,18 @@ impl<'a> Block<'a> {
     }
 }
 
-// Where the instance's base is: the name's place, for kind 1 without the suffix.
-fn instance(w: &Row) -> Place
+// The instance: the name, for kind 1 without the suffix.
+fn instance(w: &Row) -> Name
     requires { w.now.kind ≡ Some Candidate.Variable → unit_size w.now.own.place.wide * 13 ≤ w.now.own.place.size }
-    ensures { result ≡ instance_place w.now }
+    ensures { (result.place ≡ instance_place w.now) × (result.number ≡ w.now.own.number) }
 {
     if w.is_variable() {
-        return place_without(w.own.place, 13);
+        return Name {
+            place: place_without(w.own.place, 13),
+            number: w.own.number,
+        };
     }
-    w.own.place
+    w.own
 }
 
 fn outer_len(b: &[u8], w: &Row) -> usize
@@ -118,7 +118,7 @@ fn outer_len(b: &[u8], w: &Row) -> usize
     ensures { (result ≡ length (utf8 (outer_at b.now w.now))) × (result ≤ 131089) }
 {
     match w.outer {
-        Some(u) => place_len(b, u.place, u.number),
+        Some(u) => place_len(b, u),
         None => 0,
     }
 }
@@ -128,7 +128,7 @@ pub fn names_len(b: &[u8], w: &Row) -> usize
     requires { RowHolds b.now w.now }
     ensures { (result ≡ names_size b.now w.now) × (result ≤ 393267) }
 {
-    let n = place_len(b, w.own.place, w.own.number);
+    let n = place_len(b, w.own);
     let outer = outer_len(b, w);
     if w.is_variable() {
         return n - 13 + n + outer;
@@ -141,7 +141,7 @@ fn put_outer(out: &mut [u8], b: &[u8], w: &Row) -> usize
     ensures { Wrote out.old (text_bytes (outer_at b.now w.now)) out.new result }
 {
     match w.outer {
-        Some(u) => put_place_text(out, b, u.place, u.number),
+        Some(u) => put_place_text(out, b, u),
         None => put_be32(out, 0),
     }
 }
@@ -151,7 +151,7 @@ pub fn put_names(out: &mut [u8], b: &[u8], w: &Row) -> usize
     requires { RowHolds b.now w.now × (length (names_at b.now w.now) ≤ length out.old) }
     ensures { Wrote out.old (names_at b.now w.now) out.new result }
 {
-    let first = put_place_text(out, b, instance(w), w.own.number);
-    let n = first + put_place_text(&mut out[first..], b, w.own.place, w.own.number);
+    let first = put_place_text(out, b, instance(w));
+    let n = first + put_place_text(&mut out[first..], b, w.own);
     n + put_outer(&mut out[n..], b, w)
 }

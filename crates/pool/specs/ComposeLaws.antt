@@ -1,6 +1,6 @@
 -- Laws of an object's text, measured and composed from its columns. Assumes nothing.
 use Rattle.std.specs.Prelude.{◌≡◌, refl, List, ◌++◌, ℕ, ◌+◌, ◌-◌, ◌*◌, ◌≤◌, ◌<◌, suc, length, take, drop, Option, Some, None}
-use Rattle.std.proofs.Common.{sym, ◌∙◌, arith, length-take, length-drop}
+use Rattle.std.proofs.Common.{sym, ◌∙◌, subst, arith, length-take, length-drop}
 use Rattle.std.proofs.Math.Path.{ap}
 use Rattle.std.proofs.Math.Option.{Option as Maybe, none, some}
 use Rattle.base.specs.Never.{never}
@@ -83,26 +83,29 @@ module _ {b w : List ℕ} {o : Objects} {i : ℕ} {u : Object} (st : Stands b o 
 -- ---- composed
 
 module _ (limit : ℕ) (out : List ℕ) (long : length out ≡ 256) where
-  rest : length (take (length out - 4) (drop 4 out)) ≡ 252
+  rest : length (take 252 (drop 4 out)) ≡ 252
   rest = simp (length-take, length-drop) (omega arith)
 
   module _ {b w : List ℕ} {u : Object} {k d : ℕ} {o : Objects} {i : ℕ} (st : Stands b o w i u) (q : known k d ≡ told (path_no limit o i)) (short : k ≤ 252) where
-    fits : length (path_bytes (path_no limit o i)) ≤ length (take (length out - 4) (drop 4 out))
+    fits : length (path_bytes (path_no limit o i)) ≤ length (take 252 (drop 4 out))
     fits = let (p, x, l, m) = known-path (path_no limit o i) q in rw x (omega (arith, rest))
 
-    pub compose_roomy : Roomy b w u limit (take (length out - 4) (drop 4 out))
+    pub compose_roomy : Roomy b w u limit (take 252 (drop 4 out))
     compose_roomy = record { objects = o; number = i; stands = st; room = fits }
 
     -- the path was put behind the first four bytes, and its length into these
     pub compose_text : {p new : List ℕ} {r : Option Told} {m : ℕ}
-        → ((o : Objects) (i : ℕ) → Stands b o w i u → length (path_bytes (path_no limit o i)) ≤ length (take (length out - 4) (drop 4 out))
-        → Written (path_no limit o i) (take (length out - 4) (drop 4 out)) p r)
-        → Wrote (take 4 out ++ (p ++ drop (length out - 4) (drop 4 out))) (be_bytes 4 k) new m → TextOf (path_no limit o i) (take (m + k) new)
+        → ((o : Objects) (i : ℕ) → Stands b o w i u → length (path_bytes (path_no limit o i)) ≤ length (take 252 (drop 4 out))
+        → Written (path_no limit o i) (take 252 (drop 4 out)) p r)
+        → Wrote (take 4 out ++ (p ++ drop 252 (drop 4 out))) (be_bytes 4 k) new m → TextOf (path_no limit o i) (take (m + k) new)
     unfolding text_bytes
     compose_text {p} {new} {r} {m} put v =
         let (a, x, l, z) = known-path (path_no limit o i) q in
         let four : m ≡ 4 = v.size ∙ length-be_bytes 4 k in
-        let w : Wrote (take (length out - 4) (drop 4 out)) (utf8 a.text) p k =
+        let w : Wrote (take 252 (drop 4 out)) (utf8 a.text) p k =
         record { size = l; fits = omega (arith, rest); is = rw x at (put o i st fits).buffer } in
-        let f : Wrote out (be_bytes 4 k ++ utf8 a.text) new (4 + k) = wrote-front w (omega arith) (wrote_count v four) in
+        let y : 252 ≡ length out - 4 = omega arith in
+        let f : Wrote out (be_bytes 4 k ++ utf8 a.text) new (4 + k) =
+        wrote-front (subst (λ (h : ℕ). Wrote (take h (drop 4 out)) (utf8 a.text) p k) y w) (omega arith)
+        (subst (λ (h : ℕ). Wrote (take 4 out ++ (p ++ drop h (drop 4 out))) (be_bytes 4 k) new 4) y (wrote_count v four)) in
         record { path = a; known = x; is = rw four (wrote-taken f ∙ ap (λ (x : ℕ). be_bytes 4 x ++ utf8 a.text) l) }

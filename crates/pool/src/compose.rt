@@ -8,7 +8,7 @@ ghost use Rattle.pool.specs.Pool.{Stood, TextOf};
 
 use base::output::put_be32;
 use batch::texts::place_len;
-use objects::object::{Object, Outer, place_of};
+use objects::object::{Object, Outer, name_of};
 use objects::path::{Path, path_len, put_path};
 
 // The path of the object with these columns, measured: what `put_path` would tell.
@@ -19,7 +19,7 @@ fn measure(b: &[u8], w: &[u8], u: Object, limit: usize) -> Option<Path>
     if limit == 0 {
         return None;
     }
-    let own = place_len(b, place_of(u), u.number);
+    let own = place_len(b, name_of(u));
     match Outer::of(u.outer) {
         Outer::Missing => None,
         Outer::Nothing => Some(Path {
@@ -37,8 +37,8 @@ fn measure(b: &[u8], w: &[u8], u: Object, limit: usize) -> Option<Path>
 }
 
 // Its text with its length, where the path is known and takes 252 bytes or fewer: how many bytes.
-pub fn compose(out: &mut [u8], b: &[u8], w: &[u8], u: Object, limit: usize) -> Option<usize>
-    requires { Stood b.now w.now u × (limit < 2 ^ 32) × (length out.old ≡ 256) }
+pub fn compose(out: &mut [u8; 256], b: &[u8], w: &[u8], u: Object, limit: usize) -> Option<usize>
+    requires { Stood b.now w.now u × (limit < 2 ^ 32) }
     ensures few { IfSome result (λ k. k ≤ 256) }
     ensures is { IfSome result (λ k. (o : Objects) (i : ℕ) → Stands b.now o w.now i u → TextOf (path_no limit o i) (take k out.new)) }
 {

@@ -29,14 +29,6 @@ fn answers_within(case: &Case, work: &mut [u8]) -> bool {
     answers(case, &mut work[..most], &mut report[..length])
 }
 
-// Whether the call answers as the first case of a list says, and the other cases. Where the list is cut short it doesn't, and there are none.
-fn replay_first<'a>(list: &'a [u8], work: &mut [u8]) -> (bool, &'a [u8]) {
-    match split_case(list) {
-        Some((case, rest)) => (answers_within(&case, work), rest),
-        None => (false, &list[list.len()..]),
-    }
-}
-
 // Says which case differs, and how many do: one or none.
 fn tell(rt: &HostRuntime, case: u64, same: bool) -> io::Result<u64>
     ensures { IfOk result (λ n. n ≤ 1) }
@@ -55,7 +47,7 @@ pub struct Told {
     pub differ: u64,
 }
 
-// Replays a list, with as much of the work buffer as each case wants.
+// Replays a list, with as much of the work buffer as each case wants. A case that is cut short differs, and there are none behind it.
 pub fn replay(rt: &HostRuntime, list: &[u8], work: &mut [u8]) -> io::Result<Told> {
     let mut differ: u64 = 0;
     if list.len() < 4 {
@@ -73,8 +65,14 @@ pub fn replay(rt: &HostRuntime, list: &[u8], work: &mut [u8]) -> io::Result<Told
                 differ,
             });
         }
-        let (same, others) = replay_first(rest, work);
-        differ += tell(rt, case, same)?;
+        let Some((first, others)) = split_case(rest) else {
+            differ += tell(rt, case, false)?;
+            return Ok(Told {
+                replayed: case + 1,
+                differ,
+            });
+        };
+        differ += tell(rt, case, answers_within(&first, work))?;
         rest = others;
     }
     Ok(Told {

@@ -24,6 +24,7 @@ fn tell(rt: &HostRuntime, list: &[u8]) -> io::Result<()> {
 }
 
 // Reads a file until it ends or the room is full, and says how many bytes there were.
+// Kept: a loop over `read`: the library's `read_to_end` needs a Vec, and there is no heap.
 fn read_full(file: &mut File, room: &mut [u8]) -> io::Result<usize>
     ensures { IfOk result (λ n. n ≤ length room.old) }
 {

@@ -2,5 +2,4 @@
 
 #![tactic(auto)]
 
-pub mod limits; // what a call is limited to
 pub mod call; // the call

@@ -29,6 +29,10 @@ use Rattle.resolve.specs.Classes.{class_no, ClassIn, SuperIn, words, link, Class
 use Rattle.resolve.specs.ClassesLaws.{by_number, look-seek, seek-inside, seek-own, seek-none, super-same}
 use Rattle.resolve.specs.Rows.{class_number, object_number, Read, Means, Keeps, Tables, SomeClasses}
 
+-- the second of the two words of a record's super
+pub word_behind : (w : List ℕ) (at : ℕ) → le_at 8 w (at + 44 + 8) ≡ le_at 8 w (at + 52)
+word_behind w at = ap (le_at 8 w) (omega arith)
+
 -- ---- a chain of so many lookups, from a reference that means a key and from one that means none
 
 key-ending : (r : Ref) {k : Key} → meant r ≡ some k → ending r ≡ none

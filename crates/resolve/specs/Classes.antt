@@ -17,7 +17,7 @@ use Rattle.packages.specs.Meaning.{key_words, words_of}
 use Rattle.packages.specs.Package.{read_in, parts_of}
 use Rattle.packages.specs.Row.{export_no, home_in, row_in, outer_start}
 use Rattle.packages.specs.Walk.{block_at, package_at, Site}
-use Rattle.packages.specs.declared.names.Name.{Name}
+use Rattle.batch.specs.declared.places.Name.{Name}
 use Rattle.packages.specs.declared.entries.Words.{Words}
 use Rattle.packages.specs.declared.rows.Row.{Row}
 

@@ -23,7 +23,7 @@ use Rattle.packages.specs.Row.{export_no, home_in, row_in, base_at, start_or, ou
 use Rattle.packages.specs.RowLaws.{class-holds}
 use Rattle.packages.specs.Walk.{block_at, package_at, Site}
 use Rattle.packages.specs.WalkLaws.{site-small}
-use Rattle.packages.specs.declared.names.Name.{Name}
+use Rattle.batch.specs.declared.places.Name.{Name}
 use Rattle.packages.specs.declared.package.Parts.{Parts}
 use Rattle.packages.specs.declared.entries.Words.{Words}
 use Rattle.packages.specs.declared.rows.Row.{Row}

@@ -3,7 +3,7 @@ use Rattle.std.specs.Prelude.{◌≡◌, List, ℕ, ◌+◌, ◌<◌, length, Ok
 use Rattle.std.proofs.Common.{sym, ◌∙◌, ap}
 use Rattle.base.specs.Number.{le_at}
 use Rattle.base.specs.NumberLaws.{Bytes}
-use Rattle.base.specs.Reading.{run_block}
+use Rattle.base.specs.Reading.{gives, run_block}
 use Rattle.text.specs.Utf8.{utf8}
 use Rattle.zen.specs.Answers.{answer}
 use Rattle.zen.specs.Zen.{package_block}
@@ -15,7 +15,7 @@ use Rattle.packages.specs.PackageLaws.{accepted-by, export_count_lem}
 use Rattle.packages.specs.Row.{home_in, row_in, outer_start}
 use Rattle.packages.specs.Walk.{block_at, Site}
 use Rattle.packages.specs.WalkLaws.{site-small}
-use Rattle.packages.specs.declared.names.Name.{Name}
+use Rattle.batch.specs.declared.places.Name.{Name}
 use Rattle.packages.specs.declared.package.Parts.{Parts}
 use Rattle.packages.specs.declared.rows.Row.{Row}
 use Rattle.table.specs.Table.{record_at}
@@ -42,6 +42,9 @@ module _ {s : List ℕ} {x : Class} {w : List ℕ} {r : ℕ} (d : ClassIn s x w 
     class-bytes y = rw e ((site-small class-site).2 y)
 
     -- its block is accepted
+    pub class-read : run_block package_block b ≡ gives (read_in b)
+    class-read = rw block-is d.read
+
     pub class-layout : (l : Layout) × (answer (run_block package_block b) ≡ Ok l)
     class-layout = let c = block_at s d.place in rw block-is ((read_in c).layout, accepted-by c (read_in c) d.read)
 

@@ -1,5 +1,6 @@
 // Where a reference leads: its class, and the script object at the end of its chain.
-ghost use Rattle.std.specs.Prelude.{List, ◌≡◌, ℕ, ◌<◌};
+ghost use Rattle.std.specs.Prelude.{List, ◌≡◌, ℕ, ◌+◌, ◌≤◌, ◌<◌, length};
+ghost use Rattle.base.specs.Number.{le_at};
 ghost use Rattle.base.specs.OneMore.{one_more};
 ghost use Rattle.base.specs.Seek.{seek};
 ghost use Rattle.scriptblock.specs.Script.{Objects};
@@ -9,69 +10,78 @@ ghost use Rattle.meaning.specs.Scan.{Class};
 ghost use Rattle.resolve.specs.Rows.{class_number, object_number, Means, Keeps, Tables, SomeTables, SomeClasses, Leads};
 
 use objects::link::find;
+use packages::entries::Words;
 use table::entries::{look_up, record_at};
 use table::words::get64;
 
 // What is added to the number of a class that is linked.
 pub const LINKED: u64 = 9223372036854775808;
 
-// The class that has the key (lo, hi), where hi isn't 0.
-pub fn class_at(w: &[u8], n: usize, lo: u64, hi: u64) -> Option<usize>
-    requires { SomeTables n w.now × (0 < hi) }
+// Kept: the work buffer and how many script objects it has are two parameters, and what it holds is a `requires`: it is written between one row and the
+// next, so that a struct would be made anew for each, as `target_of(Tables { work: &*w, n }, m, lookups)`.
+
+// The words that are kept from a place on.
+pub fn words_at(w: &[u8], at: usize) -> Words
+    requires { at + 16 ≤ length w.now }
+    ensures { (result.lo ≡ le_at 8 w.now at) × (result.hi ≡ le_at 8 w.now (at + 8)) }
+{
+    Words {
+        lo: get64(w, at),
+        hi: get64(w, at + 8),
+    }
+}
+
+// The class that has a key.
+pub fn class_at(w: &[u8], n: usize, key: Words) -> Option<usize>
+    requires { SomeTables n w.now × (0 < key.hi) }
     ensures { (s b : List ℕ) (o : Objects) (xs : List Class) → Tables s b o n xs w.now
-        → one_more result ≡ seek (λ (c : Class). same_key c.key (public lo hi)) xs }
+        → one_more result ≡ seek (λ (c : Class). same_key c.key (public key.lo key.hi)) xs }
 {
     let size = 48 * n;
-    look_up(&w[size..], 4 * n, 64, lo, hi)
+    look_up(&w[size..], 4 * n, 64, key.lo, key.hi)
 }
 
-// The class of what a record keeps in (x, y): linked, or looked up.
-fn class_of(w: &[u8], n: usize, x: u64, y: u64) -> Option<usize>
+// The class of what a record keeps: linked, or looked up.
+// Kept: words are read as numbers: of an enum each function would match the other's half too, as `Meaning::Object(_) | Meaning::Nothing => None` here and
+// `Meaning::Class(_) | Meaning::Key { .. } => None` in `end_of`.
+fn class_of(w: &[u8], n: usize, m: Words) -> Option<usize>
     requires { SomeTables n w.now }
-    ensures { (s b : List ℕ) (o : Objects) (xs : List Class) (r : Ref) → Tables s b o n xs w.now → Keeps xs x y r
+    ensures { (s b : List ℕ) (o : Objects) (xs : List Class) (r : Ref) → Tables s b o n xs w.now → Keeps xs m.lo m.hi r
         → one_more result ≡ class_number xs r }
 {
-    if y != 0 {
-        return class_at(w, n, x, y);
+    if m.hi != 0 {
+        return class_at(w, n, m);
     }
-    if x < LINKED {
+    if m.lo < LINKED {
         return None;
     }
-    Some((x - LINKED) as usize)
+    Some((m.lo - LINKED) as usize)
 }
 
-// The script object to which the chain of so many lookups leads from what is kept in (lo, hi), whose class is told.
-fn end_of(
-    w: &[u8],
-    n: usize,
-    class: Option<usize>,
-    lo: u64,
-    hi: u64,
-    lookups: usize,
-) -> Option<usize>
+// The script object to which the chain of so many lookups leads from what is kept, whose class is told.
+// Kept: `left` is counted by hand: with `for _ in 0..lookups` a chain's end would stand in the loop and behind it, or be a function of its own, as
+// `let Some(k) = next else { return object_of(w, n, m) };`.
+fn end_of(w: &[u8], n: usize, class: Option<usize>, kept: Words, lookups: usize) -> Option<usize>
     requires { SomeClasses n (one_more class) w.now }
-    ensures { (s b : List ℕ) (o : Objects) (xs : List Class) (r : Ref) → Tables s b o n xs w.now → Keeps xs lo hi r → one_more class ≡ class_number xs r
-        → one_more result ≡ object_number lookups xs o r }
+    ensures { (s b : List ℕ) (o : Objects) (xs : List Class) (r : Ref) → Tables s b o n xs w.now → Keeps xs kept.lo kept.hi r
+        → one_more class ≡ class_number xs r → one_more result ≡ object_number lookups xs o r }
 {
     let size = 48 * n;
     let mut next = class;
-    let mut x = lo;
-    let mut y = hi;
+    let mut m = kept;
     let mut left = lookups;
     while let Some(k) = next {
         if left == 0 {
             return None;
         }
-        let at = size + record_at(4 * n, 64, k);
-        x = get64(w, at + 44);
-        y = get64(w, at + 52);
-        next = class_of(w, n, x, y);
+        m = words_at(w, size + record_at(4 * n, 64, k) + 44);
+        next = class_of(w, n, m);
         left -= 1;
     }
-    if y != 0 || x == 0 {
+    if m.hi != 0 || m.lo == 0 {
         return None;
     }
-    find(&w[..size], x)
+    find(&w[..size], m.lo)
 }
 
 // Where a row leads: its class, and the script object at the end of its chain.
@@ -81,18 +91,14 @@ pub struct Target {
     pub object: Option<usize>,
 }
 
-pub fn target_of(w: &[u8], n: usize, lo: u64, hi: u64, lookups: usize) -> Target
+pub fn target_of(w: &[u8], n: usize, m: Words, lookups: usize) -> Target
     requires { SomeTables n w.now }
-    ensures { (s b : List ℕ) (o : Objects) (xs : List Class) (r : Ref) → Tables s b o n xs w.now → Means lo hi r
+    ensures { (s b : List ℕ) (o : Objects) (xs : List Class) (r : Ref) → Tables s b o n xs w.now → Means m.lo m.hi r
         → Leads xs o lookups r (one_more result.class) (one_more result.object) }
 {
-    let class = if hi == 0 {
-        None
-    } else {
-        class_at(w, n, lo, hi)
-    };
+    let class = if m.hi == 0 { None } else { class_at(w, n, m) };
     Target {
         class,
-        object: end_of(w, n, class, lo, hi, lookups),
+        object: end_of(w, n, class, m, lookups),
     }
 }

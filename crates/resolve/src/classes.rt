@@ -11,10 +11,10 @@ ghost use Rattle.table.specs.Table.{record_at};
 ghost use Rattle.resolve.specs.Classes.{class_no, class_from, ClassesIn, Classes, Entered, Stands, described};
 
 use base::index::{Kind, index_kind};
+use batch::places::Name;
 use packages::block::Package;
 use packages::class_path::class_path_len;
 use packages::entries::Words;
-use packages::names::Name;
 use packages::rows::Row;
 use table::entries::{add, record_at};
 use table::words::{get32, set32, set64};
@@ -73,28 +73,27 @@ pub fn enter_class(
     id: u64,
     i: usize,
 ) -> bool
-    requires export { (i < p.now.parts.count) × ((export_no p.now.bytes.now i).hash ≡ 0 → ⊥) }
+    requires export { (i < p.now.block.parts.count) × ((export_no p.now.block.bytes.now i).hash ≡ 0 → ⊥) }
     requires classes { Classes n k w.old × (0 < n) × (k + 1 < 2 ^ 32) × (record_at n 64 (k + 1) ≤ length w.old) }
-    ensures new { result ≡ true → (s : List ℕ) (xs : List Class) → Site s at p.now.bytes.now → id ≡ be_at 8 s at → ClassesIn s n xs w.old → length xs ≡ k
+    ensures new { result ≡ true → (s : List ℕ) (xs : List Class) → Site s at p.now.block.bytes.now → id ≡ be_at 8 s at → ClassesIn s n xs w.old → length xs ≡ k
         → Entered s n xs (class_from s at i) w.old w.new }
-    ensures old { result ≡ false → (s : List ℕ) (xs : List Class) → Site s at p.now.bytes.now → id ≡ be_at 8 s at → ClassesIn s n xs w.old → length xs ≡ k
+    ensures old { result ≡ false → (s : List ℕ) (xs : List Class) → Site s at p.now.block.bytes.now → id ≡ be_at 8 s at → ClassesIn s n xs w.old → length xs ≡ k
         → Stands xs (class_from s at i) }
     ensures size { length w.new ≡ length w.old }
 {
-    let b = p.block();
-    let e = b.export(i);
+    let e = p.block.export(i);
     if add(w, n, 64, k, id, e.hash).is_some() {
         return false;
     }
-    let home = b.home(p.names);
-    let row = b.row(p.names, i, None);
-    let len = class_path_len(p.bytes, home, &row);
-    let m = b.meaning(p.imported, id, e.parent);
+    let home = p.home();
+    let row = p.row(i, None);
+    let len = class_path_len(p.block.bytes, home, &row);
+    let m = p.meaning(id, e.parent);
     describe(w, record_at(n, 64, k), at, i, home, &row, m, len);
     true
 }
 
-// The length of the path of class k.
+// The length of the path of class k; w is what stands behind the script objects, a table of n buckets.
 pub fn class_len(w: &[u8], n: usize, k: usize) -> usize
     requires { (q : ℕ) × Classes n q w.now × (k < q) }
     ensures { ((s : List ℕ) (xs : List Class) → ClassesIn s n xs w.now → k < length xs → result ≡ length (utf8 (class_no xs k).path)) × (result ≤ 393269) }

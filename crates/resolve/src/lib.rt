@@ -2,6 +2,7 @@
 
 #![tactic(auto)]
 
+pub mod limits; // what a call is limited to
 pub mod classes; // classes entered
 pub mod paths; // their paths
 pub mod chain; // where a reference leads

@@ -5,9 +5,9 @@ ghost use Rattle.meaning.specs.Reference.{Ref};
 ghost use Rattle.meaning.specs.Scan.{Class};
 ghost use Rattle.resolve.specs.Rows.{Tables, Kept, SomeClasses, ClassLinked, LinkedTo, SuperOnly};
 
-use super::chain::{LINKED, class_at};
+use super::chain::{LINKED, class_at, words_at};
 use table::entries::record_at;
-use table::words::{get64, set64};
+use table::words::set64;
 
 // Links class i, if its super has a class.
 fn link_class(w: &mut [u8], n: usize, i: usize)
@@ -19,12 +19,11 @@ fn link_class(w: &mut [u8], n: usize, i: usize)
     ensures only { SuperOnly n i w.old w.new }
 {
     let at = 48 * n + record_at(4 * n, 64, i);
-    let lo = get64(w, at + 44);
-    let hi = get64(w, at + 52);
-    if hi == 0 {
+    let m = words_at(w, at + 44);
+    if m.hi == 0 {
         return;
     }
-    if let Some(k) = class_at(w, n, lo, hi) {
+    if let Some(k) = class_at(w, n, m) {
         set64(w, at + 44, LINKED + k as u64);
         set64(w, at + 52, 0);
     }

@@ -1,10 +1,15 @@
 // Marks of rows: where the export of a row stands in the corpus, in steps of 72 bytes, and its kind as a candidate.
-ghost use Rattle.std.specs.Prelude.{◌≡◌, ◌+◌, ◌*◌, ◌%◌, ◌^◌, ◌≤◌, ◌<◌, length};
+ghost use Rattle.std.specs.Prelude.{◌≡◌, ◌+◌, ◌*◌, ◌%◌, ◌^◌, ◌≤◌, ◌<◌, length, Some};
 ghost use Rattle.base.specs.Number.{le_at};
+ghost use Rattle.packages.specs.Kinds.{candidate_number, candidate_of};
 ghost use Rattle.resolve.specs.Marks.{mark_of, step_at};
 ghost use Rattle.resolve.specs.Rows.{row_at};
 
-use table::words::get32;
+use super::rows::row_at;
+use base::number::le32;
+use packages::rows::Candidate;
+
+// Kept: a mark and a step are numbers: `marks_in` lists them so, and a step would be made anew for each export, as `Step { at: step.at + i }`.
 
 // The step in which the exports of the package at a place of the corpus start, which stand so far behind its block's start.
 pub fn step_of(at: usize, exports: usize) -> usize
@@ -15,25 +20,24 @@ pub fn step_of(at: usize, exports: usize) -> usize
 }
 
 // The mark of a candidate of a kind that stands in a step.
-pub fn mark_of(step: usize, kind: u8) -> usize
+pub fn mark_of(step: usize, kind: Candidate) -> usize
     requires { step < 2 ^ 29 }
-    ensures { result ≡ mark_of step kind }
+    ensures { result ≡ mark_of step (candidate_number (Some kind)) }
 {
-    4 * step + kind as usize
+    4 * step + usize::from(kind.number())
 }
 
 // The mark of row r.
 pub fn mark_at(w: &[u8], r: usize) -> usize
     requires { 32 * (r + 1) ≤ length w.now }
-    ensures { result ≡ le_at 4 w.now (row_at w.now r + 28) }
+    ensures { (result ≡ le_at 4 w.now (row_at w.now r + 28)) × (result < 2 ^ 32) }
 {
-    let at = w.len() - 32 * (r + 1);
-    get32(w, at + 28)
+    le32(w, row_at(w, r) + 28) as usize
 }
 
-// The kind that a mark tells.
-pub fn kind_in(mark: usize) -> u8
-    ensures { result ≡ mark % 4 }
+// The kind of candidate that a mark tells.
+pub fn candidate_in(mark: usize) -> Option<Candidate>
+    ensures { result ≡ candidate_of (mark % 4) }
 {
-    (mark % 4) as u8
+    Candidate::of(mark % 4)
 }

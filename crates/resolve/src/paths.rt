@@ -7,21 +7,17 @@ ghost use Rattle.resolve.specs.Classes.{class_no, ClassesIn, PathRoom};
 
 use packages::block::Block;
 use packages::frame::block_at;
-use packages::package::parts_of;
 use table::entries::record_at;
 use table::words::get32;
-use zen::layout::layout_of;
 
-// The path of class k of the corpus c.
+// The path of class k of the corpus c; w is what stands behind the script objects, a table of n buckets.
 pub fn put_class_path(out: &mut [u8], c: &[u8], w: &[u8], n: usize, k: usize) -> usize
     requires { PathRoom c.now n k w.now out.old }
     ensures { (xs : List Class) → ClassesIn c.now n xs w.now → k < length xs → Wrote out.old (utf8 (class_no xs k).path) out.new result }
 {
     let at = record_at(n, 64, k);
-    let bytes = block_at(c, get32(w, at + 24));
-    let parts = parts_of(layout_of(bytes));
-    let b = Block { bytes, parts };
+    let b = Block::of(block_at(c, get32(w, at + 24)));
     let home = b.home_from(get32(w, at + 32));
     let row = b.row_from(get32(w, at + 28), get32(w, at + 36), get32(w, at + 40));
-    packages::class_path::put_class_path(out, bytes, home, &row)
+    packages::class_path::put_class_path(out, b.bytes, home, &row)
 }

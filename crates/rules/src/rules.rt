@@ -63,6 +63,8 @@ fn lower_greek(c: u32) -> Option<u32>
     }
 }
 
+// Kept: the ranges are a `requires` of each step of one search; a type for each would be made in each arm, as `Further { c }.lowered()`.
+
 // Cyrillic for old texts and further languages, and Armenian.
 fn lower_further(c: u32) -> Option<u32>
     requires { (0x460 ≤ c) × (c < 0x590) }

@@ -4,11 +4,17 @@ ghost use Rattle.rules.specs.Quick.{among};
 ghost use Rattle.rules.specs.Scripts.{latin_capitals, latin_pairs, latin_odds, is_latin, latin_turn, lower_latin, step_in, greek_capitals, greek_steps, is_greek, lower_greek};
 
 // A number or 0.
+// Kept: no Option: these are terms of a sum that has no branch, so that many units go a turn.
 fn pick(t: bool, d: u16) -> u16
     ensures { (result ≡ cond t d 0) × (result ≤ d) }
 {
     if t { d } else { 0 }
 }
+
+// Kept: each script, and `is_caseless` in caseless.rt, has its own ranges as `|` of tests. Tried in `is_greek`:
+// `GREEKS.iter().fold(false, |t, r| t | r.contains(&u))` over a const of type
+// `[Range<u16>; 7]`, which names the ranges apart from their test and saves none: the check accepts it all but the `ensures`, of which `search` found no
+// proof in three tries. So its speed was not measured.
 
 // A capital of Latin 32 below its small letter.
 fn latin_capital(u: u16) -> bool
@@ -74,6 +80,7 @@ fn greek_capital(u: u16) -> bool
 }
 
 // How far another capital of Greek or Cyrillic is below its small letter; 0 of any other unit.
+// Kept: no Option: as `pick`.
 fn greek_step(u: u16) -> u16
     ensures { (result ≡ step_in greek_steps u) × (result ≤ 282) }
 {

@@ -1,12 +1,9 @@
 -- Question 24 by number (document 01: "no class key twice? 24 (block of the first class, in package and export order, whose key an earlier one
 -- has)"): exports by their number in their package, packages by theirs in the corpus. Assumes nothing.
-use Rattle.std.specs.Prelude.{◌≡◌, Bool, false, ◌&&◌, ◌||◌, List, ℕ, zero, suc, eqb, length, get_or, Ok}
+use Rattle.std.specs.Prelude.{◌≡◌, Bool, false, ◌&&◌, ◌||◌, List, ℕ, zero, suc, eqb, length, get_or}
 use Rattle.std.proofs.Math.Option.{Option, none, some}
-use Rattle.base.specs.Reading.{gives, run, run_block}
-use Rattle.batch.specs.Notes.{Noted}
-use Rattle.scriptblock.specs.Script.{Objects, script}
-use Rattle.scriptblock.specs.ScriptAnswers.{script_answer}
-use Rattle.scriptblock.specs.declared.script.Layout.{Layout}
+use Rattle.base.specs.Reading.{gives, run_block}
+use Rattle.scriptblock.specs.Script.{Objects}
 use Rattle.zen.specs.Zen.{package_block, no_export}
 use Rattle.zen.specs.declared.tables.Export.{Export}
 use Rattle.meaning.specs.Reference.{Package}
@@ -14,10 +11,6 @@ use Rattle.meaning.specs.Scan.{is_class}
 use Rattle.meaning.specs.Call.{Placed}
 use Rattle.packages.specs.Package.{read_in}
 use Rattle.packages.specs.Walk.{block_at, package_at, Site, place_of}
-
--- an accepted script block with this layout, whose names are noted
-abbrev pub NotedScript : List ℕ → Layout → List ℕ → Type 0
-NotedScript s l notes = (script_answer (run script 0 s) ≡ Ok l) × Noted s l.names notes
 
 -- the package at a place lies inside and is accepted
 pub record ReadAt (c : List ℕ) (at : ℕ) : Type 0 where

@@ -10,7 +10,7 @@ use base::refusal::Refused;
 use packages::frame::{block_at, next_at};
 use zen::zen::check_package;
 
-// What the first of the packages' blocks is refused for that is, and its block.
+// What the first block of the packages' that is refused is refused for.
 pub fn check_packages(c: &[u8], at: usize, count: usize) -> Result<(), Refused>
     requires { Sites c.now at count × (count + 2 ≤ 2 ^ 32) }
     ensures is { located result ≡ blocks_as (read_from 2 (parts_at c.now at count)) }
@@ -18,10 +18,8 @@ pub fn check_packages(c: &[u8], at: usize, count: usize) -> Result<(), Refused>
 {
     let mut here = at;
     for i in 0..count {
-        if let Err(why) = check_package(block_at(c, here)) {
-            let block = (i + 2) as u32;
-            return Err(Refused { why, block });
-        }
+        let block = (i + 2) as u32;
+        check_package(block_at(c, here)).map_err(|why| Refused { why, block })?;
         here = next_at(c, here);
     }
     Ok(())

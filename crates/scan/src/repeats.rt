@@ -1,9 +1,8 @@
 // Question 24: each class is compared with all before it.
 ghost use Rattle.std.specs.Prelude.{[], ◌≡◌, ◌+◌, ◌^◌, ◌≤◌, ◌<◌};
 ghost use Rattle.base.specs.OneMore.{nonzero};
-ghost use Rattle.base.specs.Reading.{gives, run, run_block};
+ghost use Rattle.base.specs.Reading.{gives, run};
 ghost use Rattle.scriptblock.specs.Script.{Objects, script};
-ghost use Rattle.zen.specs.Zen.{package_block};
 ghost use Rattle.meaning.specs.Call.{placed_from, first_repeat};
 ghost use Rattle.packages.specs.Package.{read_in};
 ghost use Rattle.packages.specs.Walk.{package_at, place_of, packages_at, Sites, AllRead};
@@ -12,35 +11,26 @@ ghost use Rattle.scan.specs.Repeats.{ReadAt, is_class_of, has_class, has_public,
 use super::script::Script;
 use packages::block::Block;
 use packages::frame::{block_at, id_at, next_at};
-use packages::package::parts_of;
-use zen::layout::layout_of;
 use zen::tables::Export;
 
-// An accepted block, and where its parts are.
-fn accepted_block<'a>(b: &'a [u8]) -> Block<'a>
-    requires { run_block package_block b.now ≡ gives (read_in b.now) }
-    ensures { result.bytes ≡ b.entry }
-{
-    Block {
-        bytes: b,
-        parts: parts_of(layout_of(b)),
-    }
-}
+// Kept: corpus, place and count come apart, here and in all that goes over packages: of the first i packages, as this question asks of them, a struct would
+// be made anew, as `is_before(Packages { count: i, ..p }, id, hash, s)`; and the loop that goes from package to package stands in each of these functions since
+// an iterator of the repository's own would be told in its contract what `Sites` and `place_of` say.
 
 // Whether an export is a class with this hash.
-fn is_class_of(s: &Script, e: Export, hash: u64, limit: usize) -> bool
-    ensures { (o : Objects) → run script 0 s.now.block.now ≡ gives o → result ≡ is_class_of limit o hash e }
+fn is_class_of(s: &Script, e: Export, hash: u64) -> bool
+    ensures { (o : Objects) → run script 0 s.now.block.bytes.now ≡ gives o → result ≡ is_class_of s.now.limit o hash e }
 {
-    e.hash == hash && s.is_class(e, limit)
+    e.hash == hash && s.is_class(e)
 }
 
 // Whether one of the first n exports of a block is.
-fn has_class(b: &Block, n: usize, hash: u64, s: &Script, limit: usize) -> bool
+fn has_class(b: &Block, n: usize, hash: u64, s: &Script) -> bool
     requires { n ≤ b.now.parts.count }
-    ensures { (o : Objects) → run script 0 s.now.block.now ≡ gives o → result ≡ has_class limit o (read_in b.now.bytes.now).exports n hash }
+    ensures { (o : Objects) → run script 0 s.now.block.bytes.now ≡ gives o → result ≡ has_class s.now.limit o (read_in b.now.bytes.now).exports n hash }
 {
     for j in 0..n {
-        if is_class_of(s, b.export(j), hash, limit) {
+        if is_class_of(s, b.export(j), hash) {
             return true;
         }
     }
@@ -48,25 +38,25 @@ fn has_class(b: &Block, n: usize, hash: u64, s: &Script, limit: usize) -> bool
 }
 
 // Whether the package at a place has a class with this key.
-fn has_public(c: &[u8], here: usize, id: u64, hash: u64, s: &Script, limit: usize) -> bool
+fn has_public(c: &[u8], here: usize, id: u64, hash: u64, s: &Script) -> bool
     requires { ReadAt c.now here }
-    ensures { (o : Objects) → run script 0 s.now.block.now ≡ gives o → result ≡ has_public limit o (package_at c.now here) id hash }
+    ensures { (o : Objects) → run script 0 s.now.block.bytes.now ≡ gives o → result ≡ has_public s.now.limit o (package_at c.now here) id hash }
 {
     if id_at(c, here) != id {
         return false;
     }
-    let b = accepted_block(block_at(c, here));
-    has_class(&b, b.parts.count, hash, s, limit)
+    let b = Block::of(block_at(c, here));
+    has_class(&b, b.parts.count, hash, s)
 }
 
 // Whether one of the first n packages does.
-fn is_before(c: &[u8], at: usize, n: usize, id: u64, hash: u64, s: &Script, limit: usize) -> bool
+fn is_before(c: &[u8], at: usize, n: usize, id: u64, hash: u64, s: &Script) -> bool
     requires { Sites c.now at n × AllRead c.now at n }
-    ensures { (o : Objects) → run script 0 s.now.block.now ≡ gives o → result ≡ is_before limit o c.now at n id hash }
+    ensures { (o : Objects) → run script 0 s.now.block.bytes.now ≡ gives o → result ≡ is_before s.now.limit o c.now at n id hash }
 {
     let mut here = at;
     for _ in 0..n {
-        if has_public(c, here, id, hash, s, limit) {
+        if has_public(c, here, id, hash, s) {
             return true;
         }
         here = next_at(c, here);
@@ -75,36 +65,27 @@ fn is_before(c: &[u8], at: usize, n: usize, id: u64, hash: u64, s: &Script, limi
 }
 
 // Whether export j of package i, with this id and block, is a class whose key an earlier one has.
-fn is_repeat(
-    c: &[u8],
-    at: usize,
-    i: usize,
-    id: u64,
-    b: &Block,
-    j: usize,
-    s: &Script,
-    limit: usize,
-) -> bool
+fn is_repeat(c: &[u8], at: usize, i: usize, id: u64, b: &Block, j: usize, s: &Script) -> bool
     requires sites { Sites c.now at i × AllRead c.now at i }
     requires number { j < b.now.parts.count }
-    ensures { (o : Objects) → run script 0 s.now.block.now ≡ gives o → result ≡ is_repeat limit o c.now at i (read_in b.now.bytes.now).exports id j }
+    ensures { (o : Objects) → run script 0 s.now.block.bytes.now ≡ gives o → result ≡ is_repeat s.now.limit o c.now at i (read_in b.now.bytes.now).exports id j }
 {
     let e = b.export(j);
-    if !s.is_class(e, limit) {
+    if !s.is_class(e) {
         return false;
     }
-    has_class(b, j, e.hash, s, limit) || is_before(c, at, i, id, e.hash, s, limit)
+    has_class(b, j, e.hash, s) || is_before(c, at, i, id, e.hash, s)
 }
 
 // Whether package i, which is at this place, has one.
-fn repeats_in(c: &[u8], at: usize, i: usize, here: usize, s: &Script, limit: usize) -> bool
+fn repeats_in(c: &[u8], at: usize, i: usize, here: usize, s: &Script) -> bool
     requires { Sites c.now at (i + 1) × AllRead c.now at (i + 1) × (here ≡ place_of c.now at i) }
-    ensures { (o : Objects) → run script 0 s.now.block.now ≡ gives o → result ≡ repeats_in limit o c.now at i }
+    ensures { (o : Objects) → run script 0 s.now.block.bytes.now ≡ gives o → result ≡ repeats_in s.now.limit o c.now at i }
 {
     let id = id_at(c, here);
-    let b = accepted_block(block_at(c, here));
+    let b = Block::of(block_at(c, here));
     for j in 0..b.parts.count {
-        if is_repeat(c, at, i, id, &b, j, s, limit) {
+        if is_repeat(c, at, i, id, &b, j, s) {
             return true;
         }
     }
@@ -112,14 +93,14 @@ fn repeats_in(c: &[u8], at: usize, i: usize, here: usize, s: &Script, limit: usi
 }
 
 // The block of the first class whose key an earlier one has, if there is one.
-pub fn repeat_block(c: &[u8], at: usize, count: usize, s: &Script, limit: usize) -> Option<u32>
+pub fn repeat_block(c: &[u8], at: usize, count: usize, s: &Script) -> Option<u32>
     requires { Sites c.now at count × AllRead c.now at count × (count + 2 ≤ 2 ^ 32) }
-    ensures { (o : Objects) → run script 0 s.now.block.now ≡ gives o
-        → result ≡ nonzero (repeat_block (first_repeat [] (placed_from limit o 2 (packages_at c.now at count)))) }
+    ensures { (o : Objects) → run script 0 s.now.block.bytes.now ≡ gives o
+        → result ≡ nonzero (repeat_block (first_repeat [] (placed_from s.now.limit o 2 (packages_at c.now at count)))) }
 {
     let mut here = at;
     for i in 0..count {
-        if repeats_in(c, at, i, here, s, limit) {
+        if repeats_in(c, at, i, here, s) {
             return Some((i + 2) as u32);
         }
         here = next_at(c, here);

@@ -1,16 +1,14 @@
-// An accepted script block with notes of where its names start.
-ghost use Rattle.base.specs.NumberLaws.{Bytes};
-ghost use Rattle.scan.specs.Repeats.{NotedScript};
+// An accepted script block with its names noted, and the limit of its paths.
+ghost use Rattle.std.specs.Prelude.{◌≡◌};
 
-use batch::notes::NOTES;
-use scriptblock::script::Layout;
+use batch::notes::NotedNames;
+use scriptblock::script::ScriptBlock;
 
-// The block, where its parts are, and the notes.
+// The block, its names, and how many objects a path may have.
 #[derive(Clone, Copy)]
 pub struct Script<'a> {
-    pub block: &'a [u8],
-    pub layout: Layout,
-    pub notes: &'a [u32; NOTES],
-    pub ghost noted: { NotedScript block.now layout notes.now },
-    pub ghost fits: { Bytes block.now },
+    pub block: ScriptBlock<'a>,
+    pub names: NotedNames<'a>,
+    pub limit: usize,
+    pub ghost own: { (names.block.now ≡ block.bytes.now) × (names.names ≡ block.layout.names) },
 }

@@ -1,7 +1,8 @@
 // The script block (script.rs).
-ghost use Rattle.std.specs.Prelude.{◌≡◌, ◌+◌, ◌*◌, ◌≤◌, ◌<◌, length, get_or, Ok};
+ghost use Rattle.std.specs.Prelude.{◌≡◌, ◌+◌, ◌*◌, ◌≤◌, ◌<◌, length, get_or, Ok, Err, MatchResult};
+ghost use Rattle.base.specs.NumberLaws.{Bytes};
 ghost use Rattle.base.specs.Reading.{run};
-ghost use Rattle.base.specs.Refusal.{numbered, fault};
+ghost use Rattle.base.specs.Refusal.{number, numbered, fault};
 ghost use Rattle.scriptblock.specs.Script.{script};
 ghost use Rattle.scriptblock.specs.ScriptAnswers.{opened, entry_at, fault_of, fresh_at, fault_at, script_answer, entries_of, no_entry};
 
@@ -113,10 +114,29 @@ pub fn check_script(b: &[u8]) -> Result<Layout, Refusal>
     Ok(l)
 }
 
-// Entry i of an accepted block.
-pub fn entry_at(b: &[u8], l: Layout, i: usize) -> Entry
-    requires { (script_answer (run script 0 b.now) ≡ Ok l) × (i < length (entries_of (run script 0 b.now))) }
-    ensures { result ≡ get_or (entries_of (run script 0 b.now)) i no_entry }
-{
-    entry_in(b, l.entries + 32 * i)
+// A block that passed the check, and where its parts are.
+#[derive(Clone, Copy)]
+pub struct ScriptBlock<'a> {
+    pub bytes: &'a [u8],
+    pub layout: Layout,
+    pub ghost accepted: { script_answer (run script 0 bytes.now) ≡ Ok layout },
+    pub ghost fits: { Bytes bytes.now },
+}
+
+impl<'a> ScriptBlock<'a> {
+    // The block, or the question that it fails.
+    pub fn open(bytes: &'a [u8]) -> Result<ScriptBlock<'a>, Refusal>
+        ensures { MatchResult result (λ s. s.bytes ≡ bytes.entry) (λ r. script_answer (run script 0 bytes.entry.now) ≡ Err (number r)) }
+    {
+        let layout = check_script(bytes)?;
+        Ok(ScriptBlock { bytes, layout })
+    }
+
+    // Entry i.
+    pub fn entry(&self, i: usize) -> Entry
+        requires { i < length (entries_of (run script 0 self.now.bytes.now)) }
+        ensures { result ≡ get_or (entries_of (run script 0 self.now.bytes.now)) i no_entry }
+    {
+        entry_in(self.bytes, self.layout.entries + 32 * i)
+    }
 }

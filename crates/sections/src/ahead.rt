@@ -1,47 +1,39 @@
 // Looking ahead. What rows are written from stands far apart: the records of their classes, the blocks of these, their exports, the texts of script
 // objects. A byte of each is read for many rows together before they are written, so that the processor waits for all of them at once and not for one
 // after the other. Nothing depends on what was read; it is stored where a note may stand, since the compiler drops what is read and not used.
-ghost use Rattle.std.specs.Prelude.{◌≡◌, ◌+◌, ◌*◌, ◌≤◌, ◌<◌, length};
-ghost use Rattle.batch.specs.Notes.{note_count};
+ghost use Rattle.std.specs.Prelude.{◌+◌, ◌*◌, ◌≤◌, ◌<◌, length};
 
 use super::source::Source;
 use base::number::le32;
-use batch::notes::NOTES;
+use batch::notes::{NOTES, Notes};
+use resolve::marks::mark_at;
+use resolve::rows::{Led, led_at};
 
 // How many rows are looked at together.
 const GROUP: usize = 32;
 
 // The byte at a place, or 0 behind the end.
+// Kept: no Option, since nothing depends on what was read.
 fn byte_at(b: &[u8], at: usize) -> u32 {
     b.get(at).copied().map_or(0, u32::from)
-}
-
-// The number in the four bytes from a place on.
-fn number_at(b: &[u8], at: usize) -> usize
-    requires { at + 4 ≤ length b.now }
-    ensures { result < 4294967296 }
-{
-    le32(b, at) as usize
 }
 
 // Of what the path of a class is written from, whose record is at a place: both ends of its package's fields, and the package's name.
 fn see_class(src: &Source, at: usize) -> u32
     requires { at + 64 ≤ length src.now.work.now }
 {
-    let package = number_at(src.work, at + 24);
-    let name = number_at(src.work, at + 32);
+    let package = le32(src.work, at + 24) as usize;
+    let name = le32(src.work, at + 32) as usize;
     let c = src.corpus;
     byte_at(c, package + 16) ^ byte_at(c, package + 67) ^ byte_at(c, package + 12 + name)
 }
 
 // Of the text of a row's script object, where one is kept: nothing else of the work buffer was written.
-fn see_text(w: &[u8], at: usize) -> u32
-    requires { at + 32 ≤ length w.now }
-{
-    if number_at(w, at + 24) == 0 {
+fn see_text(w: &[u8], l: Led) -> u32 {
+    if l.size == 0 {
         return 0;
     }
-    byte_at(w, number_at(w, at + 20))
+    byte_at(w, l.text)
 }
 
 // Of what row r is written from: its export, which stands in the step of its mark, the text of its script object, and its class.
@@ -49,10 +41,10 @@ fn see_row(src: &Source, r: usize) -> u32
     requires { 32 * (r + 1) ≤ length src.now.work.now }
 {
     let w = src.work;
-    let at = w.len() - 32 * (r + 1);
-    let seen = byte_at(src.corpus, 18 * number_at(w, at + 28) + 36) ^ see_text(w, at);
+    let l = led_at(w, r);
+    let seen = byte_at(src.corpus, 18 * mark_at(w, r) + 36) ^ see_text(w, l);
     let most = w.len() / 64;
-    match number_at(w, at).checked_sub(1) {
+    match l.class.checked_sub(1) {
         Some(i) if i < most && src.objects < most - i => {
             seen ^ see_class(src, 64 * (src.objects + i))
         }
@@ -79,20 +71,13 @@ fn group_end(from: usize, all: usize) -> usize
 }
 
 // Looks at the next group of `all` rows, if few of those that were looked at are left to write from `row` on: which row to look at next.
-pub fn look_ahead(
-    src: &Source,
-    row: usize,
-    next: usize,
-    all: usize,
-    notes: &mut [u32; NOTES],
-) -> usize
-    requires { (32 * all ≤ length src.now.work.now) × (length notes.old ≡ note_count) }
-    ensures { length notes.new ≡ note_count }
+pub fn look_ahead(src: &Source, row: usize, next: usize, all: usize, notes: &mut Notes) -> usize
+    requires { 32 * all ≤ length src.now.work.now }
 {
     if row < next && 16 < next - row {
         return next;
     }
     let end = group_end(next, all);
-    notes[NOTES - 1] = see_rows(src, next, end);
+    notes.starts[NOTES - 1] = see_rows(src, next, end);
     end
 }

@@ -36,7 +36,7 @@ fn class_kind(kind: ClassKind, known: bool) -> u8
     }
 }
 
-// Whether a candidate of kind 1 has a number.
+// 1 where a candidate of kind 1 has a number, else 0.
 fn numbered(v: &Row) -> u8
     ensures { result ≡ numbered_as v.now }
 {
@@ -60,8 +60,8 @@ fn put_front(out: &mut [u8], v: &Row, kind: ClassKind, t: Texts) -> usize
 
 // The text of a reference.
 fn put_ref(out: &mut [u8], p: &Package, index: u64, kind: ClassKind) -> usize
-    requires { (class_code kind ≡ kind_by p.now.parts index) × (length (reference_text p.now.bytes.now index) ≤ length out.old) }
-    ensures { Wrote out.old (reference_text p.now.bytes.now index) out.new result }
+    requires { (class_code kind ≡ kind_by p.now.block.parts index) × (length (reference_text p.now.block.bytes.now index) ≤ length out.old) }
+    ensures { Wrote out.old (reference_text p.now.block.bytes.now index) out.new result }
 {
     let n = p.put_reference(&mut out[4..], index, kind);
     put_length(out, n) + n
@@ -69,15 +69,15 @@ fn put_ref(out: &mut [u8], p: &Package, index: u64, kind: ClassKind) -> usize
 
 // The texts of a row: names, class, native class, reference.
 fn put_texts(out: &mut [u8], src: &Source, p: &Package, v: &Row, kind: ClassKind, l: Led) -> Texts
-    requires class_kind { class_code kind ≡ kind_by p.now.parts v.now.class }
-    requires texts_room { TextsRoom src.now.corpus.now src.now.script.now src.now.objects src.now.limit src.now.work.now p.now.bytes.now p.now.parts v.now l
+    requires class_kind { class_code kind ≡ kind_by p.now.block.parts v.now.class }
+    requires texts_room { TextsRoom src.now.corpus.now src.now.script.now src.now.objects src.now.limit src.now.work.now p.now.block.bytes.now p.now.block.parts v.now l
         out.old }
     ensures { (o : Objects) (xs : List Class) (lookups id i : ℕ)
-        → RowDue src.now.corpus.now src.now.script.now src.now.objects src.now.limit src.now.work.now p.now.bytes.now p.now.parts v.now l o xs lookups id i
-        → length (row_texts (row_no (limits_of lookups src.now.limit) xs o id p.now.bytes.now i)) ≤ length out.old
-        → TextsPut (row_no (limits_of lookups src.now.limit) xs o id p.now.bytes.now i) out.old out.new result }
+        → RowDue src.now.corpus.now src.now.script.now src.now.objects src.now.limit src.now.work.now p.now.block.bytes.now p.now.block.parts v.now l o xs lookups id i
+        → length (row_texts (row_no (limits_of lookups src.now.limit) xs o id p.now.block.bytes.now i)) ≤ length out.old
+        → TextsPut (row_no (limits_of lookups src.now.limit) xs o id p.now.block.bytes.now i) out.old out.new result }
 {
-    let first = put_names(out, p.bytes, v);
+    let first = put_names(out, p.block.bytes, v);
     let both = put_both(&mut out[first..], src, l);
     let second = first + both.size;
     let size = second + put_ref(&mut out[second..], p, v.class, kind);
@@ -90,16 +90,16 @@ fn put_texts(out: &mut [u8], src: &Source, p: &Package, v: &Row, kind: ClassKind
 
 // A row of a package: v is the candidate, l where its class index leads.
 pub fn put_row(out: &mut [u8], src: &Source, p: &Package, v: &Row, l: Led) -> usize
-    requires { RowRoom src.now.corpus.now src.now.script.now src.now.objects src.now.limit src.now.work.now p.now.bytes.now p.now.parts v.now l out.old }
-    ensures { (o : Objects) (xs : List Class) (lookups id i : ℕ) → i < p.now.parts.count
-        → candidate_number v.now.kind ≡ candidate_kind (read_in p.now.bytes.now) (export_no p.now.bytes.now i)
-        → v.now ≡ row_in p.now.bytes.now p.now.parts v.now.kind i
+    requires { RowRoom src.now.corpus.now src.now.script.now src.now.objects src.now.limit src.now.work.now p.now.block.bytes.now p.now.block.parts v.now l out.old }
+    ensures { (o : Objects) (xs : List Class) (lookups id i : ℕ) → i < p.now.block.parts.count
+        → candidate_number v.now.kind ≡ candidate_kind (read_in p.now.block.bytes.now) (export_no p.now.block.bytes.now i)
+        → v.now ≡ row_in p.now.block.bytes.now p.now.block.parts v.now.kind i
         → Target src.now.corpus.now src.now.script.now o src.now.objects xs lookups src.now.limit src.now.work.now
-        (ref_in (package_in id p.now.bytes.now) (export_no p.now.bytes.now i).class) l
-        → length (row_for (limits_of lookups src.now.limit) xs o id p.now.bytes.now i) ≤ length out.old
-        → Wrote out.old (row_for (limits_of lookups src.now.limit) xs o id p.now.bytes.now i) out.new result }
+        (ref_in (package_in id p.now.block.bytes.now) (export_no p.now.block.bytes.now i).class) l
+        → length (row_for (limits_of lookups src.now.limit) xs o id p.now.block.bytes.now i) ≤ length out.old
+        → Wrote out.old (row_for (limits_of lookups src.now.limit) xs o id p.now.block.bytes.now i) out.new result }
 {
-    let kind = p.parts.kind_of(v.class);
+    let kind = p.block.parts.kind_of(v.class);
     let t = put_texts(&mut out[10..], src, p, v, kind, l);
     put_front(out, v, kind, t) + t.size
 }

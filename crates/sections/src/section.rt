@@ -2,7 +2,6 @@
 ghost use Rattle.std.specs.Prelude.{◌≡◌, ℕ, ◌+◌, ◌*◌, ◌^◌, ◌≤◌, ◌<◌, length, drop};
 ghost use Rattle.base.specs.Output.{Wrote};
 ghost use Rattle.base.specs.Reading.{gives, run_block};
-ghost use Rattle.batch.specs.Notes.{note_count};
 ghost use Rattle.scriptblock.specs.Script.{Objects};
 ghost use Rattle.zen.specs.Zen.{package_block};
 ghost use Rattle.meaning.specs.Scan.{candidate_kind};
@@ -19,15 +18,12 @@ use super::ahead::look_ahead;
 use super::row::put_row;
 use super::source::Source;
 use base::output::{put_be32, put_be64, put_byte};
-use batch::notes::{NOTES, note_names};
 use batch::texts::put_place_text;
-use packages::block::Package;
+use packages::block::{Block, Package, PackageNotes};
 use packages::frame::{block_at, id_at, next_at};
-use packages::package::parts_of;
 use packages::rows::Candidate;
-use resolve::marks::{kind_in, mark_at, step_of};
+use resolve::marks::{candidate_in, mark_at, step_of};
 use resolve::rows::led_at;
-use zen::layout::layout_of;
 
 // How many bytes were written, and how many rows they have.
 #[derive(Clone, Copy)]
@@ -47,16 +43,8 @@ fn behind(n: usize, z: Section) -> Section
     }
 }
 
-// The kind of candidate with a number, none for any other number.
-fn candidate_of(kind: u8) -> Option<Candidate>
-    ensures { kind ≤ 2 → candidate_number result ≡ kind }
-{
-    match kind {
-        1 => Some(Candidate::Variable),
-        2 => Some(Candidate::Subobject),
-        _ => None,
-    }
-}
+// Kept: step, first and all are parameters: the first is worked out by `put_section`, the second by `put_sections`, so that a struct would be made anew for
+// each package.
 
 // The row of export i of a package, a candidate of that kind: row r is its.
 fn put_export(
@@ -67,13 +55,13 @@ fn put_export(
     kind: Option<Candidate>,
     r: usize,
 ) -> usize
-    requires inside { i < p.now.parts.count }
-    requires kind_value { candidate_number kind ≡ candidate_kind (read_in p.now.bytes.now) (export_no p.now.bytes.now i) }
+    requires inside { i < p.now.block.parts.count }
+    requires kind_value { candidate_number kind ≡ candidate_kind (read_in p.now.block.bytes.now) (export_no p.now.block.bytes.now i) }
     requires by_index { (id : ℕ) × (h : How)
-        × ExportRoom src.now.corpus.now src.now.script.now src.now.objects src.now.work.now src.now.limit r id p.now.bytes.now i out.old h }
-    ensures { ExportPut src.now.corpus.now src.now.script.now src.now.objects src.now.work.now src.now.limit r p.now.bytes.now i out.old out.new result }
+        × ExportRoom src.now.corpus.now src.now.script.now src.now.objects src.now.work.now src.now.limit r id p.now.block.bytes.now i out.old h }
+    ensures { ExportPut src.now.corpus.now src.now.script.now src.now.objects src.now.work.now src.now.limit r p.now.block.bytes.now i out.old out.new result }
 {
-    let v = p.block().row(p.names, i, kind);
+    let v = p.row(i, kind);
     let l = led_at(src.rest(), r);
     put_row(out, src, p, &v, l)
 }
@@ -88,11 +76,11 @@ fn put_each(
     all: usize,
 ) -> Section
     requires by_index { (id : ℕ) × (h : How)
-        × EachRoom src.now.corpus.now src.now.script.now src.now.objects src.now.work.now src.now.limit first id p.now.bytes.now out.old h }
-    requires rows_marked { RowsMarked src.now.objects src.now.work.now p.now.bytes.now step first all × (step + p.now.parts.count < 2 ^ 29) }
-    ensures { EachPut src.now.corpus.now src.now.script.now src.now.objects src.now.work.now src.now.limit first p.now.bytes.now out.old out.new result }
+        × EachRoom src.now.corpus.now src.now.script.now src.now.objects src.now.work.now src.now.limit first id p.now.block.bytes.now out.old h }
+    requires rows_marked { RowsMarked src.now.objects src.now.work.now p.now.block.bytes.now step first all × (step + p.now.block.parts.count < 2 ^ 29) }
+    ensures { EachPut src.now.corpus.now src.now.script.now src.now.objects src.now.work.now src.now.limit first p.now.block.bytes.now out.old out.new result }
 {
-    let end = 4 * (step + p.parts.count);
+    let end = 4 * (step + p.block.parts.count);
     let mut size: usize = 0;
     for r in first..all {
         let mark = mark_at(src.rest(), r);
@@ -102,8 +90,14 @@ fn put_each(
                 rows: r - first,
             };
         }
-        let kind = candidate_of(kind_in(mark));
-        size += put_export(&mut out[size..], src, p, mark / 4 - step, kind, r);
+        size += put_export(
+            &mut out[size..],
+            src,
+            p,
+            mark / 4 - step,
+            candidate_in(mark),
+            r,
+        );
     }
     Section {
         size,
@@ -120,11 +114,11 @@ fn put_rows(
     first: usize,
     all: usize,
 ) -> Section
-    requires few { p.now.parts.count < 2 ^ 32 }
+    requires few { p.now.block.parts.count < 2 ^ 32 }
     requires by_index { (id : ℕ) × (h : How)
-        × RowsRoom src.now.corpus.now src.now.script.now src.now.objects src.now.work.now src.now.limit first id p.now.bytes.now out.old h }
-    requires rows_marked { RowsMarked src.now.objects src.now.work.now p.now.bytes.now step first all × (step + p.now.parts.count < 2 ^ 29) }
-    ensures { RowsPut src.now.corpus.now src.now.script.now src.now.objects src.now.work.now src.now.limit first p.now.bytes.now out.old out.new result }
+        × RowsRoom src.now.corpus.now src.now.script.now src.now.objects src.now.work.now src.now.limit first id p.now.block.bytes.now out.old h }
+    requires rows_marked { RowsMarked src.now.objects src.now.work.now p.now.block.bytes.now step first all × (step + p.now.block.parts.count < 2 ^ 29) }
+    ensures { RowsPut src.now.corpus.now src.now.script.now src.now.objects src.now.work.now src.now.limit first p.now.block.bytes.now out.old out.new result }
 {
     let z = put_each(&mut out[4..], src, p, step, first, all);
     let k = put_be32(out, z.rows as u32);
@@ -133,13 +127,13 @@ fn put_rows(
 
 // What stands before the rows: id, name, export count.
 fn put_head(out: &mut [u8], p: &Package, id: u64) -> usize
-    requires { (p.now.parts.count < 2 ^ 32) × (length (head_of (package_in id p.now.bytes.now)) ≤ length out.old) }
-    ensures { Wrote out.old (head_of (package_in id p.now.bytes.now)) out.new result }
+    requires { (p.now.block.parts.count < 2 ^ 32) × (length (head_of (package_in id p.now.block.bytes.now)) ≤ length out.old) }
+    ensures { Wrote out.old (head_of (package_in id p.now.block.bytes.now)) out.new result }
 {
-    let home = p.block().home(p.names);
+    let home = p.home();
     let k = put_be64(out, id);
-    let n = k + put_place_text(&mut out[k..], p.bytes, home.place, home.number);
-    n + put_be32(&mut out[n..], p.parts.count as u32)
+    let n = k + put_place_text(&mut out[k..], p.block.bytes, home);
+    n + put_be32(&mut out[n..], p.block.parts.count as u32)
 }
 
 // The section of the package at a place, whose first row is row `first` of `all`, if it has any.
@@ -149,30 +143,19 @@ fn put_section(
     at: usize,
     first: usize,
     all: usize,
-    names: &mut [u32; NOTES],
-    imported: &mut [u32; NOTES],
+    notes: &mut PackageNotes,
 ) -> Section
     requires site { Site src.now.corpus.now at (block_at src.now.corpus.now at)
-        × (run_block package_block (block_at src.now.corpus.now at) ≡ gives (read_in (block_at src.now.corpus.now at)))
-        × (length names.old ≡ note_count) × (length imported.old ≡ note_count) }
+        × (run_block package_block (block_at src.now.corpus.now at) ≡ gives (read_in (block_at src.now.corpus.now at))) }
     requires section_room { (h : How)
         × SectionRoom src.now.corpus.now src.now.script.now src.now.objects src.now.work.now src.now.limit first at out.old h }
     requires rows_marked { RowsMarked src.now.objects src.now.work.now (block_at src.now.corpus.now at) (first_step src.now.corpus.now at) first all }
     ensures is { SectionPut src.now.corpus.now src.now.script.now src.now.objects src.now.work.now src.now.limit first at out.old out.new result }
-    ensures notes { (length names.new ≡ note_count) × (length imported.new ≡ note_count) }
 {
-    let b = block_at(src.corpus, at);
-    let parts = parts_of(layout_of(b));
-    note_names(b, parts.names, names);
-    note_names(b, parts.imported, imported);
-    let p = Package {
-        bytes: b,
-        parts,
-        names: &*names,
-        imported: &*imported,
-    };
+    let b = Block::of(block_at(src.corpus, at));
+    let p = Package::noted(b, notes);
     let k = put_head(out, &p, id_at(src.corpus, at));
-    let step = step_of(at, parts.exports);
+    let step = step_of(at, b.parts.exports);
     let z = put_rows(&mut out[k..], src, &p, step, first, all);
     behind(k, z)
 }
@@ -184,11 +167,9 @@ fn put_sections(
     from: usize,
     count: usize,
     all: usize,
-    names: &mut [u32; NOTES],
-    imported: &mut [u32; NOTES],
+    notes: &mut PackageNotes,
 ) -> usize
-    requires sites { Sites src.now.corpus.now from count × AllRead src.now.corpus.now from count
-        × (length names.old ≡ note_count) × (length imported.old ≡ note_count) }
+    requires sites { Sites src.now.corpus.now from count × AllRead src.now.corpus.now from count }
     requires sections_room { (h : How)
         × SectionsRoom src.now.corpus.now src.now.script.now src.now.objects src.now.work.now src.now.limit from count out.old h }
     requires marks_in { MarksIn (marks_in src.now.corpus.now from count) (drop (48 * src.now.objects) src.now.work.now)
@@ -200,8 +181,8 @@ fn put_sections(
     let mut ahead: usize = 0;
     let mut at = from;
     for _ in 0..count {
-        ahead = look_ahead(src, rows, ahead, all, names);
-        let z = put_section(&mut out[size..], src, at, rows, all, names, imported);
+        ahead = look_ahead(src, rows, ahead, all, &mut notes.names);
+        let z = put_section(&mut out[size..], src, at, rows, all, notes);
         size += z.size;
         rows += z.rows;
         at = next_at(src.corpus, at);
@@ -226,11 +207,9 @@ pub fn put_report(
     at: usize,
     count: usize,
     rows: usize,
-    names: &mut [u32; NOTES],
-    imported: &mut [u32; NOTES],
+    notes: &mut PackageNotes,
 ) -> usize
-    requires sites { Sites src.now.corpus.now at count × AllRead src.now.corpus.now at count × (count < 2 ^ 32)
-        × (length names.old ≡ note_count) × (length imported.old ≡ note_count) }
+    requires sites { Sites src.now.corpus.now at count × AllRead src.now.corpus.now at count × (count < 2 ^ 32) }
     requires report_room { ReportRoom src.now.corpus.now src.now.script.now src.now.objects at count src.now.limit src.now.work.now out.old }
     requires marks_in { MarksIn (marks_in src.now.corpus.now at count) (drop (48 * src.now.objects) src.now.work.now)
         × (length (marks_in src.now.corpus.now at count) ≡ rows) }
@@ -238,7 +217,7 @@ pub fn put_report(
         → length (report_at (limits_of lookups src.now.limit) o src.now.corpus.now at count) ≤ length out.old
         → Wrote out.old (report_at (limits_of lookups src.now.limit) o src.now.corpus.now at count) out.new result }
 {
-    let size = put_sections(&mut out[9..], src, at, count, rows, names, imported);
+    let size = put_sections(&mut out[9..], src, at, count, rows, notes);
     put_front(out, (size + 5) as u32, count as u32);
     size + 9
 }

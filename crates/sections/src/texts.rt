@@ -29,7 +29,7 @@ pub fn put_length(out: &mut [u8], n: usize) -> usize
 }
 
 // A text, `?` where it is unknown: how many bytes it takes with its length, and whether it is known.
-// Kept: no Option, since an unknown text takes bytes too; the same of Texts.
+// Kept: no Option, here and in Texts, since an unknown text takes bytes too: of an `Option<usize>` each caller would say `t.unwrap_or(5)`.
 #[derive(Clone, Copy)]
 pub struct Told {
     pub size: usize,
@@ -58,7 +58,7 @@ fn compose_native(out: &mut [u8], src: &Source, l: Led) -> Told
         → Put (native_text (limits_of lookups src.now.limit) xs o r) out.old out.new result }
 {
     let u = l.object;
-    if u.outer == 0 {
+    if u.is_missing() {
         return put_unknown(out);
     }
     match put_path(&mut out[4..], src.script, src.front(), u, src.limit) {

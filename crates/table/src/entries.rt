@@ -17,6 +17,7 @@ pub fn record_at(n: usize, stride: usize, k: usize) -> usize
 }
 
 // Makes a table of n buckets with no entry.
+// Kept: one call of the library, by the buckets that a table has.
 pub fn clear(w: &mut [u8], n: usize)
     requires { 4 * n ≤ length w.old }
     ensures { w.new ≡ cleared n w.old }

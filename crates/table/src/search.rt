@@ -5,7 +5,9 @@ ghost use Rattle.base.specs.OneMore.{one_more};
 ghost use Rattle.table.specs.Tree.{bucket, turn};
 ghost use Rattle.table.specs.Table.{Holds, Table, Ended};
 
-// Kept: lo and hi are two parameters: with a struct a call reads look_up(w, n, stride, Key { lo: 0, hi: index }), which is no plainer.
+// Kept: lo and hi are two parameters: with a struct a call reads `look_up(w, n, stride, Key { lo: 0, hi: index })`, and `has_key(w, at, key: Key)` makes a
+// key for each record, `Key { lo: get64(w, at + 8), hi: get64(w, at + 16) } == key`, for `get64(w, at + 8) == lo && get64(w, at + 16) == hi`. One caller,
+// resolve's `class_at`, has such a struct already, and three have not.
 // Kept: so are w, n and stride: between two calls the caller writes its own columns of w, and would make the struct anew for each call.
 
 use super::entries::record_at;
@@ -29,6 +31,7 @@ fn has_key(w: &[u8], at: usize, lo: u64, hi: u64) -> bool
 }
 
 // The side to go to after so many turns, 0 left, 1 right: the bits of hi come first, then those of lo.
+// Kept: a number, by which a record's links are counted: with a bool the place reads `at + 4 * usize::from(turn(lo, hi, depth))`.
 fn turn(lo: u64, hi: u64, depth: usize) -> usize
     requires { depth < 128 }
     ensures is { result ≡ turn depth lo hi }
@@ -42,6 +45,7 @@ fn turn(lo: u64, hi: u64, depth: usize) -> usize
 }
 
 // The entry that the link at a place leads to.
+// Kept: in a record a link is the entry's number and 1, and 0 is none, since it has four lent bytes; from here on it is an Option.
 fn entry_at(w: &[u8], place: usize) -> Option<usize>
     requires { place + 4 ≤ length w.now }
     ensures { one_more result ≡ le_at 4 w.now place }
@@ -58,6 +62,7 @@ pub struct Spot {
 
 // Searches for the key, whatever entries the table holds. depth counts the turns, at most 128. The bits of hi come first: the classes of a package
 // have one id, lo, and differ in hi alone.
+// Kept: depth is counted by hand, since the records say when the search ends: `for depth in 0..128` would want an answer for when all turns were made.
 pub fn search(w: &[u8], n: usize, stride: usize, lo: u64, hi: u64) -> Spot
     requires { Table n stride w.now × (0 < n) }
     ensures { (k : ℕ) (los his : ℕ → ℕ) → Holds n stride k los his w.now

@@ -2,7 +2,7 @@
 use Rattle.std.specs.Prelude.{◌≡◌, refl, Bool, true, false, cond, ◌&&◌, List, [], ◌∷◌, ◌++◌, ℕ, zero, suc, ◌+◌, ◌*◌, ◌-◌, ◌/◌, ◌%◌, ◌^◌, ◌≤◌, ◌<◌, leb, ltb, length}
 use Rattle.std.proofs.Common.{ap, sym, ◌∙◌, sub-one, arith, lt-ltb, le-ltb, le-leb, ltb-true, ltb-false, length-append}
 use Rattle.std.proofs.Math.Bool.{and-eq-true_iff}
-use Rattle.std.proofs.Math.Nat.{pow-succ'}
+use Rattle.std.proofs.Math.Nat.{pow-succ', one-le-pow}
 use Rattle.text.specs.Affix.{all_ascii}
 use Rattle.text.specs.Digits.{digits, decimal, hex_digit, hex}
 
@@ -36,6 +36,15 @@ decimal-more n h l =
 
 pub decimal-length : (n : ℕ) → 10 ≤ n → n < 2 ^ 64 → length (decimal n) ≡ length (decimal (n / 10)) + 1
 decimal-length n h l = rw (← decimal-more n h l) (simp length-append)
+
+-- k + 1 digits from 10 ^ k on
+pub decimal-size : (k n : ℕ) → n < 2 ^ 64 → 10 ^ k ≤ n → n < 10 * 10 ^ k → length (decimal n) ≡ k + 1
+decimal-size zero n l h m = let o : n < 10 = omega arith in rw (decimal-last o)
+decimal-size (suc k) n l h m =
+    let p : 10 ^ suc k ≡ 10 * 10 ^ k = pow-succ' 10 k in
+    let q : 0 < 10 ^ k = one-le-pow k 10 (omega arith) in
+    let o : 10 ≤ n = omega arith in
+    decimal-length n o l ∙ omega (arith, decimal-size k (n / 10) (omega arith) (omega arith) (omega arith))
 
 -- two digits at a time
 pub decimal-two : (n : ℕ) → 10 ≤ n → n < 100 → decimal n ≡ (48 + n / 10) ∷ (48 + n % 10) ∷ []

@@ -7,16 +7,11 @@ ghost use Rattle.text.specs.Digits.{decimal, hex_digit, hex};
 pub fn decimal_len(n: u64) -> usize
     ensures { (result ≡ length (decimal n)) × (result ≤ 20) }
 {
-    let mut rest = n;
-    let mut count: usize = 1;
-    while 10 <= rest {
-        rest = rest / 10;
-        count += 1;
-    }
-    count
+    n.checked_ilog10().map_or(1, |k| 1 + k as usize)
 }
 
 // A number in decimal.
+// Kept: digits by hand, here and in `put_hex`: `write!` answers a Result, and this can't fail; what is written is a clause on the bytes.
 pub fn put_decimal(out: &mut [u8], n: u64) -> usize
     requires { length (decimal n) ≤ length out.old }
     ensures { Wrote out.old (decimal n) out.new result }

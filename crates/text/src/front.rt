@@ -8,6 +8,7 @@ use super::text::Part;
 use base::number::le64;
 
 // The low byte of unit i.
+// Kept: a remainder, since a cast has to fit: `part.unit(i).to_le_bytes()[0]` makes four bytes of which one counts.
 fn low(part: Part, i: usize) -> u8
     requires { i < length (units_in part) }
     ensures { result ≡ get_or (units_in part.entry) i 0 % 256 }
@@ -34,6 +35,7 @@ pub fn put_low(out: &mut [u8], part: Part, i: usize)
     out[..8].copy_from_slice(&bytes);
 }
 
+// Kept: two functions: one for both would be told mask, scale and divisor, as `front_of(le64(bytes, 2 * i), 0xFF80_FF80_FF80_FF80, 16)`.
 // How many of the eight bytes from a place on are ASCII before one that is not: none of them has its highest bit set.
 fn byte_front(bytes: &[u8], i: usize) -> usize
     requires { i + 8 ≤ length bytes.now }

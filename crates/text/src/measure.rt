@@ -1,31 +1,17 @@
 // How many bytes of UTF-8 a text takes, by its units alone: none is decoded, and what each takes is a sum of tests without a branch, so that the
 // compiler can take many units a turn.
-ghost use Rattle.std.specs.Prelude.{◌≡◌, cond, ◌+◌, ◌*◌, ◌^◌, ◌≤◌, ◌<◌, ltb, length, drop};
+ghost use Rattle.std.specs.Prelude.{◌≡◌, ◌+◌, ◌*◌, ◌^◌, ◌≤◌, ◌<◌, length, drop};
 ghost use Rattle.text.specs.Units.{units_in};
-ghost use Rattle.text.specs.UnitLength.{is_single, unit_length, units_length};
+ghost use Rattle.text.specs.UnitLength.{unit_length, units_length};
 
 use super::text::Part;
 use super::utf16::is_single;
-
-// 1 for a unit below a limit.
-fn below(u: u32, limit: u32) -> u16
-    ensures { (result ≡ cond (ltb u limit) 1 0) × (result ≤ 1) }
-{
-    u16::from(u < limit)
-}
-
-// 1 for a surrogate.
-fn surrogate(u: u32) -> u16
-    ensures { (result ≡ cond (is_single u) 0 1) × (result ≤ 1) }
-{
-    u16::from(!is_single(u))
-}
 
 // How far a unit falls short of three bytes.
 fn unit_short(u: u32) -> u16
     ensures { result + unit_length u ≡ 3 }
 {
-    below(u, 0x80) + below(u, 0x800) + surrogate(u)
+    u16::from(u < 0x80) + u16::from(u < 0x800) + u16::from(!is_single(u))
 }
 
 // How many bytes n units from a place on take. They are added up in 16 bits, the width of a unit, and are few enough for that.

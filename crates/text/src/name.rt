@@ -15,6 +15,9 @@ use super::utf8::put_utf8;
 use super::utf16::scalar_at;
 use base::output::put_be32;
 
+// Kept: a text and a number are two parameters, here, in plain.rt and in ids: batch and zen make the text in the call,
+// `name_len(text_of(b, n.place), n.number)`; of a struct they would say `name_len(Numbered { text: text_of(b, n.place), number: n.number })`.
+
 // How many bytes of UTF-8 the base takes.
 pub fn base_len(text: Text) -> usize
     requires { length text.part.bytes.now < 2 ^ 32 }
@@ -31,6 +34,7 @@ struct Run {
 }
 
 // The bytes of the units from a place on, scalar value by scalar value: of all of them, or of those before the first that is ASCII.
+// Kept: a `while`, here and in `put_base`, since each step says where the next begins, and what follows the loop asks where it ended.
 fn put_scalars<const ALL: bool>(out: &mut [u8], part: Part, from: usize) -> Run
     requires { (from ≤ length (units_in part)) × (well_from (units_in part) from ≡ true)
         × (length (bytes_from (units_in part) from) ≤ length out.old) }

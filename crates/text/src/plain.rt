@@ -51,6 +51,8 @@ fn is_ends(part: &[u8]) -> bool
 
 // Whether bytes are all ASCII, sixteen a turn; the last sixteen may have some of those before them. Lengths up to 32 have no turns, since a
 // turn more or less is a branch that can't be foreseen.
+// Kept: by hand, of `is_word`, beside the library's `is_ascii`: it takes 6.3 ns for 12.3 at 1 to 7 bytes, 2.7 for 4.2 at 12, and 4.3 for 5.5 at 5 to 30,
+// though 6.8 for 3.8 at 33 to 60.
 pub fn is_plain(part: &[u8]) -> bool
     ensures { result ≡ all_ascii part.now }
 {
@@ -70,6 +72,8 @@ pub fn is_plain(part: &[u8]) -> bool
 }
 
 // The eight bytes of src from a place on, to the same place, as one word.
+// Kept: two functions, and a word: `put_at::<N>` by `out[at..at + N].copy_from_slice(&src[at..at + N])` was proved, and with it a name of 12 bytes was measured
+// and written in 12.4 ns for 10.7, one of 20 bytes in 12.3 for 11.2.
 fn put_eight(out: &mut [u8], src: &[u8], at: usize)
     requires { (at + 8 ≤ length src.now) × (at + 8 ≤ length out.old) }
     ensures { out.new ≡ paste out.old at (drop at src.now) 8 }
@@ -87,6 +91,8 @@ fn put_sixteen(out: &mut [u8], src: &[u8], at: usize)
 }
 
 // A few bytes, and whether they are all ASCII.
+// Kept: a loop by hand: `put_bytes(out, part); is_short(part)` was proved, but copies a length that isn't known by a call, and with it names of 1 to 7 bytes
+// were measured and written in 24.8 ns for 19.7.
 fn put_short(out: &mut [u8], part: &[u8]) -> bool
     requires { length part.now ≤ length out.old }
     ensures { (result ≡ all_ascii part.now) × Wrote out.old part.now out.new (length part.now) }
@@ -136,6 +142,9 @@ pub fn put_plain(out: &mut [u8], part: &[u8]) -> bool
     plain & is_pair(part, n - 16)
 }
 
+// Kept: that a text has less than 2^32 bytes is a `requires` of the few functions that count or hash it: `Text` is public, and as a ghost field of it this
+// would be asked of all who make one.
+
 // How many bytes of UTF-8 the base takes.
 pub fn base_len(text: Text) -> usize
     requires { length text.part.bytes.now < 2 ^ 32 }
@@ -171,6 +180,9 @@ pub fn put_base(out: &mut [u8], text: Text) -> usize
     }
     name::put_base(out, text)
 }
+
+// Kept: `name_len` and `put_name_text` here and in `name`: one of each would be handed the `base_len` or `put_name` to call, as
+// `name_len_by(base_len, text, number)`, for a line or two.
 
 // How many bytes of UTF-8 the rendered name takes.
 pub fn name_len(text: Text, number: u32) -> usize

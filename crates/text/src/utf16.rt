@@ -1,4 +1,4 @@
-// Scalar values of units (the Unicode Standard, D91).
+// Scalar values of units (the Unicode Standard, D91), and whether a part is a text.
 ghost use Rattle.std.specs.Prelude.{◌≡◌, true, ◌<◌, length, drop};
 ghost use Rattle.text.specs.Utf16.{is_well};
 ghost use Rattle.text.specs.Name.{decoded};
@@ -8,6 +8,7 @@ ghost use Rattle.text.specs.UnitLength.{is_single, all_single};
 use super::text::Part;
 
 // A scalar value, and how many units it takes: one or two.
+// Kept: apart from `Char { value, size }` of `decode`, which counts bytes of UTF-8: one type would leave open what is counted.
 #[derive(Clone, Copy)]
 pub struct Scalar {
     pub value: u32,
@@ -58,6 +59,7 @@ fn all_single(bytes: &[u8]) -> bool
 }
 
 // Whether the surrogates of wide text pair.
+// Kept: a `while`, since each scalar value says where the next begins.
 fn is_paired(bytes: &[u8]) -> bool
     ensures { result ≡ is_well (decoded true bytes.now) }
 {

@@ -1,4 +1,5 @@
 // What C sees of `textapi`, for tests and benchmarks in other languages. The functions and their clauses are those of `textapi`.
+// Kept: each function twice: a crate is a library or a static library, not both (the C interface).
 
 #![tactic(auto)]
 

@@ -1,4 +1,4 @@
-// The call.
+// The call that counts hashes and compares ids.
 ghost use Rattle.std.specs.Prelude.{◌≡◌, ◌*◌, ◌≤◌, length, Ok};
 ghost use Rattle.scriptblock.specs.ScriptAnswers.{opened};
 ghost use Rattle.meaning.specs.Verify.{verified};
@@ -10,13 +10,14 @@ ghost use Rattle.verify.specs.Steps.{Tallied, Passed, Answered};
 use super::counts::{Tally, count_linked, count_scanned};
 use super::output::put_output;
 use base::refusal::{Refusal, Refused};
-use batch::notes::{NOTES, note_names};
+use batch::notes::{NotedNames, Notes};
+use packages::block::PackageNotes;
 use scan::check::check_packages;
 use scan::repeats::repeat_block;
 use scan::script::Script;
-use scriptblock::script::{Layout, check_script, open_script};
+use scriptblock::script::{Layout, ScriptBlock, open_script};
 use walk::corpus::Corpus;
-use walk::script::enter_script;
+use walk::script::{ScriptObjects, enter_script};
 use walk::walk::{Entering, scan_packages};
 
 // "without limits of its own uses 64 lookups and 65 objects"; no class is looked up here.
@@ -36,34 +37,36 @@ fn finish(c: &Corpus, n: usize, t: Tally, out: &mut [u8]) -> Result<usize, Refus
     Ok(put_output(out, c.bytes, c.packages(), c.frame.count, n, t))
 }
 
+// Kept: corpus and script are two parameters, and that one is the other's is a `requires`, as in report: `compare(&Opened { c, s: &s }, t, out)`.
+
 // 24 by comparing each class with all before it, and the rest.
 fn compare(c: &Corpus, s: &Script, t: Tally, out: &mut [u8]) -> Result<usize, Refused>
-    requires { Packages c.now.bytes.now c.now.frame × (s.now.block.now ≡ c.now.script.now) × Tallied c.now.script.now t }
+    requires { Packages c.now.bytes.now c.now.frame × (s.now.block.bytes.now ≡ c.now.script.now) × (s.now.limit ≡ 65) × Tallied c.now.script.now t }
     ensures { Answered c.now.bytes.now out.old out.new (answer_number result) }
 {
-    if let Some(block) = repeat_block(c.bytes, c.packages(), c.frame.count, s, OBJECTS) {
+    if let Some(block) = repeat_block(c.bytes, c.packages(), c.frame.count, s) {
         return Err(Refused {
             why: Refusal::RepeatedClass,
             block,
         });
     }
-    finish(c, s.layout.count, t, out)
+    finish(c, s.block.layout.count, t, out)
 }
 
 // Where the work buffer has no room for the script objects: by looking at the corpus only.
 fn without_table(c: &Corpus, out: &mut [u8]) -> Result<usize, Refused>
     ensures { Answered c.now.bytes.now out.old out.new (answer_number result) }
 {
-    let layout = check_script(c.script).map_err(|why| Refused { why, block: 1 })?;
+    let block = ScriptBlock::open(c.script).map_err(|why| Refused { why, block: 1 })?;
     check_packages(c.bytes, c.packages(), c.frame.count)?;
-    let mut notes = [0u32; NOTES];
-    note_names(c.script, layout.names, &mut notes);
+    let mut notes = Notes::new();
+    let names = block.names(&mut notes);
     let s = Script {
-        block: c.script,
-        layout,
-        notes: &notes,
+        block,
+        names,
+        limit: OBJECTS,
     };
-    let t = count_scanned(&s, OBJECTS);
+    let t = count_scanned(&s);
     compare(c, &s, t, out)
 }
 
@@ -75,28 +78,30 @@ fn with_objects(
     t: Tally,
     out: &mut [u8],
 ) -> Result<usize, Refused>
-    requires { (s.now.block.now ≡ c.now.script.now) × Linked c.now.script.now s.now.layout.count w.old × Tallied c.now.script.now t }
+    requires { (s.now.block.bytes.now ≡ c.now.script.now) × (s.now.limit ≡ 65) × Linked c.now.script.now s.now.block.layout.count w.old
+        × Tallied c.now.script.now t }
     ensures { Answered c.now.bytes.now out.old out.new (answer_number result) }
 {
-    let mut names = [0u32; NOTES];
-    let mut imported = [0u32; NOTES];
+    let mut notes = PackageNotes::new();
+    let objects = ScriptObjects {
+        block: c.script,
+        count: s.block.layout.count,
+        limit: OBJECTS,
+    };
     let k = scan_packages(
         c.bytes,
         c.packages(),
         c.frame.count,
-        c.script,
+        &objects,
         w,
-        s.layout.count,
-        OBJECTS,
-        &mut names,
-        &mut imported,
+        &mut notes,
     )?;
     match k.state {
         Entering::Repeated(block) => Err(Refused {
             why: Refusal::RepeatedClass,
             block,
         }),
-        Entering::Open => finish(c, s.layout.count, t, out),
+        Entering::Open => finish(c, s.block.layout.count, t, out),
         Entering::Full => compare(c, s, t, out),
     }
 }
@@ -106,15 +111,15 @@ fn with_table(c: &Corpus, layout: Layout, w: &mut [u8], out: &mut [u8]) -> Resul
     requires { (opened c.now.script.now ≡ Ok layout) × (64 * layout.count ≤ length w.old) }
     ensures { Answered c.now.bytes.now out.old out.new (answer_number result) }
 {
-    let mut notes = [0u32; NOTES];
-    note_names(c.script, layout.names, &mut notes);
-    enter_script(c.script, layout, &notes, w).map_err(|why| Refused { why, block: 1 })?;
+    let mut notes = Notes::new();
+    let names = NotedNames::of(c.script, layout.names, &mut notes);
+    let block = enter_script(&names, layout, w).map_err(|why| Refused { why, block: 1 })?;
     let size = 48 * layout.count;
-    let t = count_linked(c.script, layout, &w[..size], OBJECTS);
+    let t = count_linked(&block, &w[..size], OBJECTS);
     let s = Script {
-        block: c.script,
-        layout,
-        notes: &notes,
+        block,
+        names,
+        limit: OBJECTS,
     };
     with_objects(c, &s, w, t, out)
 }

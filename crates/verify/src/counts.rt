@@ -1,18 +1,18 @@
 // How many paths of a script block are known, and how many of their hashes match.
-ghost use Rattle.std.specs.Prelude.{◌≡◌, ℕ, ◌^◌, ◌≤◌, ◌<◌, length, Ok};
+ghost use Rattle.std.specs.Prelude.{◌≡◌, ℕ, ◌^◌, ◌≤◌, ◌<◌, length};
 ghost use Rattle.base.specs.Reading.{gives, run};
 ghost use Rattle.scriptblock.specs.Script.{Objects, script};
-ghost use Rattle.scriptblock.specs.ScriptAnswers.{script_answer};
 ghost use Rattle.objects.specs.Numbers.{path_no};
 ghost use Rattle.objects.specs.Work.{LinkedOf};
 ghost use Rattle.hashes.specs.Hashed.{hashed_as};
 ghost use Rattle.verify.specs.Tallies.{tallied, tally_of};
 
 use base::index::index_value;
-use hashes::chain::{DEPTH, Link, NO_LINK};
+use batch::places::Name;
+use hashes::chain::{DEPTH, NO_NAME};
 use hashes::path::{path_hash, path_hash_by_scan};
 use scan::script::Script;
-use scriptblock::script::{Layout, entry_at};
+use scriptblock::script::ScriptBlock;
 
 // Paths resolved, and those whose hash matches.
 #[derive(Clone, Copy)]
@@ -39,43 +39,40 @@ impl Tally {
     }
 }
 
-// All objects of the block s, by the hash of each one's path, which is made in the lent array.
-fn count<F: Fn(usize, &mut [Link; DEPTH]) -> Option<u64>>(s: &[u8], l: Layout, hash: F) -> Tally
-    requires block { (script_answer (run script 0 s.now) ≡ Ok l) × (length s.now < 2 ^ 32) }
-    requires callable { (i : ℕ) (chain : _) → i < l.count → length chain.now ≡ 65 → F.pre hash i chain }
-    requires keeps { (i : ℕ) (chain chain' : _) (path : _) → F.post hash i chain path chain' → length chain'.now ≡ 65 }
-    ensures { (limit : ℕ) (o : Objects) → run script 0 s.now ≡ gives o
-        → ((i : ℕ) (chain chain' : _) (path : _) → i < l.count → F.post hash i chain path chain' → path ≡ hashed_as (path_no limit o i))
+// Kept: that a limit is DEPTH or less is a `requires`: of a `Limits` lookups would be said that nothing here reads.
+// All objects of a block, by the hash of each one's path, of at most `limit` objects, whose chain is made in the lent room.
+fn count<F: Fn(usize, &mut [Name]) -> Option<u64>>(s: &ScriptBlock, limit: usize, hash: F) -> Tally
+    requires block { (length s.now.bytes.now < 2 ^ 32) × (limit ≤ 65) }
+    requires callable { (i : ℕ) (room : _) → i < s.now.layout.count → length room.now ≡ limit → F.pre hash i room }
+    ensures { (o : Objects) → run script 0 s.now.bytes.now ≡ gives o
+        → ((i : ℕ) (room room' : _) (path : _) → i < s.now.layout.count → length room.now ≡ limit → F.post hash i room path room'
+        → path ≡ hashed_as (path_no limit o i))
         → result ≡ tally_of limit o }
 {
-    let mut chain = [NO_LINK; DEPTH];
+    let mut chain = [NO_NAME; DEPTH];
     let mut t = Tally {
         resolved: 0,
         matches: 0,
     };
-    for i in 0..l.count {
-        let e = entry_at(s, l, i);
-        t = t.with_object(e.global, hash(i, &mut chain));
+    for i in 0..s.layout.count {
+        let e = s.entry(i);
+        t = t.with_object(e.global, hash(i, &mut chain[..limit]));
     }
     t
 }
 
-// All objects of the block s, by the links in the work buffer w.
-pub fn count_linked(s: &[u8], l: Layout, w: &[u8], limit: usize) -> Tally
-    requires { (script_answer (run script 0 s.now) ≡ Ok l) × LinkedOf s.now w.now × (limit ≤ 65) × (length s.now < 2 ^ 32) }
-    ensures { (o : Objects) → run script 0 s.now ≡ gives o → result ≡ tally_of limit o }
+// All objects of a block, by the links in the work buffer w.
+pub fn count_linked(s: &ScriptBlock, w: &[u8], limit: usize) -> Tally
+    requires { LinkedOf s.now.bytes.now w.now × (limit ≤ 65) × (length s.now.bytes.now < 2 ^ 32) }
+    ensures { (o : Objects) → run script 0 s.now.bytes.now ≡ gives o → result ≡ tally_of limit o }
 {
-    count(s, l, |i, chain| path_hash(s, w, i, limit, chain))
+    count(s, limit, |i, room| path_hash(s.bytes, w, i, room))
 }
 
 // All objects of a block, each outer looked for among them.
-pub fn count_scanned(s: &Script, limit: usize) -> Tally
-    requires { (limit ≤ 65) × (length s.now.block.now < 2 ^ 32) }
-    ensures { (o : Objects) → run script 0 s.now.block.now ≡ gives o → result ≡ tally_of limit o }
+pub fn count_scanned(s: &Script) -> Tally
+    requires { (s.now.limit ≤ 65) × (length s.now.block.bytes.now < 2 ^ 32) }
+    ensures { (o : Objects) → run script 0 s.now.block.bytes.now ≡ gives o → result ≡ tally_of s.now.limit o }
 {
-    count(
-        s.block,
-        s.layout,
-        |i, chain| path_hash_by_scan(s, i, limit, chain),
-    )
+    count(&s.block, s.limit, |i, room| path_hash_by_scan(s, i, room))
 }

@@ -10,6 +10,9 @@ use super::counts::Tally;
 use super::flags::put_flags;
 use base::output::{put_be32, put_byte};
 
+// Kept: that no more match than are resolved is a `requires`, and no ghost field of Tally: the definitions make tallies (`tallied`, `tally_of`), and would
+// prove it of each. And the objects stand beside it: they are the layout's, and not counted.
+
 // Two counts.
 fn put_two(out: &mut [u8], first: u32, second: u32)
     requires { 8 ≤ length out.old }

@@ -3,7 +3,6 @@ ghost use Rattle.std.specs.Prelude.{true, false, List, ◌++◌, ◌≡◌, ℕ,
 ghost use Rattle.base.specs.Reading.{refused, gives, run_block};
 ghost use Rattle.base.specs.Refusal.{number};
 ghost use Rattle.base.specs.declared.refusal.Refused.{Refused};
-ghost use Rattle.batch.specs.Notes.{note_count, Noted};
 ghost use Rattle.scriptblock.specs.Script.{Objects};
 ghost use Rattle.zen.specs.Answers.{answer};
 ghost use Rattle.zen.specs.Zen.{package_block};
@@ -21,10 +20,10 @@ ghost use Rattle.walk.specs.Steps.{with_row, with_own, opened_as, closed_as, vis
 ghost use Rattle.walk.specs.declared.walk.Census.{Census};
 ghost use Rattle.walk.specs.declared.walk.Entering.TheVariants.{Open};
 
+use super::script::ScriptObjects;
 use base::refusal::Refused;
-use batch::notes::{NOTES, note_names};
 use batch::texts::place_len;
-use packages::block::{Block, Package};
+use packages::block::{Block, Package, PackageNotes};
 use packages::frame::{block_at, id_at, next_at};
 use packages::package::parts_of;
 use packages::rows::{Row, names_len};
@@ -34,6 +33,8 @@ use resolve::rows::put_words;
 use table::entries::clear;
 use zen::zen::{Layout, check_package};
 
+// Kept: no Result: where nothing more is entered the walk goes on, since every block is still checked, so that `Result<Census, Short>` would be carried from
+// package to package and taken apart at each, as `Ok(l) => match t { Ok(t) => scan_package(b, l, s, w, notes, v, t), short => short }`.
 // Whether all that was found is entered (Open). Else nothing more is: there is no room (Full), or a class's key stands twice (Repeated, with its block).
 #[derive(Clone, Copy, PartialEq, Eq)]
 pub enum Entering {
@@ -71,20 +72,18 @@ pub struct Visit {
 
 // How many bytes a row takes without its class and native class.
 fn row_len(p: &Package, v: &Row) -> usize
-    requires { RowHolds p.now.bytes.now v.now }
-    ensures { (result ≡ 34 + names_size p.now.bytes.now v.now + length (ref_bytes p.now.bytes.now v.now.class)) × (result ≤ row_most) }
+    requires { RowHolds p.now.block.bytes.now v.now }
+    ensures { (result ≡ 34 + names_size p.now.block.bytes.now v.now + length (ref_bytes p.now.block.bytes.now v.now.class)) × (result ≤ row_most) }
 {
-    let kind = p.parts.kind_of(v.class);
-    34 + names_len(p.bytes, v) + p.reference_len(v.class, kind)
+    let kind = p.block.parts.kind_of(v.class);
+    34 + names_len(p.block.bytes, v) + p.reference_len(v.class, kind)
 }
 
 // How many bytes a section takes without its rows.
-fn head_len(b: &Block, names: &[u32; NOTES]) -> usize
-    requires { Noted b.now.bytes.now b.now.parts.names names.now }
-    ensures { ((id : ℕ) → result ≡ head_size (package_in id b.now.bytes.now)) × (result ≤ head_most) }
+fn head_len(p: &Package) -> usize
+    ensures { ((id : ℕ) → result ≡ head_size (package_in id p.now.block.bytes.now)) × (result ≤ head_most) }
 {
-    let home = b.home(names);
-    20 + place_len(b.bytes, home.place, home.number)
+    20 + place_len(p.block.bytes, p.home())
 }
 
 // All is entered.
@@ -116,40 +115,39 @@ fn keep_row(
     i: usize,
     t: Census,
 ) -> Census
-    requires export { i < p.now.parts.count }
+    requires export { i < p.now.block.parts.count }
     requires open_value { (t.state ≡ Open) × (64 * n ≤ length w.old) × (t.classes < 2 ^ 32) × (t.rows < 2 ^ 32) × (t.size < 2 ^ 60) × (step < 2 ^ 29) }
     ensures state { (c d : List ℕ) (o : Objects) (f : Found) → State c d o n f t w.old
-        → State c d o n (with_row (package_in id p.now.bytes.now) i f) result w.new }
+        → State c d o n (with_row (package_in id p.now.block.bytes.now) i f) result w.new }
     ensures grown { (result.classes ≡ t.classes) × (result.rows ≤ t.rows + 1) × (result.size ≤ t.size + row_most) }
     ensures size { length w.new ≡ length w.old }
     ensures marks { (l : List ℕ) → Marked n l t w.old
-        → Marked n (l ++ export_marks (read_in p.now.bytes.now) step (export_no p.now.bytes.now i)) result w.new }
+        → Marked n (l ++ export_marks (read_in p.now.block.bytes.now) step (export_no p.now.block.bytes.now i)) result w.new }
 {
     let size = 48 * n;
-    let b = p.block();
-    let Some(kind) = b.candidate(p.names, i) else {
+    let Some(kind) = p.candidate(i) else {
         return t;
     };
     if w.len() / 64 <= n + t.classes + t.rows {
         return closed(t, Entering::Full);
     }
-    let v = b.row(p.names, i, Some(kind));
-    let m = b.meaning(p.imported, id, v.class);
-    put_words(&mut w[size..], t.rows, m, mark_of(step, kind.number()));
+    let v = p.row(i, Some(kind));
+    let m = p.meaning(id, v.class);
+    put_words(&mut w[size..], t.rows, m, mark_of(step, kind));
     let len = row_len(p, &v);
     opened(t.classes, t.rows + 1, t.size + len)
 }
 
 // Enters export i, which is a class, if there is room and no class before it has its key.
 fn keep_class(p: &Package, w: &mut [u8], n: usize, v: Visit, i: usize, t: Census) -> Census
-    requires export { (i < p.now.parts.count) × ((export_no p.now.bytes.now i).hash ≡ 0 → ⊥) }
+    requires export { (i < p.now.block.parts.count) × ((export_no p.now.block.bytes.now i).hash ≡ 0 → ⊥) }
     requires open_value { (t.state ≡ Open) × (64 * n ≤ length w.old) × Classes (4 * n) t.classes (drop (48 * n) w.old) × (0 < n)
         × (t.classes + 1 < 2 ^ 32) × (t.rows ≤ 2 ^ 32) }
-    ensures state { (c d : List ℕ) (o : Objects) (f : Found) → Visited c v p.now.bytes.now → State c d o n f t w.old
-        → State c d o n (with_own v.block (package_in v.id p.now.bytes.now) i f) result w.new }
+    ensures state { (c d : List ℕ) (o : Objects) (f : Found) → Visited c v p.now.block.bytes.now → State c d o n f t w.old
+        → State c d o n (with_own v.block (package_in v.id p.now.block.bytes.now) i f) result w.new }
     ensures grown { (result.classes ≤ t.classes + 1) × (result.rows ≡ t.rows) × (result.size ≡ t.size) }
     ensures size { length w.new ≡ length w.old }
-    ensures marks { (c d : List ℕ) (o : Objects) (f : Found) (l : List ℕ) → Visited c v p.now.bytes.now → State c d o n f t w.old → Marked n l t w.old
+    ensures marks { (c d : List ℕ) (o : Objects) (f : Found) (l : List ℕ) → Visited c v p.now.block.bytes.now → State c d o n f t w.old → Marked n l t w.old
         → Marked n l result w.new }
 {
     let size = 48 * n;
@@ -162,37 +160,38 @@ fn keep_class(p: &Package, w: &mut [u8], n: usize, v: Visit, i: usize, t: Census
     closed(t, Entering::Repeated(v.block))
 }
 
-// Export i, which stands in a step of the corpus: its row, if it is a candidate, and its class, if it is one; s is the script block.
-// Kept: (s, w, n, limit) as they are: w is lent to be written, so a struct of them would be made anew at each call (`Work { w: &mut *x.w, ..*x }`).
+// Export i, which stands in a step of the corpus: its row, if it is a candidate, and its class, if it is one.
+// Kept: the work buffer apart from the objects in it: of a struct with a `&mut` in it each of these functions would ensure, beside all that it does, that it
+// still holds the same buffer, as `x.new.w.ghost_name ≡ x.old.w.ghost_name`. That its length stays is said of each for the same reason: no type says it.
+// Kept: package, visit and step are parameters: `keep_row` reads id and step, `keep_class` place, id and block; of a struct each would take what it does not
+// read. Bounds of a census are a `requires`: they hang on what is still to come (`row_most * count`), which a ghost field can't name.
 fn scan_export(
     p: &Package,
-    s: &[u8],
+    s: &ScriptObjects,
     w: &mut [u8],
-    n: usize,
-    limit: usize,
     v: Visit,
     step: usize,
     i: usize,
     t: Census,
 ) -> Census
-    requires export { i < p.now.parts.count }
-    requires open_value { (t.state ≡ Open) × SomeState s.now n v p.now.bytes.now t w.old × (t.classes + 1 < 2 ^ 32) × (t.rows < 2 ^ 32)
+    requires export { i < p.now.block.parts.count }
+    requires open_value { (t.state ≡ Open) × SomeState s.now.block.now s.now.count v p.now.block.bytes.now t w.old × (t.classes + 1 < 2 ^ 32) × (t.rows < 2 ^ 32)
         × (t.size < 2 ^ 60) × (step < 2 ^ 29) }
-    ensures state { (c : List ℕ) (o : Objects) (f : Found) → Visited c v p.now.bytes.now → State c s.now o n f t w.old
-        → State c s.now o n (with_export limit o v.block (package_in v.id p.now.bytes.now) i f) result w.new }
+    ensures state { (c : List ℕ) (o : Objects) (f : Found) → Visited c v p.now.block.bytes.now → State c s.now.block.now o s.now.count f t w.old
+        → State c s.now.block.now o s.now.count (with_export s.now.limit o v.block (package_in v.id p.now.block.bytes.now) i f) result w.new }
     ensures grown { Grown 1 t result }
     ensures size { length w.new ≡ length w.old }
-    ensures marks { (l : List ℕ) → Marked n l t w.old
-        → Marked n (l ++ export_marks (read_in p.now.bytes.now) step (export_no p.now.bytes.now i)) result w.new }
+    ensures marks { (l : List ℕ) → Marked s.now.count l t w.old
+        → Marked s.now.count (l ++ export_marks (read_in p.now.block.bytes.now) step (export_no p.now.block.bytes.now i)) result w.new }
 {
-    let size = 48 * n;
-    let r = keep_row(p, w, n, v.id, step, i, t);
+    let size = 48 * s.count;
+    let r = keep_row(p, w, s.count, v.id, step, i, t);
     if !r.is_open() {
         return r;
     }
-    let e = p.block().export(i);
-    if is_class(s, &w[..size], e, limit) {
-        return keep_class(p, w, n, v, i, r);
+    let e = p.block.export(i);
+    if is_class(s.block, &w[..size], e, s.limit) {
+        return keep_class(p, w, s.count, v, i, r);
     }
     r
 }
@@ -200,30 +199,28 @@ fn scan_export(
 // All exports of a package, the first of which stands in a step of the corpus, as long as there is room.
 fn scan_exports(
     p: &Package,
-    s: &[u8],
+    s: &ScriptObjects,
     w: &mut [u8],
-    n: usize,
-    limit: usize,
     v: Visit,
     step: usize,
     before: Census,
 ) -> Census
-    requires some_state { SomeState s.now n v p.now.bytes.now before w.old × (before.classes + p.now.parts.count < 2 ^ 32)
-        × (before.rows + p.now.parts.count < 2 ^ 32) × (before.size + row_most * p.now.parts.count < 2 ^ 60) × (step + p.now.parts.count < 2 ^ 29) }
-    ensures state { (c : List ℕ) (o : Objects) (f : Found) → Visited c v p.now.bytes.now
-        → State c s.now o n (with_exports limit o v.block (package_in v.id p.now.bytes.now) 0 f) before w.old
-        → State c s.now o n (with_package limit o v.block (package_in v.id p.now.bytes.now) f) result w.new }
-    ensures grown { Grown p.now.parts.count before result }
+    requires some_state { SomeState s.now.block.now s.now.count v p.now.block.bytes.now before w.old × (before.classes + p.now.block.parts.count < 2 ^ 32)
+        × (before.rows + p.now.block.parts.count < 2 ^ 32) × (before.size + row_most * p.now.block.parts.count < 2 ^ 60) × (step + p.now.block.parts.count < 2 ^ 29) }
+    ensures state { (c : List ℕ) (o : Objects) (f : Found) → Visited c v p.now.block.bytes.now
+        → State c s.now.block.now o s.now.count (with_exports s.now.limit o v.block (package_in v.id p.now.block.bytes.now) 0 f) before w.old
+        → State c s.now.block.now o s.now.count (with_package s.now.limit o v.block (package_in v.id p.now.block.bytes.now) f) result w.new }
+    ensures grown { Grown p.now.block.parts.count before result }
     ensures size { length w.new ≡ length w.old }
-    ensures marks { (l : List ℕ) → Marked n l before w.old
-        → Marked n (l ++ marks_from (read_in p.now.bytes.now) step (read_in p.now.bytes.now).exports) result w.new }
+    ensures marks { (l : List ℕ) → Marked s.now.count l before w.old
+        → Marked s.now.count (l ++ marks_from (read_in p.now.block.bytes.now) step (read_in p.now.block.bytes.now).exports) result w.new }
 {
     let mut t = before;
-    for i in 0..p.parts.count {
+    for i in 0..p.block.parts.count {
         if !t.is_open() {
             return t;
         }
-        t = scan_export(p, s, w, n, limit, v, step + i, i, t);
+        t = scan_export(p, s, w, v, step + i, i, t);
     }
     t
 }
@@ -232,65 +229,54 @@ fn scan_exports(
 fn scan_package(
     b: &[u8],
     l: Layout,
-    s: &[u8],
+    s: &ScriptObjects,
     w: &mut [u8],
-    n: usize,
-    limit: usize,
-    names: &mut [u32; NOTES],
-    imported: &mut [u32; NOTES],
+    notes: &mut PackageNotes,
     v: Visit,
     t: Census,
 ) -> Census
-    requires b_value { (answer (run_block package_block b.now) ≡ Ok l) × (length names.old ≡ note_count) × (length imported.old ≡ note_count) }
-    requires open_value { (t.state ≡ Open) × SomeState s.now n v b.now t w.old × ((x : ℕ) × Small x t × (x + 12 + length b.now < 2 ^ 32 + 4)) }
-    ensures state { (c : List ℕ) (o : Objects) (f : Found) → Visited c v b.now → State c s.now o n f t w.old
-        → State c s.now o n (with_package limit o v.block (package_in v.id b.now) f) result w.new }
+    requires b_value { answer (run_block package_block b.now) ≡ Ok l }
+    requires open_value { (t.state ≡ Open) × SomeState s.now.block.now s.now.count v b.now t w.old × ((x : ℕ) × Small x t × (x + 12 + length b.now < 2 ^ 32 + 4)) }
+    ensures state { (c : List ℕ) (o : Objects) (f : Found) → Visited c v b.now → State c s.now.block.now o s.now.count f t w.old
+        → State c s.now.block.now o s.now.count (with_package s.now.limit o v.block (package_in v.id b.now) f) result w.new }
     ensures small { (x : ℕ) → Small x t → Small (x + 12 + length b.now) result }
-    ensures size { (length w.new ≡ length w.old) × (length names.new ≡ note_count) × (length imported.new ≡ note_count) }
-    ensures marks { (l : List ℕ) → Marked n l t w.old → Marked n (l ++ marks_of v.at b.now) result w.new }
+    ensures size { length w.new ≡ length w.old }
+    ensures marks { (l : List ℕ) → Marked s.now.count l t w.old → Marked s.now.count (l ++ marks_of v.at b.now) result w.new }
 {
-    let parts = parts_of(l);
-    note_names(b, parts.names, names);
-    note_names(b, parts.imported, imported);
-    let p = Package {
+    let block = Block {
         bytes: b,
-        parts,
-        names: &*names,
-        imported: &*imported,
+        parts: parts_of(l),
     };
-    let before = opened(t.classes, t.rows, t.size + head_len(&p.block(), p.names));
-    let step = step_of(v.at, parts.exports);
-    scan_exports(&p, s, w, n, limit, v, step, before)
+    let p = Package::noted(block, notes);
+    let before = opened(t.classes, t.rows, t.size + head_len(&p));
+    let step = step_of(v.at, block.parts.exports);
+    scan_exports(&p, s, w, v, step, before)
 }
 
 // A package: its block is checked, and as long as all is entered what it holds is too.
 fn scan_block(
     b: &[u8],
-    s: &[u8],
+    s: &ScriptObjects,
     w: &mut [u8],
-    n: usize,
-    limit: usize,
-    names: &mut [u32; NOTES],
-    imported: &mut [u32; NOTES],
+    notes: &mut PackageNotes,
     v: Visit,
     t: Census,
 ) -> Result<Census, Refused>
-    requires names_len { (length names.old ≡ note_count) × (length imported.old ≡ note_count) }
-    requires some_state { SomeState s.now n v b.now t w.old × ((x : ℕ) × Small x t × (x + 12 + length b.now < 2 ^ 32 + 4)) }
+    requires some_state { SomeState s.now.block.now s.now.count v b.now t w.old × ((x : ℕ) × Small x t × (x + 12 + length b.now < 2 ^ 32 + 4)) }
     ensures refused { (r : Refused) → result ≡ Err r → (r.block ≡ v.block) × (run_block package_block b.now ≡ refused (number r.why)) }
     ensures read { (t' : Census) → result ≡ Ok t' → run_block package_block b.now ≡ gives (read_in b.now) }
-    ensures state { (t' : Census) (c : List ℕ) (o : Objects) (f : Found) → result ≡ Ok t' → Visited c v b.now → State c s.now o n f t w.old
-        → State c s.now o n (with_package limit o v.block (package_in v.id b.now) f) t' w.new }
+    ensures state { (t' : Census) (c : List ℕ) (o : Objects) (f : Found) → result ≡ Ok t' → Visited c v b.now → State c s.now.block.now o s.now.count f t w.old
+        → State c s.now.block.now o s.now.count (with_package s.now.limit o v.block (package_in v.id b.now) f) t' w.new }
     ensures small { (t' : Census) (x : ℕ) → result ≡ Ok t' → Small x t → Small (x + 12 + length b.now) t' }
-    ensures size { (length w.new ≡ length w.old) × (length names.new ≡ note_count) × (length imported.new ≡ note_count) }
-    ensures marks { (t' : Census) (l : List ℕ) → result ≡ Ok t' → Marked n l t w.old → Marked n (l ++ marks_of v.at b.now) t' w.new }
+    ensures size { length w.new ≡ length w.old }
+    ensures marks { (t' : Census) (l : List ℕ) → result ≡ Ok t' → Marked s.now.count l t w.old → Marked s.now.count (l ++ marks_of v.at b.now) t' w.new }
 {
     match check_package(b) {
         Err(why) => Err(Refused {
             why,
             block: v.block,
         }),
-        Ok(l) if t.is_open() => Ok(scan_package(b, l, s, w, n, limit, names, imported, v, t)),
+        Ok(l) if t.is_open() => Ok(scan_package(b, l, s, w, notes, v, t)),
         Ok(_) => Ok(t),
     }
 }
@@ -307,37 +293,32 @@ fn visit_at(c: &[u8], at: usize, i: usize) -> Visit
     }
 }
 
-// Checks the packages from a place of the corpus on, and enters what they hold: w has the n linked script objects of the block s in front.
+// Checks the packages from a place of the corpus on, and enters what they hold: w has the linked script objects in front.
 pub fn scan_packages(
     c: &[u8],
     at: usize,
     count: usize,
-    s: &[u8],
+    s: &ScriptObjects,
     w: &mut [u8],
-    n: usize,
-    limit: usize,
-    names: &mut [u32; NOTES],
-    imported: &mut [u32; NOTES],
+    notes: &mut PackageNotes,
 ) -> Result<Census, Refused>
-    requires sites { Sites c.now at count × (count + 2 ≤ 2 ^ 32) × (length c.now < 2 ^ 32 + 4) × (length names.old ≡ note_count)
-        × (length imported.old ≡ note_count) }
-    requires linked { Linked s.now n w.old × (length s.now < 2 ^ 32) }
+    requires sites { Sites c.now at count × (count + 2 ≤ 2 ^ 32) × (length c.now < 2 ^ 32 + 4) }
+    requires linked { Linked s.now.block.now s.now.count w.old × (length s.now.block.now < 2 ^ 32) }
     ensures refused { (r : Refused) → result ≡ Err r → read_from 2 (parts_at c.now at count) ≡ refused_in (number r.why) r.block }
     ensures all { (t : Census) → result ≡ Ok t → AllRead c.now at count }
-    ensures state { (t : Census) (o : Objects) → result ≡ Ok t → ObjectsIn s.now o (take (48 * n) w.old)
-        → State c.now s.now o n (found_in limit o c.now at count) t w.new }
+    ensures state { (t : Census) (o : Objects) → result ≡ Ok t → ObjectsIn s.now.block.now o (take (48 * s.now.count) w.old)
+        → State c.now s.now.block.now o s.now.count (found_in s.now.limit o c.now at count) t w.new }
     ensures size { length w.new ≡ length w.old }
     ensures few { (t : Census) → result ≡ Ok t → (t.rows < 2 ^ 32) × (t.size < 2 ^ 60) }
-    ensures notes { (length names.new ≡ note_count) × (length imported.new ≡ note_count) }
-    ensures marks { (t : Census) → result ≡ Ok t → Marked n (marks_in c.now at count) t w.new }
+    ensures marks { (t : Census) → result ≡ Ok t → Marked s.now.count (marks_in c.now at count) t w.new }
 {
-    let size = 48 * n;
-    clear(&mut w[size..], 4 * n);
+    let size = 48 * s.count;
+    clear(&mut w[size..], 4 * s.count);
     let mut t = opened(0, 0, 9);
     let mut place = at;
     for i in 0..count {
         let v = visit_at(c, place, i);
-        t = scan_block(block_at(c, place), s, w, n, limit, names, imported, v, t)?;
+        t = scan_block(block_at(c, place), s, w, notes, v, t)?;
         place = next_at(c, place);
     }
     Ok(t)

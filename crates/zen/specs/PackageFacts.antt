@@ -13,7 +13,7 @@ use Rattle.zen.specs.Zen.{Read, package_block, no_export, imported_name, package
 use Rattle.zen.specs.Answers.{answer, exports_of, hashes_of, names_of, imported_of, numbers_of, imported_name_of, package_name_of, export_count, hash_count}
 use Rattle.zen.specs.declared.zen.Layout.{Layout}
 
--- where name i and imported name i are: what `Package::name_place` gives of either list
+-- where name i and imported name i are: what `PackageNames::place` gives of either list
 abbrev pub name_place : List ℕ → Layout → ℕ → Place
 name_place b l i = place_at (take l.size b) l.names i
 

@@ -5,17 +5,17 @@ ghost use Rattle.base.specs.NumberLaws.{Bytes};
 ghost use Rattle.base.specs.Refusal.{number};
 ghost use Rattle.ids.specs.Id.{id_of};
 ghost use Rattle.batch.specs.Places.{place_at};
-ghost use Rattle.batch.specs.Notes.{note_count, Noted};
 ghost use Rattle.zen.specs.Zen.{no_export, package_block};
 ghost use Rattle.zen.specs.Answers.{answer, exports_of, hashes_of, numbers_of, imported_name_of, export_count, hash_count};
 ghost use Rattle.zen.specs.Lists.{names_in};
+ghost use Rattle.zen.specs.declared.zen.NameList.{NameList};
 
 use super::id::place_id;
 use super::tables::{Export, export_in};
 use super::zen::{Layout, NameList, check_package};
 use base::refusal::Refusal;
-use batch::notes::{NOTES, note_names, place_at};
-use batch::places::Place;
+use batch::notes::{NotedNames, Notes};
+use batch::places::{Name, Place};
 use batch::reader;
 
 // A block that passed the check, and where its parts are.
@@ -50,6 +50,7 @@ impl<'a> Package<'a> {
     }
 
     // The header: what is past its size is not read.
+    // Kept: no field beside block and layout, which say it together: clauses would name the field, and a ghost field say of it `take layout.size block`.
     fn header(self) -> &'a [u8]
         ensures { result.now ≡ take self.entry.layout.size self.entry.block.now }
     {
@@ -80,36 +81,56 @@ impl<'a> Package<'a> {
         base::number::le32(self.block, self.layout.imported.end + 4 * i)
     }
 
-    // Notes where the names of a list start.
-    pub fn note_names(self, list: NameList, notes: &mut [u32; NOTES])
-        requires { length notes.old ≡ note_count }
-        ensures { Noted (take self.entry.layout.size self.entry.block.now) (names_in self.entry.layout list) notes.new × (length notes.new ≡ note_count) }
+    // With one of its lists of names, which are noted in the room that is lent.
+    pub fn names(self, list: NameList, notes: &'a mut Notes) -> PackageNames<'a>
+        ensures { (result.owner.block ≡ self.entry.block) × (result.owner.layout ≡ self.entry.layout) × (result.list ≡ list) }
     {
-        note_names(self.header(), self.layout.names_in(list), notes);
+        let names = NotedNames::of(self.header(), self.layout.names_in(list), notes);
+        PackageNames {
+            owner: self,
+            list,
+            names,
+        }
     }
+}
 
-    // Where name i of a list is.
-    pub fn name_place(self, list: NameList, notes: &[u32; NOTES], i: usize) -> Place
-        requires { (i < (names_in self.layout list).count) × Noted (take self.layout.size self.block.now) (names_in self.layout list) notes.now }
-        ensures { result ≡ place_at (take self.entry.layout.size self.entry.block.now) (names_in self.entry.layout list) i }
+// A package, and one of its lists of names, noted.
+#[derive(Clone, Copy)]
+pub struct PackageNames<'a> {
+    pub owner: Package<'a>,
+    pub list: NameList,
+    pub names: NotedNames<'a>,
+    pub ghost header: { names.block.now ≡ take owner.layout.size owner.block.now },
+    pub ghost listed: { names.names ≡ names_in owner.layout list },
+}
+
+impl<'a> PackageNames<'a> {
+    // Where name i of the list is.
+    pub fn place(&self, i: usize) -> Place
+        requires { i < (names_in self.now.owner.layout self.now.list).count }
+        ensures { result ≡ place_at (take self.now.owner.layout.size self.now.owner.block.now) (names_in self.now.owner.layout self.now.list) i }
     {
-        place_at(self.header(), self.layout.names_in(list), notes, i)
+        self.names.place(i)
     }
 
     // Where the base of the package's name is.
-    pub fn package_name_place(self, notes: &[u32; NOTES]) -> Place
-        requires { Noted (take self.layout.size self.block.now) self.layout.names notes.now }
-        ensures { result ≡ place_at (take self.entry.layout.size self.entry.block.now) self.entry.layout.names self.entry.layout.summary.index }
+    pub fn package_name_place(&self) -> Place
+        requires { self.now.list ≡ NameList.Own }
+        ensures { result ≡ place_at (take self.now.owner.layout.size self.now.owner.block.now) self.now.owner.layout.names
+            self.now.owner.layout.summary.index }
     {
-        self.name_place(NameList::Own, notes, self.layout.summary.index)
+        self.place(self.owner.layout.summary.index)
     }
 
     // The id of imported name i.
-    pub fn imported_id(self, notes: &[u32; NOTES], i: usize) -> u64
-        requires { (i < self.layout.imported.count) × Noted (take self.layout.size self.block.now) self.layout.imported notes.now }
-        ensures { result ≡ id_of (imported_name_of (run_block package_block self.entry.block.now) i) }
+    pub fn imported_id(&self, i: usize) -> u64
+        requires { (self.now.list ≡ NameList.Imported) × (i < self.now.owner.layout.imported.count) }
+        ensures { result ≡ id_of (imported_name_of (run_block package_block self.now.owner.block.now) i) }
     {
-        let p = self.name_place(NameList::Imported, notes, i);
-        place_id(self.block, p, self.imported_number(i))
+        let name = Name {
+            place: self.place(i),
+            number: self.owner.imported_number(i),
+        };
+        place_id(self.owner.block, name)
     }
 }

@@ -3,13 +3,13 @@ ghost use Rattle.std.specs.Prelude.{◌≡◌};
 ghost use Rattle.ids.specs.Id.{id_of};
 ghost use Rattle.batch.specs.Holds.{text_at, name_at, Holds};
 
-use batch::places::Place;
+use batch::places::Name;
 use batch::texts::text_of;
 
 // The id of the name.
-pub fn place_id(b: &[u8], p: Place, number: u32) -> u64
-    requires { Holds b.now p (text_at b.now p) }
-    ensures { result ≡ id_of (name_at b.now p number) }
+pub fn place_id(b: &[u8], n: Name) -> u64
+    requires { Holds b.now n.place (text_at b.now n.place) }
+    ensures { result ≡ id_of (name_at b.now n.place n.number) }
 {
-    ids::id::name_id(text_of(b, p), number)
+    ids::id::name_id(text_of(b, n.place), n.number)
 }

@@ -1,5 +1,5 @@
 -- What the answer of `check_package` says of each exported function's answer. Assumes nothing.
-use Rattle.std.specs.Prelude.{Err, Ok}
+use Rattle.std.specs.Prelude.{Result, Err, Ok, MatchResult}
 use mathlib.Core.Path.{◌≡◌, sym, ◌∙◌, ap}
 use mathlib.Core.List.{List, [], ◌∷◌}
 use Prim.Native.Nat.{ℕ, ◌≤◌, ◌<◌}
@@ -8,6 +8,8 @@ use borrow.Author.Tests.{lt-ltb, le-ltb}
 use lib.ListN.{length, take, get_or}
 use Rattle.ids.specs.Id.{id_of}
 use Rattle.base.specs.Reading.{Out, refused, gives}
+use Rattle.base.specs.Refusal.{number, numbered}
+use Rattle.base.specs.declared.refusal.Refusal.{Refusal}
 use Rattle.zen.proofs.Accepted.{parts}
 use Rattle.zen.specs.Answers.{answer, names_of, exports_of, hashes_of, imported_of, imported_name_of, export_count, hash_count}
 use Rattle.zen.proofs.PackageLaws.{rejected-read, accepted-read, name-count, imported_count_lem}
@@ -99,3 +101,9 @@ module _ (b : List ℕ) where
     ends_there r q =
         let (o, y, z) = accepted-read b l accepted in
         q ∙ (sym (ap (λ (k : Layout). ends (take k.size b) k.names (exports_of (package_in b))) z) ∙ sym (ends_of b (package_in b) o y))
+
+  -- the refusal's number, or 0
+  pub refused-as : (x : Result Layout Refusal) (r : ℕ) → numbered x ≡ answer (package_in b) → MatchResult x (λ l. r ≡ 0) (λ e. r ≡ number e)
+      → r ≡ refusal (package_in b)
+  refused-as (Ok l) r q m = m ∙ passed l (sym q)
+  refused-as (Err e) r q m = m ∙ told (number e) (sym q)

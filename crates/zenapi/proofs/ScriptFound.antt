@@ -1,11 +1,13 @@
 -- What the answer of `check_script` says of each exported function's answer. Assumes nothing.
-use Rattle.std.specs.Prelude.{Err, Ok}
-use mathlib.Core.Path.{◌≡◌}
+use Rattle.std.specs.Prelude.{Result, Err, Ok, MatchResult}
+use mathlib.Core.Path.{◌≡◌, sym, ◌∙◌}
 use mathlib.Core.List.{List, []}
 use Prim.Native.Nat.{ℕ, ◌≤◌, ◌<◌}
 use native.Mathlib.Omega.{arith}
 use lib.ListN.{length, get_or}
 use Rattle.base.specs.Reading.{refused}
+use Rattle.base.specs.Refusal.{number, numbered}
+use Rattle.base.specs.declared.refusal.Refusal.{Refusal}
 use Rattle.scriptblock.proofs.ScriptAccepted.{accepted-objects, rejected-objects, script-parts, entry-count}
 use Rattle.scriptblock.specs.ScriptAnswers.{script_answer, entries_of, no_entry}
 use Rattle.scriptblock.specs.declared.script.Entry.{Entry}
@@ -46,3 +48,9 @@ module _ (b : List ℕ) where
           → r ≡ object_answer (script_in b) i k
       unfolding object_answer
       object-there k x r h = cell_at object_fields (entries_of (script_in b)) i no_entry k (object-here h)
+
+  -- the refusal's number, or 0
+  pub refused-as : (x : Result Layout Refusal) (r : ℕ) → numbered x ≡ script_answer (script_in b) → MatchResult x (λ l. r ≡ 0) (λ e. r ≡ number e)
+      → r ≡ refusal (script_in b)
+  refused-as (Ok l) r q m = m ∙ passed l (sym q)
+  refused-as (Err e) r q m = m ∙ told (number e) (sym q)

@@ -51,20 +51,20 @@ module _ (b : List ℕ) (i : ℕ) where
     no_imported h = rw (imported_count_lem b l a) h
 
     module _ (y : Bytes b) (p : Place) where
-      pub base_there : i < l.names.count → p ≡ place_at (take l.size b) l.names i → Stands b 0 i (Some (p, 0))
+      pub base_there : i < l.names.count → p ≡ place_at (take l.size b) l.names i → Stands b 0 i (Some (record { place = p; number = 0 }))
       unfolding Stands text_count text_at
       base_there h e =
           let d = name-text b l a y i p h e in
           record { here = rw (name-count b l a) h; base = own d; text = append-nil _ ∙ d.text }
 
       pub imported-there : (n : ℕ) → i < l.imported.count → p ≡ place_at (take l.size b) l.imported i → n ≡ get_or (numbers_of (package_in b)) i 0
-          → Stands b 1 i (Some (p, n))
+          → Stands b 1 i (Some (record { place = p; number = n }))
       unfolding Stands text_count text_at
       imported-there n h e q =
           record { here = rw (imported_count_lem b l a) h; base = own (imported-text b l a y i p h e); text = rw q (imported-rendered b l a y p i h e) }
 
 -- what is found
-pub there : {b : List ℕ} {which i : ℕ} {p : Place} {n : ℕ} → Stands b which i (Some (p, n)) → Found b which i p n
+pub there : {b : List ℕ} {which i : ℕ} {p : Place} {n : ℕ} → Stands b which i (Some (record { place = p; number = n })) → Found b which i p n
 unfolding Stands
 there s = s
 

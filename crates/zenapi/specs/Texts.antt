@@ -6,6 +6,7 @@ use Rattle.base.specs.Reading.{Out}
 use Rattle.text.specs.Utf8.{utf8}
 use Rattle.batch.specs.Holds.{Holds}
 use Rattle.batch.specs.Places.{part_at}
+use Rattle.batch.specs.declared.places.Name.{Name}
 use Rattle.batch.specs.declared.places.Place.{Place}
 use Rattle.zen.specs.Answers.{names_of, imported_of, imported_name_of}
 use Rattle.zen.specs.Zen.{Read}
@@ -35,6 +36,6 @@ pub record Found (b : List ℕ) (which i : ℕ) (p : Place) (n : ℕ) : Type 0 w
   pub text : rendered p.wide (part_at b p) n ≡ text_at (package_in b) which i
 
 -- whether text i is there
-unfoldable pub Stands : List ℕ → ℕ → ℕ → Option (Place × ℕ) → Type 0
+unfoldable pub Stands : List ℕ → ℕ → ℕ → Option Name → Type 0
 Stands b which i None = text_count (package_in b) which ≤ i
-Stands b which i (Some t) = Found b which i t.0 t.1
+Stands b which i (Some t) = Found b which i t.place t.number

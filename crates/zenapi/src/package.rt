@@ -3,7 +3,7 @@ ghost use Rattle.std.specs.Prelude.{◌≡◌, get_or};
 ghost use Rattle.zen.specs.Answers.{hashes_of};
 ghost use Rattle.zenapi.specs.Answers.{package_in, none, refusal, counts, export_fields, export_answer};
 
-use super::ABSENT;
+use super::{ABSENT, refused};
 use zen::access::{Package, export_count, hash_count};
 use zen::tables::Export;
 use zen::zen::check_package;
@@ -13,10 +13,7 @@ use zen::zen::check_package;
 pub extern "C" fn zen_check_package(b: &[u8]) -> u64
     ensures { result ≡ refusal (package_in b.now) }
 {
-    match check_package(b) {
-        Ok(_) => 0,
-        Err(r) => u64::from(r.number()),
-    }
+    refused(check_package(b))
 }
 
 // How many names (0), exports (1), public hashes (2) and imported names (3) there are.

@@ -2,18 +2,15 @@
 ghost use Rattle.std.specs.Prelude.{◌≡◌, get_or};
 ghost use Rattle.zenapi.specs.Answers.{script_in, none, refusal, object_fields, object_answer};
 
-use super::ABSENT;
-use scriptblock::script::{Entry, check_script, entry_at};
+use super::{ABSENT, refused};
+use scriptblock::script::{Entry, ScriptBlock, check_script};
 
 // The refusal, or 0.
 #[unsafe(no_mangle)]
 pub extern "C" fn zen_check_script(b: &[u8]) -> u64
     ensures { result ≡ refusal (script_in b.now) }
 {
-    match check_script(b) {
-        Ok(_) => 0,
-        Err(r) => u64::from(r.number()),
-    }
+    refused(check_script(b))
 }
 
 #[tactic(auto, using(crate::proofs::Cells::past), unfolding(crate::specs::Answers::object_fields))]
@@ -34,11 +31,11 @@ fn object_field(e: Entry, field: u32) -> u64
 pub extern "C" fn zen_object(b: &[u8], i: usize, field: u32) -> u64
     ensures { result ≡ object_answer (script_in b.now) i field }
 {
-    let Ok(l) = check_script(b) else {
+    let Ok(s) = ScriptBlock::open(b) else {
         return ABSENT;
     };
-    if l.count <= i {
+    if s.layout.count <= i {
         return ABSENT;
     }
-    object_field(entry_at(b, l, i), field)
+    object_field(s.entry(i), field)
 }

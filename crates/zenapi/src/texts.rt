@@ -6,8 +6,8 @@ ghost use Rattle.zenapi.specs.Answers.{package_in};
 ghost use Rattle.zenapi.specs.Texts.{Stands, text_answer, text_after};
 
 use super::ABSENT;
-use batch::notes::NOTES;
-use batch::places::Place;
+use batch::notes::Notes;
+use batch::places::{Name, Place};
 use batch::texts::{place_len, put_place};
 use zen::access::Package;
 use zen::zen::NameList;
@@ -20,21 +20,26 @@ fn find_name(p: Package, list: NameList, i: usize) -> Option<Place>
     if p.layout.names_in(list).count <= i {
         return None;
     }
-    let mut notes = [0u32; NOTES];
-    p.note_names(list, &mut notes);
-    Some(p.name_place(list, &notes, i))
+    let mut notes = Notes::new();
+    Some(p.names(list, &mut notes).place(i))
 }
 
 // Where text i's base is, and its instance number, if it is there.
-fn find_text(b: &[u8], which: u32, i: usize) -> Option<(Place, u32)>
+fn find_text(b: &[u8], which: u32, i: usize) -> Option<Name>
     ensures { Stands b.now which i result }
 {
     let Ok(p) = Package::open(b) else {
         return None;
     };
     match which {
-        0 => Some((find_name(p, NameList::Own, i)?, 0)),
-        1 => Some((find_name(p, NameList::Imported, i)?, p.imported_number(i))),
+        0 => Some(Name {
+            place: find_name(p, NameList::Own, i)?,
+            number: 0,
+        }),
+        1 => Some(Name {
+            place: find_name(p, NameList::Imported, i)?,
+            number: p.imported_number(i),
+        }),
         _ => None,
     }
 }
@@ -45,11 +50,11 @@ pub extern "C" fn zen_put_name(out: &mut [u8], b: &[u8], which: u32, i: usize) -
     ensures { (result ≡ text_answer (length out.old) (package_in b.now) which i)
         × (out.new ≡ text_after out.old (package_in b.now) which i) }
 {
-    let Some((p, number)) = find_text(b, which, i) else {
+    let Some(name) = find_text(b, which, i) else {
         return ABSENT;
     };
-    if out.len() < place_len(b, p, number) {
+    if out.len() < place_len(b, name) {
         return ABSENT;
     }
-    put_place(out, b, p, number) as u64
+    put_place(out, b, name) as u64
 }

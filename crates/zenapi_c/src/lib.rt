@@ -1,4 +1,5 @@
 // What C sees of `zenapi`, for tests and benchmarks in other languages. The functions and their clauses are those of `zenapi`.
+// Kept: each function twice: a crate is a library or a static library, not both (the C interface).
 
 #![tactic(auto)]
 
@@ -15,7 +16,7 @@ pub extern "C" fn zen_imported_id(b: &[u8], i: usize) -> u64
     zenapi::names::zen_imported_id(b, i)
 }
 
-// The same of any block.
+// Where the bases of a package's exports end, added up.
 #[unsafe(no_mangle)]
 pub extern "C" fn zen_names_ends(b: &[u8]) -> u64
     ensures { result ≡ ends_answer b.now (package_in b.now) }

@@ -2,8 +2,8 @@
 use Rattle.capi.proofs.Range.{few-objects, called_in, called_out}
 use Rattle.capi.proofs.class_report.Goals as goal
 
-pub class_report-requires : goal.class_report-requires
-class_report-requires c = search few-objects
+pub invariant_of-m : goal.invariant_of-m
+invariant_of-m c = record { few = search few-objects }
 
 pub returns-then-in_range : goal.returns-then-in_range
 returns-then-in_range c = search called_in

@@ -1,8 +1,7 @@
 -- `number::be32` meets its contract: what the machine reads is the number. Assumes nothing.
 use mathlib.Core.Path.{◌∙◌}
-use native.Mathlib.Nat.{add-zero}
-use Rattle.base.proofs.Machine.{be-sum}
+use Rattle.base.proofs.Machine.{be-part}
 use Rattle.base.proofs.number.be32.Goals as goal
 
 pub returns : goal.returns
-returns c = c.from_be_bytes.ensures ∙ (rw add-zero at (be-sum 3 c.args.s.now c.args.at c.requires))
+returns c = c.from_be_bytes.ensures ∙ be-part 3 c.args.s.now c.args.at c.requires (rw c.unwrap.ensures at c.try_into.ensures.1)

@@ -1,8 +1,7 @@
 -- `number::le32` meets its contract: what the machine reads is the number. Assumes nothing.
 use mathlib.Core.Path.{◌∙◌}
-use native.Mathlib.Nat.{add-zero}
-use Rattle.base.proofs.Machine.{le-sum}
+use Rattle.base.proofs.Machine.{le-part}
 use Rattle.base.proofs.number.le32.Goals as goal
 
 pub returns : goal.returns
-returns c = c.from_le_bytes.ensures ∙ (rw add-zero at (le-sum 3 c.args.s.now c.args.at c.requires))
+returns c = c.from_le_bytes.ensures ∙ le-part 3 c.args.s.now c.args.at c.requires (rw c.unwrap.ensures at c.try_into.ensures.1)

@@ -1,11 +1,7 @@
 -- `output::put_be64` meets its contract: the bytes that the machine makes are those of the number. Assumes nothing.
 use mathlib.Core.Path.{◌∙◌}
 use Rattle.base.proofs.Machine.{high-first}
-use Rattle.base.specs.NumberLaws.{length-be_bytes}
-use Rattle.base.specs.OutputLaws.{wrote_front_copy}
 use Rattle.base.proofs.output.put_be64.Goals as goal
 
 pub returns : goal.returns
-returns c =
-    let n = c.args.n in
-    wrote_front_copy _ _ _ 8 (c.copy_from_slice.ensures.after ∙ (c.to_be_bytes.ensures ∙ high-first 8 n)) (length-be_bytes 8 n) c.requires
+returns c = rw (c.to_be_bytes.ensures ∙ high-first 8 c.args.n) at c.put_bytes.ensures

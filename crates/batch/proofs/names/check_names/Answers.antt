@@ -19,43 +19,43 @@ name-is s h p d e q =
     let z : p + (head_at s h).size - p ≡ (head_at s h).size = omega arith in
     rw (e, z) at q
 
-pub returns-then-end-p : goal.returns-then-end-p
-returns-then-end-p c =
+pub returns-then-n-p : goal.returns-then-n-p
+returns-then-n-p c =
     let l = c.loop-i in
     let a = c.args in
-    sym (l.invariant.same ∙ names-out a.s.now a.end (a.count - l.i) (a.headers + 2 * l.i) l.p (omega arith) (rw c.read_head-d.ensures.0 at c.if-end-p.true))
+    sym (l.invariant.same ∙ names-out a.s.now a.n.end (a.n.count - l.i) (a.n.headers + 2 * l.i) l.p (omega arith) (rw c.read_head-d.ensures.0 at c.if-n-p.true))
 
 pub returns-then-not-is_text : goal.returns-then-not-is_text
 returns-then-not-is_text c =
     let l = c.loop-i in
     let a = c.args in
     let e = c.read_head-d.ensures.0 in
-    let w = name-is a.s.now (a.headers + 2 * l.i) l.p c.read_head-d.result e (sym c.is_text.ensures ∙ c.if-not-is_text.true) in
-    sym (l.invariant.same ∙ names-ill a.s.now a.end (a.count - l.i) (a.headers + 2 * l.i) l.p (omega arith) (omega arith) (omega arith)
-    (rw e at c.if-end-p.false) w)
+    let w = name-is a.s.now (a.n.headers + 2 * l.i) l.p c.read_head-d.result e (sym c.is_text.ensures ∙ c.if-not-is_text.true) in
+    sym (l.invariant.same ∙ names-ill a.s.now a.n.end (a.n.count - l.i) (a.n.headers + 2 * l.i) l.p (omega arith) (omega arith) (omega arith)
+    (rw e at c.if-n-p.false) w)
 
 pub loop-i-preserved : goal.loop-i-preserved
 loop-i-preserved c =
     let l = c.loop-i in
     let a = c.args in
     let e = c.read_head-d.ensures.0 in
-    let w = name-is a.s.now (a.headers + 2 * l.i) l.p c.read_head-d.result e (sym c.is_text.ensures ∙ c.if-not-is_text.false) in
-    let f : a.headers + 2 * (l.i + 1) ≡ a.headers + 2 * l.i + 2 = omega arith in
-    let g : a.count - (l.i + 1) ≡ a.count - l.i - 1 = omega arith in
+    let w = name-is a.s.now (a.n.headers + 2 * l.i) l.p c.read_head-d.result e (sym c.is_text.ensures ∙ c.if-not-is_text.false) in
+    let f : a.n.headers + 2 * (l.i + 1) ≡ a.n.headers + 2 * l.i + 2 = omega arith in
+    let g : a.n.count - (l.i + 1) ≡ a.n.count - l.i - 1 = omega arith in
     record {
       within = omega arith;
       same = rw (f, g) (l.invariant.same
-          ∙ rw e (names-pass a.s.now a.end (a.count - l.i) (a.headers + 2 * l.i) l.p (omega arith) (omega arith) (omega arith) (rw e at c.if-end-p.false) w));
+          ∙ rw e (names-pass a.s.now a.n.end (a.n.count - l.i) (a.n.headers + 2 * l.i) l.p (omega arith) (omega arith) (omega arith) (rw e at c.if-n-p.false) w));
     }
 
-pub returns-then-p-end : goal.returns-then-p-end
-returns-then-p-end c =
+pub returns-then-p-n : goal.returns-then-p-n
+returns-then-p-n c =
     let l = c.loop-i in
     let a = c.args in
-    sym (l.invariant.same ∙ names-left a.s.now a.end (a.count - l.i) (a.headers + 2 * l.i) l.p (omega arith) (omega arith) c.if-p-end.true)
+    sym (l.invariant.same ∙ names-left a.s.now a.n.end (a.n.count - l.i) (a.n.headers + 2 * l.i) l.p (omega arith) (omega arith) c.if-p-n.true)
 
 pub returns : goal.returns
 returns c =
     let l = c.loop-i in
     let a = c.args in
-    sym (l.invariant.same ∙ names-none a.s.now a.end (a.count - l.i) (a.headers + 2 * l.i) l.p (omega arith) c.if-p-end.false)
+    sym (l.invariant.same ∙ names-none a.s.now a.n.end (a.n.count - l.i) (a.n.headers + 2 * l.i) l.p (omega arith) c.if-p-n.false)

@@ -9,7 +9,7 @@ use Rattle.batch.proofs.names.check_names.Given as goal
 
 abbrev pub invariant-loop-i : goal.invariant-loop-i
 invariant-loop-i l = record {
-  within : l.p ≤ l.end;
-  same : checked (walk (strings (cells (head_at l.s) 2 l.headers l.count) (l.end - l.from)) l.s l.from)
-      ≡ checked (walk (strings (cells (head_at l.s) 2 (l.headers + 2 * l.i) (l.count - l.i)) (l.end - l.p)) l.s l.p);
+  within : l.p ≤ l.n.end;
+  same : checked (walk (strings (cells (head_at l.s) 2 l.n.headers l.n.count) (l.n.end - l.n.strings)) l.s l.n.strings)
+      ≡ checked (walk (strings (cells (head_at l.s) 2 (l.n.headers + 2 * l.i) (l.n.count - l.i)) (l.n.end - l.p)) l.s l.p);
 }

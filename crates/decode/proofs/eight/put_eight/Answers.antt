@@ -1,11 +1,7 @@
 -- `eight::put_eight` meets its contract. The loop's invariant: i bytes are written, each as a unit. Assumes nothing.
-use mathlib.Core.Path.{sym}
-use Prim.Native.Nat.{◌+◌, ◌<◌}
-use native.Mathlib.Omega.{arith}
-use lib.ListN.{length, drop, get_or, length-drop}
-use lib.Seq.{get_or-drop}
-use Rattle.base.specs.OutputLaws.{wrote_none, wrote-length}
-use Rattle.decode.proofs.EightLaws.{units-wrote}
+use Rattle.std.proofs.Common.{◌≡◌, sym, ◌∙◌, ◌+◌, ◌*◌, ◌<◌, length, drop, get_or, arith, length-drop, get_or-drop}
+use Rattle.base.specs.OutputLaws.{wrote_none, wrote_as, wrote-rest, wrote-length, wrote_count}
+use Rattle.decode.proofs.EightLaws.{units-next}
 use Rattle.decode.proofs.eight.put_eight.Goals as goal
 
 pub loop-i-init : goal.loop-i-init
@@ -16,6 +12,7 @@ loop-i-preserved c =
     let a = c.args in
     let l = c.loop-i in
     let there : l.i < length (drop a.at a.s.now) = simp length-drop (omega arith) in
-    let byte : get_or a.s.now (a.at + l.i) 0 < 256 = omega (arith, c.shared_slice_known-1.given (a.at + l.i)) in
-    let w = units-wrote (drop a.at a.s.now) l.i _ l.invariant.2 there (omega arith) (sym (get_or-drop a.at a.s.now l.i 0)) byte in
-    (omega arith, wrote-length w, w)
+    let byte : c.from.result ≡ get_or (drop a.at a.s.now) l.i 0 = c.from.ensures ∙ sym (get_or-drop a.at a.s.now l.i 0) in
+    let w = wrote_as (wrote-rest l.invariant.2 c.put_unit.ensures) (units-next (drop a.at a.s.now) l.i c.from.result there byte) in
+    let e : 2 * l.i + 2 ≡ 2 * (l.i + 1) = omega arith in
+    (omega arith, wrote-length w, wrote_count w e)

@@ -3,4 +3,4 @@ use Rattle.decode.specs.Tails.{Filling}
 use Rattle.decode.proofs.tails.put_each.Given as goal
 
 abbrev pub invariant-loop-b : goal.invariant-loop-b
-invariant-loop-b l = Filling l.initial.out l.s l.out l.b-index l.n l.before
+invariant-loop-b l = Filling l.initial.out 0 l.s l.out l.b-index l.n l.before

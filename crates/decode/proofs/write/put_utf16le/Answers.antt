@@ -7,13 +7,13 @@ use native.Mathlib.Omega.{arith}
 use lib.ListN.{length, take, drop}
 use Rattle.base.specs.OutputLaws.{wrote-length}
 use Rattle.decode.specs.TurnLaws.{Turn}
-use Rattle.decode.proofs.TurnLaws.{turn, turn-well, well-next}
+use Rattle.decode.proofs.TurnLaws.{turn, well-next}
 use Rattle.decode.proofs.WriteLaws.{partly_none, partly_all, partly_next, utf16le-room, utf16le-next, utf16le-last}
 use Rattle.decode.specs.RunLaws.{Seconds, Leads}
 use Rattle.decode.proofs.RunLaws.{twos-leads, twos-well, twos-next, twos-room, run-leads, run-well, run-next, run_room}
 use Rattle.decode.specs.Latin.{every, ascii}
 use Rattle.decode.proofs.EightLaws.{eight_is, eight-well, eight-next, eight-room}
-use Rattle.decode.proofs.write.put_utf16le.Goals.{In-Some, Then-is_run-2, Then-is_run, Then-starts_eight}
+use Rattle.decode.proofs.write.put_utf16le.Goals.{After-known_char-c, Then-is_run-2, Then-is_run, Then-starts_eight}
 use Rattle.decode.proofs.write.put_utf16le.Goals as goal
 
 -- what a turn passes: eight bytes of ASCII
@@ -31,8 +31,8 @@ led : (c : Then-is_run-2) → Leads c.args.s.now c.loop-at.at
 led c = run-leads _ _ (sym c.is_run-then-a-lt240.ensures ∙ c.if-is_run-2.true)
 
 -- or one character
-turned : (c : In-Some) → Turn c.args.s.now c.loop-at.at c.in-Some.c.value c.in-Some.c.size
-turned c = turn _ _ c.loop-at-test.true (sym c.known_char.ensures ∙ c.in-Some.is)
+turned : (c : After-known_char-c) → Turn c.args.s.now c.loop-at.at c.known_char-c.result.value c.known_char-c.result.size
+turned c = turn _ _ c.loop-at-test.true (sym c.known_char-c.ensures)
 
 pub loop-at-init : goal.loop-at-init
 loop-at-init c = (omega arith, omega arith, c.requires.0, partly_none _ _)
@@ -77,24 +77,21 @@ loop-at-preserved-then-is_run-2 c =
 pub put_units-n-requires : goal.put_units-n-requires
 put_units-n-requires c =
     let i = c.loop-at.invariant in
-    let t = turned (goal.at.put_units-n-requires c).In-Some in
+    let t = turned (goal.at.put_units-n-requires c).After-known_char-c in
     (t.small, utf16le-room t i.2 i.3 c.requires.1)
 
 pub overflow_add-at-in-loop-at : goal.overflow_add-at-in-loop-at
-overflow_add-at-in-loop-at c = let t = turned (goal.at.overflow_add-at-in-loop-at c).In-Some in omega arith
+overflow_add-at-in-loop-at c = let t = turned (goal.at.overflow_add-at-in-loop-at c).After-known_char-c in omega arith
 
 pub loop-at-smaller : goal.loop-at-smaller
-loop-at-smaller c = let t = turned (goal.at.loop-at-smaller c).In-Some in omega arith
+loop-at-smaller c = let t = turned (goal.at.loop-at-smaller c).After-known_char-c in omega arith
 
 pub loop-at-preserved : goal.loop-at-preserved
 loop-at-preserved c =
     let i = c.loop-at.invariant in
-    let t = turned (goal.at.loop-at-preserved c).In-Some in
+    let t = turned (goal.at.loop-at-preserved c).After-known_char-c in
     let p = partly_next i.3 _ _ (utf16le-next t i.2) c.put_units-n.ensures in
     (t.within, wrote-length p.wrote, sym (well-next t) ∙ i.2, p)
-
-pub returns-in_default : goal.returns-in_default
-returns-in_default c = absurd (turn-well _ _ c.loop-at-test.true c.loop-at.invariant.2 (sym c.known_char.ensures ∙ c.in_default.is))
 
 pub returns : goal.returns
 returns c = partly_all c.loop-at.invariant.3 (utf16le-last _ _ c.loop-at-test.false)

@@ -10,5 +10,7 @@ use Rattle.hashes.proofs.chain.chain_by_scan.Given as goal
 
 abbrev pub invariant-loop-depth : goal.invariant-loop-depth
 invariant-loop-depth l =
-    (l.at < l.s.layout.count) × (l.depth ≤ l.limit) × (length l.chain ≡ 65)
-    × ((o : Objects) → run script 0 l.s.block.now ≡ gives o → Reached (drop l.s.layout.names.strings l.s.block.now) o l.limit l.i l.chain l.depth l.at)
+    let limit = length l.initial.chain in
+    (l.at < l.s.block.layout.count) × (l.depth ≤ limit) × (length l.chain ≡ limit)
+    × ((o : Objects) → run script 0 l.s.block.bytes.now ≡ gives o
+    → Reached (drop l.s.names.names.strings l.s.block.bytes.now) o limit l.i l.chain l.depth l.at)

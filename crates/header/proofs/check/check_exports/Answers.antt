@@ -1,16 +1,15 @@
 -- `check::check_exports` meets its contract: each export's text number is within the list, or one is not. Assumes nothing.
-use mathlib.Core.Path.{refl}
-use Prim.Native.Nat.{◌+◌, ◌*◌, ◌≤◌, ◌<◌}
-use native.Mathlib.Omega.{arith}
+use Prim.Native.Nat.{◌/◌, ◌≤◌, ◌<◌}
+use lib.ListN.{length}
 use Rattle.std.proofs.Common.{rules}
-use Rattle.std.proofs.lemmas.Iterator.{cases_from_all, YieldsList-from_range}
-use Rattle.base.specs.Number.{be_at}
+use Rattle.std.proofs.lemmas.Iterator.{cases_from_all}
 use Rattle.header.specs.PartsLaws.{all-named}
+use Rattle.header.proofs.Chunks.{chunk_numbers}
 use Rattle.header.proofs.check.check_exports.Goals as goal
 
 pub returns : goal.returns
 returns c =
     let a = c.args in
-    all-named a.s.now a.count a.from a.n _
-    (cases_from_all _ _ _ (λ i. be_at 4 a.s.now (a.from + 40 * i) < a.count) (λ i. a.count ≤ be_at 4 a.s.now (a.from + 40 * i)) c.all.ensures.ran
-    (YieldsList-from_range 0 a.n a.n refl (omega arith)) (λ x q k. search rules) (λ x q k. search rules))
+    all-named a.exports.now a.count 0 (length a.exports.now / 40) _
+    (cases_from_all _ _ _ (λ n. n < a.count) (λ n. a.count ≤ n) c.all.ensures.ran (chunk_numbers a.exports.now c.chunks_exact.ensures.size c.chunks_exact.ensures.rest)
+    (λ x q k. search rules) (λ x q k. search rules))

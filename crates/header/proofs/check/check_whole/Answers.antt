@@ -1,4 +1,8 @@
 -- `check::check_whole` meets its contract: text numbers, and the header's size. Assumes nothing.
+use mathlib.Core.Path.{◌∙◌, ap}
+use native.Mathlib.Omega.{arith}
+use Rattle.zen.specs.Zen.{named}
+use Rattle.header.proofs.Slices.{exports-in}
 use Rattle.header.proofs.Stages.{exports-room, name_out, small, size-out, said-whole}
 use Rattle.header.proofs.check.check_whole.Goals as goal
 
@@ -11,11 +15,18 @@ regions_of-g-requires c = search small
 pub returns-then-g-gt-LONGEST_HEADER : goal.returns-then-g-gt-LONGEST_HEADER
 returns-then-g-gt-LONGEST_HEADER c = search size-out
 
-pub check_exports-requires : goal.check_exports-requires
-check_exports-requires c = search exports-room
+pub overflow_mul-exports : goal.overflow_mul-exports
+overflow_mul-exports c = omega (arith, exports-room c.args.s.now c.args.p c.requires)
+
+pub overflow_add-exports : goal.overflow_add-exports
+overflow_add-exports c = omega (arith, exports-room c.args.s.now c.args.p c.requires)
+
+pub slice_bounds-exports-end : goal.slice_bounds-exports-end
+slice_bounds-exports-end c = exports-room c.args.s.now c.args.p c.requires
 
 pub returns : goal.returns
 returns c =
     rw c.then_some.ensures
     (said-whole c.args.s.now c.args.p c.requires c.regions_of-g.result c.regions_of-g.ensures c.if-g-gt-LONGEST_HEADER.false c.size_at.result
-    c.size_at.ensures.0 c.if-p-size_at.false c.check_exports.result c.check_exports.ensures)
+    c.size_at.ensures.0 c.if-p-size_at.false c.check_exports.result
+    (c.check_exports.ensures ∙ ap (named c.args.p.texts) (exports-in c.args.s.now c.args.p.exports c.args.p.entries (exports-room c.args.s.now c.args.p c.requires))))

@@ -1,7 +1,8 @@
 -- `tables::put_exports` meets its contract: each export is a piece. Assumes nothing.
 use mathlib.Core.List.{List}
-use Prim.Native.Nat.{ℕ, ◌+◌, ◌*◌}
+use Prim.Native.Nat.{ℕ, ◌+◌, ◌*◌, ◌/◌}
 use borrow.Author.Rules.{rules}
+use lib.ListN.{length}
 use Rattle.base.specs.OutputLaws.{wrote_as}
 use Rattle.written.specs.HeaderBytes.{export_bytes}
 use Rattle.header.specs.Places.{export_in}
@@ -15,13 +16,13 @@ export s «from» i = export_bytes (export_in s («from» + 40 * i))
 pub put_pieces-requires : goal.put_pieces-requires
 put_pieces-requires c =
     let a = c.args in (
-      export a.s.now a.from,
+      export a.exports.now 0,
       record { may = λ o i lt h. search rules; wrote = λ o o' i n lt p. search rules },
-      rw (pieces-cells export_bytes (export_in a.s.now) 40 a.from a.count) c.requires.1,
+      rw (pieces-cells export_bytes (export_in a.exports.now) 40 0 (length a.exports.now / 40)) c.requires,
     )
 
 pub returns : goal.returns
 returns c =
     let a = c.args in
-    wrote_as (c.put_pieces.ensures (export a.s.now a.from) (record { may = λ o i lt h. search rules; wrote = λ o o' i n lt p. search rules }))
-    (pieces-cells export_bytes (export_in a.s.now) 40 a.from a.count)
+    wrote_as (c.put_pieces.ensures (export a.exports.now 0) (record { may = λ o i lt h. search rules; wrote = λ o o' i n lt p. search rules }))
+    (pieces-cells export_bytes (export_in a.exports.now) 40 0 (length a.exports.now / 40))

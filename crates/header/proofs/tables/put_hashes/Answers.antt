@@ -1,6 +1,6 @@
 -- `tables::put_hashes` meets its contract: each hash is a piece. Assumes nothing.
 use mathlib.Core.List.{List}
-use Prim.Native.Nat.{ℕ, ◌+◌, ◌*◌, ◌≤◌}
+use Prim.Native.Nat.{ℕ, ◌+◌, ◌*◌, ◌/◌, ◌≤◌}
 use mathlib.Core.Path.{◌≡◌}
 use native.Mathlib.Omega.{arith}
 use borrow.Author.Rules.{rules}
@@ -21,19 +21,19 @@ eight s «from» i = length-le_bytes 8 (be_at 8 s («from» + 8 * i))
 pub put_pieces-requires : goal.put_pieces-requires
 put_pieces-requires c =
     let a = c.args in (
-      hash a.s.now a.from,
+      hash a.hashes.now 0,
       record {
-        may = λ o i lt h. let room : 8 ≤ length o.now = omega (arith, eight a.s.now a.from i) in search rules;
+        may = λ o i lt h. let room : 8 ≤ length o.now = omega (arith, eight a.hashes.now 0 i) in search rules;
         wrote = λ o o' i n lt p. search rules;
       },
-      rw (pieces-cells (le_bytes 8) (be_at 8 a.s.now) 8 a.from a.count) c.requires.1,
+      rw (pieces-cells (le_bytes 8) (be_at 8 a.hashes.now) 8 0 (length a.hashes.now / 8)) c.requires,
     )
 
 pub returns : goal.returns
 returns c =
     let a = c.args in
-    wrote_as (c.put_pieces.ensures (hash a.s.now a.from) (record {
-      may = λ o i lt h. let room : 8 ≤ length o.now = omega (arith, eight a.s.now a.from i) in search rules;
+    wrote_as (c.put_pieces.ensures (hash a.hashes.now 0) (record {
+      may = λ o i lt h. let room : 8 ≤ length o.now = omega (arith, eight a.hashes.now 0 i) in search rules;
       wrote = λ o o' i n lt p. search rules;
     }))
-    (pieces-cells (le_bytes 8) (be_at 8 a.s.now) 8 a.from a.count)
+    (pieces-cells (le_bytes 8) (be_at 8 a.hashes.now) 8 0 (length a.hashes.now / 8))

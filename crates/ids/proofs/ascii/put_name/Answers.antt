@@ -18,10 +18,10 @@ use Rattle.ids.proofs.ascii.put_name.Goals as goal
 
 -- how many units the name has
 count : (k : Start)
-    → length (name_units (base true k.args.text.bytes.now) k.args.suffix.now)
-    ≡ length (units_of true k.args.text.bytes.now) + length k.args.suffix.now
+    → length (name_units (base true k.args.name.text.bytes.now) k.args.name.suffix.now)
+    ≡ length (units_of true k.args.name.text.bytes.now) + length k.args.name.suffix.now
 count k =
-    name-length true k.args.text.bytes.now k.args.text.fits k.args.text.well k.args.suffix.now
+    name-length true k.args.name.text.bytes.now k.args.name.text.fits k.args.name.text.well k.args.name.suffix.now
 
 pub put_lowered-requires : goal.put_lowered-requires
 put_lowered-requires c = omega (arith, count (goal.at.put_lowered-requires c).Start)
@@ -32,12 +32,12 @@ returns-then-put_lowered-gt127 c = λ e. never (cc)
 pub put_each-requires-clause-room : goal.put_each-requires-clause-room
 put_each-requires-clause-room c =
     let n = count (goal.at.put_each-requires-clause-room c).Start in
-    wrote-room (wrote_count c.put_lowered.ensures.1 (sym c.count.ensures)) (length c.args.suffix.now) (omega arith)
+    wrote-room (wrote_count c.put_lowered.ensures.1 (sym c.count.ensures)) (length c.args.name.suffix.now) (omega arith)
 
 pub returns : goal.returns
 returns c =
     λ e.
-    let a = c.args in
+    let a = c.args.name in
     let n = count (goal.at.returns c).Start in
     let p = c.put_lowered.ensures in
     let q = c.put_each.ensures (λ b. b) (λ b r h k. search rules) in

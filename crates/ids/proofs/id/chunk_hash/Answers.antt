@@ -10,5 +10,7 @@ use Rattle.ids.proofs.id.chunk_hash.Goals as goal
 
 pub returns : goal.returns
 returns c =
-    let e = rw (c.text.ensures.0, c.text.ensures.1) at c.put_units-size.ensures in
-    c.city_hash64.ensures ∙ ap city_hash64 (wrote-all (name_units (base true c.args.text.bytes.now) c.args.suffix.now) c.args.n e (omega arith))
+    let e = rw (c.from.ensures.0, c.from.ensures.1) at c.put_units-size.ensures in
+    let n = rw (c.from.ensures.0, c.from.ensures.1) at c.count.ensures in
+    c.city_hash64.ensures
+    ∙ ap city_hash64 (wrote-all (name_units (base true c.args.name.text.bytes.now) c.args.name.suffix.now) c.count.result e (omega arith))

@@ -1,9 +1,8 @@
 -- `id::units_hash`: by the width of the text and how many units there are. Assumes nothing.
 use mathlib.Core.Path.{◌≡◌, sym, ◌∙◌, ap}
 use mathlib.Core.List.{List}
-use Prim.Native.Nat.{ℕ, ◌+◌}
+use Prim.Native.Nat.{ℕ, ◌+◌, ◌≤◌}
 use native.Mathlib.Omega.{arith}
-use borrow.Author.Rules.{rules}
 use lib.ListN.{length}
 use Rattle.text.specs.Utf16.{unit_bytes}
 use Rattle.text.specs.Parts.{base_in}
@@ -23,23 +22,20 @@ count c =
     let p = n.text.part in
     name-length p.wide p.bytes.now p.fits n.text.well n.suffix.now
 
-pub overflow_add-n : goal.overflow_add-n
-overflow_add-n c = let p = c.args.name.text.part in omega (arith, units_of_bound p.wide p.bytes.now)
-
 pub wide_hash-requires : goal.wide_hash-requires
 wide_hash-requires c =
-    let l = rw c.if-part.true at (count (goal.at.wide_hash-requires c).Start) in
-    let e = rw c.if-part.true at c.count.ensures in
-    (omega arith, search rules)
+    let l : length (name_units (base_in c.args.name.text.part) c.args.name.suffix.now) ≤ 32 = omega arith in
+    rw c.if-part.true at l
 
 pub long_hash-requires : goal.long_hash-requires
 long_hash-requires c =
     let p = c.args.name.text.part in
     let l = count (goal.at.long_hash-requires c).Start in
-    (omega arith, omega arith, omega (arith, units_of_bound p.wide p.bytes.now))
+    (omega arith, omega (arith, units_of_bound p.wide p.bytes.now))
 
 pub narrow_hash-requires : goal.narrow_hash-requires
-narrow_hash-requires c = omega (arith, narrow-count c.if-part.false c.args.name.text.part.bytes.now)
+narrow_hash-requires c =
+    omega (arith, count (goal.at.narrow_hash-requires c).Start, narrow-count c.if-part.false c.args.name.text.part.bytes.now)
 
 pub returns-then-n-le32 : goal.returns-then-n-le32
 returns-then-n-le32 c =
@@ -51,6 +47,7 @@ returns-then-n-le32 c =
 pub whole_hash-requires : goal.whole_hash-requires
 whole_hash-requires c =
     let l = narrow-count c.if-not-part.true c.args.name.text.part.bytes.now in
+    let n = count (goal.at.whole_hash-requires c).Start in
     (omega arith, omega arith)
 
 pub returns-then-part-n : goal.returns-then-part-n

@@ -14,13 +14,13 @@ use Rattle.ids.proofs.id.wide_hash.Goals.{Then-put_name}
 use Rattle.ids.proofs.id.wide_hash.Goals as goal
 
 -- the units of the name are in front of the array
-all : (c : Then-put_name) → take c.args.n c.put_name.new.units ≡ name_units (base true c.args.text.bytes.now) c.args.suffix.now
-all c = wrote-taken (wrote_count (c.put_name.ensures c.if-put_name.true) (sym c.requires.0))
+all : (c : Then-put_name) → take c.count-n.result c.put_name.new.units ≡ name_units (base true c.args.name.text.bytes.now) c.args.name.suffix.now
+all c = wrote-taken (wrote_count (c.put_name.ensures c.if-put_name.true) (sym c.count-n.ensures))
 
 pub invariant_of-array_hash : goal.invariant_of-array_hash
 invariant_of-array_hash c =
-    let t = c.args.text in
-    let w = wide-words t.bytes.now t.fits t.well c.args.suffix.now (λ i. (c.type_inv.suffix i).fits) in
+    let n = c.args.name in
+    let w = wide-words n.text.bytes.now n.text.fits n.text.well n.suffix.now n.fits in
     record { words = rw (all (goal.at.invariant_of-array_hash c).Then-put_name) w }
 
 pub returns-then-put_name : goal.returns-then-put_name

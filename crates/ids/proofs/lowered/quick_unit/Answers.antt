@@ -3,7 +3,7 @@ use mathlib.Core.Path.{◌≡◌, refl, sym, ◌∙◌, ap}
 use mathlib.Core.Bool.{Bool, true, false, cond}
 use mathlib.Core.List.{List, ◌∷◌}
 use mathlib.Core.Logic.{inl, inr}
-use Prim.Native.Nat.{ℕ, ◌<◌}
+use Prim.Native.Nat.{ℕ, zero, suc, ◌-◌, ◌<◌}
 use native.Mathlib.Omega.{arith}
 use lib.ListN.{length, get_or}
 use Rattle.lower.specs.Ascii.{lower_ascii}
@@ -38,6 +38,15 @@ asked-by false v h = sym (ruled refl (omega arith))
 asked-is : (u : ℕ) → u < 65536 → asked (quick u) ≡ cond (asks u) None (Some (lower u))
 asked-is u h = rw (quick-is u) (asked-by (asks u) (lower u) (lower-single u h))
 
+-- what a leading surrogate stands before is not the first unit
+not-first : (us : List ℕ) (i : ℕ) → High (get_or (0 ∷ us) i 0) → 0 < i
+not-first us zero k = absurd (omega (arith, k.0))
+not-first us (suc i) k = omega arith
+
+before : (us : List ℕ) (i : ℕ) → 0 < i → get_or (0 ∷ us) i 0 ≡ get_or us (i - 1) 0
+before us zero h = absurd (omega arith)
+before us (suc i) h = let e : suc i - 1 ≡ i = omega arith in rw e
+
 module _ (wide : Bool) (part : List ℕ) (b : Bytes part) (w : is_well (decoded wide part) ≡ true) (i : ℕ) (h : i < length (units_of wide part)) where
   -- unit i, the one before it, and what becomes of unit i
   abbrev unit : ℕ
@@ -66,6 +75,12 @@ module _ (wide : Bool) (part : List ℕ) (b : Bytes part) (w : is_well (decoded 
   low-at : Low unit → Some (lowered_unit former unit) ≡ answer
   low-at k = rw (surrogates unit (omega (arith, k.0)) k.1) (ap Some (sym (place wide part b w i h).0))
 
+  behind : Low unit → 0 < i
+  behind k = not-first (units_of wide part) i ((place wide part b w i h).1 k)
+
+  high-before : Low unit → High (get_or (units_of wide part) (i - 1) 0)
+  high-before k = rw (before (units_of wide part) i (behind k)) at ((place wide part b w i h).1 k)
+
 pub returns-then-u-lt128 : goal.returns-then-u-lt128
 returns-then-u-lt128 c =
     let p = c.args.text.part in
@@ -76,17 +91,26 @@ returns-in-55296-to-56319 c =
     let p = c.args.text.part in
     rw c.unit-u.ensures.0 (high-at p.wide p.bytes.now p.fits c.args.text.well c.args.i c.requires (omega arith, omega arith))
 
+pub overflow_sub-i : goal.overflow_sub-i
+overflow_sub-i c =
+    let p = c.args.text.part in
+    let l : Low c.unit-u.result = (omega arith, omega arith) in
+    behind p.wide p.bytes.now p.fits c.args.text.well c.args.i c.requires (rw c.unit-u.ensures.0 at l)
+
 pub lower_trailing-requires : goal.lower_trailing-requires
 lower_trailing-requires c =
     let p = c.args.text.part in
     let l : Low c.unit-u.result = (omega arith, omega arith) in
-    (l, rw c.unit_before.ensures ((place p.wide p.bytes.now p.fits c.args.text.well c.args.i c.requires).1 (rw c.unit-u.ensures.0 at l)))
+    (l, rw c.unit.ensures.0 (high-before p.wide p.bytes.now p.fits c.args.text.well c.args.i c.requires (rw c.unit-u.ensures.0 at l)))
 
 pub returns-in-56320-to-57343 : goal.returns-in-56320-to-57343
 returns-in-56320-to-57343 c =
     let p = c.args.text.part in
-    rw (c.lower_trailing.ensures, c.unit_before.ensures, c.unit-u.ensures.0)
-    (low-at p.wide p.bytes.now p.fits c.args.text.well c.args.i c.requires (omega arith, omega arith))
+    let l : Low c.unit-u.result = (omega arith, omega arith) in
+    let k = rw c.unit-u.ensures.0 at l in
+    let e = before (units_of p.wide p.bytes.now) c.args.i (behind p.wide p.bytes.now p.fits c.args.text.well c.args.i c.requires k) in
+    rw (c.lower_trailing.ensures, c.unit.ensures.0, c.unit-u.ensures.0, ← e)
+    (low-at p.wide p.bytes.now p.fits c.args.text.well c.args.i c.requires k)
 
 pub returns-in_default : goal.returns-in_default
 returns-in_default c =

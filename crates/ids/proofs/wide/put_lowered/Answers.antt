@@ -24,4 +24,4 @@ loop-i-preserved c =
     let us : List ℕ = encode16 (lowered (base true t.bytes.now)) in
     rw c.put_unit.ensures
     (put_next us c.args.from c.loop-i.i c.loop-i.invariant (omega (arith, part_length true t.bytes.now t.fits t.well)) (omega arith)
-    (rw (c.text.ensures.0, c.text.ensures.1) at c.lowered_unit-u.ensures.0))
+    (rw (c.from.ensures.0, c.from.ensures.1) at c.lowered_unit-u.ensures.0))

@@ -1,15 +1,13 @@
 -- `wide::put_ruled`: a turn puts one unit more, unless the table is to be asked for it. Assumes nothing.
 use mathlib.Core.Path.{◌≡◌, refl, sym, ◌∙◌}
-use mathlib.Core.Bool.{Bool, true, false, cond}
+use mathlib.Core.Bool.{true}
 use mathlib.Core.List.{List}
 use mathlib.Core.Logic.{inl, inr}
 use Prim.Native.Nat.{ℕ, ◌+◌}
 use native.Mathlib.Omega.{arith}
 use lib.ListN.{get_or}
-use Rattle.std.specs.Prelude.{Option, None, Some}
 use Rattle.lower.specs.Lower.{lowered}
 use Rattle.rules.specs.Quick.{asks}
-use Rattle.base.specs.Never.{never}
 use Rattle.base.specs.OutputLaws.{wrote_none}
 use Rattle.text.specs.Utf16.{encode16}
 use Rattle.text.specs.Name.{base}
@@ -17,17 +15,9 @@ use Rattle.text.specs.Units.{units_of}
 use Rattle.text.specs.UnitsLaws.{units_of_bound}
 use Rattle.ids.proofs.NameUnits.{part_length}
 use Rattle.ids.proofs.PutUnits.{put_next}
-use Rattle.ids.proofs.WideUnits.{lowered-fits}
+use Rattle.ids.proofs.WideUnits.{none-asked, some-known, lowered-fits}
 use Rattle.ids.proofs.wide.put_ruled.Goals.{In-Some}
 use Rattle.ids.proofs.wide.put_ruled.Goals as goal
-
-none-asked : (t : Bool) (v : ℕ) → ◌≡◌ {A = Option ℕ} None (cond t None (Some v)) → t ≡ true
-none-asked true v e = refl
-none-asked false v e = never (cc)
-
-some-known : (t : Bool) (v : ℕ) {u : ℕ} → ◌≡◌ {A = Option ℕ} (Some u) (cond t None (Some v)) → u ≡ v
-some-known true v e = never (cc)
-some-known false v e = cc
 
 pub loop-i-init : goal.loop-i-init
 loop-i-init c = wrote_none _
@@ -41,13 +31,13 @@ given c =
     let t = c.args.text in
     let i : ℕ = c.args.from + c.loop-i.i in
     some-known (asks (get_or (units_of true t.bytes.now) i 0)) (get_or (encode16 (lowered (base true t.bytes.now))) i 0)
-    (sym c.in-Some.is ∙ rw (c.text.ensures.0, c.text.ensures.1) at c.quick_unit.ensures)
+    (sym c.in-Some.is ∙ rw (c.from.ensures.0, c.from.ensures.1) at c.quick_unit.ensures)
 
 pub overflow_cast-u : goal.overflow_cast-u
 overflow_cast-u c =
     let t = c.args.text in
     let e = given (goal.at.overflow_cast-u c).In-Some in
-    omega (arith, lowered-fits t.bytes.now t.fits t.well (c.args.from + c.loop-i.i) (omega arith))
+    omega (arith, lowered-fits true t.bytes.now t.fits t.well (c.args.from + c.loop-i.i) (omega arith))
 
 pub loop-i-preserved : goal.loop-i-preserved
 loop-i-preserved c =
@@ -64,7 +54,7 @@ returns-in_default c =
       omega arith,
       c.loop-i.invariant,
       inr (none-asked (asks (get_or (units_of true t.bytes.now) i 0)) (get_or (encode16 (lowered (base true t.bytes.now))) i 0)
-          (sym c.in_default.is ∙ rw (c.text.ensures.0, c.text.ensures.1) at c.quick_unit.ensures)),
+          (sym c.in_default.is ∙ rw (c.from.ensures.0, c.from.ensures.1) at c.quick_unit.ensures)),
     )
 
 pub returns : goal.returns

@@ -21,37 +21,38 @@ none_is (Some k) e = absurd (false≢true e)
 pub loop-i-init : goal.loop-i-init
 loop-i-init c =
     let a = c.args in
-    let f = open_fits a.b.now c.requires.b_value.0 in
-    (fault-first a.b.now a.l, rw c.clear.ensures (entered-none a.b.now a.l a.w.now c.requires.w_len.0 (omega arith)))
+    let b = a.names.now.block.now in
+    let f = open_fits b c.requires.opened.0 in
+    (fault-first b a.l, rw c.clear.ensures (entered-none b a.l a.w.now c.requires.w_len.0 (omega arith)))
 
 pub overflow_add-l : goal.overflow_add-l
-overflow_add-l c = omega (arith, open_fits c.args.b.now c.requires.b_value.0)
+overflow_add-l c = omega (arith, open_fits c.args.names.now.block.now c.requires.opened.0)
 
 pub entry_in-e-requires : goal.entry_in-e-requires
-entry_in-e-requires c = omega (arith, open_fits c.args.b.now c.requires.b_value.0)
+entry_in-e-requires c = omega (arith, open_fits c.args.names.now.block.now c.requires.opened.0)
 
 pub returns-in_err-check_entry-clause-fault : goal.returns-in_err-check_entry-clause-fault
 returns-in_err-check_entry-clause-fault c =
     let p = err_from_is_err_and c.from_residual.result c.from_residual.ensures.1 in
     let l = c.loop-i in
     let a = c.args in
+    let b = a.names.now.block.now in
     let e = c.in_err-check_entry.ensures in
-    rw (p.1, p.2) (e ∙ sym (l.invariant.0 ∙ fault-own a.b.now a.l l.i (omega arith) c.entry_in-e.ensures (λ z. number-some _ (e ∙ z))))
+    rw (p.1, p.2) (e ∙ sym (l.invariant.0 ∙ fault-own b a.l l.i (omega arith) c.entry_in-e.ensures (λ z. number-some _ (e ∙ z))))
 
 pub returns-then-is_some-clause-fault : goal.returns-then-is_some-clause-fault
 returns-then-is_some-clause-fault c =
     let l = c.loop-i in
     let a = c.args in
+    let b = a.names.now.block.now in
     let e = c.entry_in-e.ensures in
-    let old = is-old a.b.now a.l l.i e l.invariant.1 c.add.result c.add.ensures.found c.if-is_some.ensures in
-    sym (l.invariant.0 ∙ fault-seen a.b.now a.l l.i (omega arith) e (sym c.in_ok-check_entry.ensures) old)
+    let old = is-old b a.l l.i e l.invariant.1 c.add.result c.add.ensures.found c.if-is_some.ensures in
+    sym (l.invariant.0 ∙ fault-seen b a.l l.i (omega arith) e (sym c.in_ok-check_entry.ensures) old)
 
 pub put_object-requires : goal.put_object-requires
 put_object-requires c =
-    let a = c.args in (
-      open_held a.b.now c.requires.b_value.0 (λ i. (c.type_inv.b i).fits),
-      (no_fault c.entry_in-e.result a.l.names.count (sym c.in_ok-check_entry.ensures)).0,
-      c.requires.b_value.1,
+    let l = c.args.l in (
+      rw c.requires.opened.1 (no_fault c.entry_in-e.result l.names.count (sym c.in_ok-check_entry.ensures)).0,
       omega (arith, c.record_at.ensures, c.loop-i.invariant.1.size, c.add.auto),
     )
 
@@ -59,19 +60,21 @@ pub loop-i-preserved : goal.loop-i-preserved
 loop-i-preserved c =
     let l = c.loop-i in
     let a = c.args in
-    let bs : Bytes a.b.now = λ i. (c.type_inv.b i).fits in
+    let b = a.names.now.block.now in
+    let bs : Bytes b = a.names.now.fits in
     let e = c.entry_in-e.ensures in
     let own = sym c.in_ok-check_entry.ensures in
     let z = none_is c.add.result c.if-is_some.ensures in
     let m : l.i < a.l.count = omega arith in
-    let new = is-new a.b.now a.l l.i e l.invariant.1 c.add.result c.add.ensures.found z in (
-      l.invariant.0 ∙ fault-next a.b.now a.l l.i m e own new,
-      entered-next a.b.now a.l bs (open_held a.b.now c.requires.b_value.0 bs) c.requires.w_len.1 l.invariant.1 m e
-          (no_fault c.entry_in-e.result a.l.names.count own).0 (c.add.ensures.added z) (rw c.record_at.ensures at c.put_object.ensures),
+    let new = is-new b a.l l.i e l.invariant.1 c.add.result c.add.ensures.found z in (
+      l.invariant.0 ∙ fault-next b a.l l.i m e own new,
+      entered-next b a.l bs (open_held b c.requires.opened.0 bs) c.requires.w_len.1 l.invariant.1 m e
+          (no_fault c.entry_in-e.result a.l.names.count own).0 (c.add.ensures.added z) (rw (c.record_at.ensures, c.requires.opened.1) at c.put_object.ensures),
     )
 
 pub returns-clause-fault : goal.returns-clause-fault
 returns-clause-fault c =
     let l = c.loop-i in
     let a = c.args in
-    sym (l.invariant.0 ∙ fault-none a.b.now a.l l.i (omega arith))
+    let b = a.names.now.block.now in
+    sym (l.invariant.0 ∙ fault-none b a.l l.i (omega arith))

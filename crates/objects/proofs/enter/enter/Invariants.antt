@@ -7,4 +7,4 @@ use Rattle.objects.specs.Work.{Entered}
 use Rattle.objects.proofs.enter.enter.Given as goal
 
 abbrev pub invariant-loop-i : goal.invariant-loop-i
-invariant-loop-i l = (fault_at l.b l.l ≡ fault_from l.b l.l l.i) × Entered l.b l.l l.i l.w
+invariant-loop-i l = (fault_at l.names.block.now l.l ≡ fault_from l.names.block.now l.l l.i) × Entered l.names.block.now l.l l.i l.w

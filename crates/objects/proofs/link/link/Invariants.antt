@@ -9,4 +9,6 @@ use Rattle.objects.specs.LinkLaws.{LinkedTo}
 use Rattle.objects.proofs.link.link.Given as goal
 
 abbrev pub invariant-loop-i : goal.invariant-loop-i
-invariant-loop-i l = Entered l.b l.l l.l.count l.w × ((q : script_answer (run script 0 l.b) ≡ Ok l.l) → LinkedTo l.b l.l q l.i l.w)
+invariant-loop-i l =
+    Entered l.s.bytes.now l.s.layout l.s.layout.count l.w
+    × ((q : script_answer (run script 0 l.s.bytes.now) ≡ Ok l.s.layout) → LinkedTo l.s.bytes.now l.s.layout q l.i l.w)

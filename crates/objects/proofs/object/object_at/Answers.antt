@@ -1,5 +1,8 @@
 -- `object::object_at` meets its contract: the columns of the record. Assumes nothing.
-use mathlib.Core.Path.{◌∙◌}
+use mathlib.Core.Path.{◌≡◌, refl, ◌∙◌, ap}
+use Prim.Native.Nat.{ℕ, ◌+◌}
+use native.Mathlib.Omega.{arith}
+use Rattle.base.specs.Number.{le_at}
 use Rattle.objects.specs.Work.{object_no}
 use Rattle.objects.specs.PathLaws.{link_at_lem, columns-at}
 use Rattle.objects.proofs.object.object_at.Goals as goal
@@ -7,6 +10,11 @@ use Rattle.objects.proofs.object.object_at.Goals as goal
 pub returns : goal.returns
 unfolding object_no
 returns c = λ b o t.
-    let k = columns-at t c.args.i c.requires.1 c.record_at-at.ensures in
-    let q = link_at_lem t c.args.i c.requires.1 c.record_at-at.ensures c.get32.ensures in
-    rw (q, c.get32-2.ensures ∙ k.start, c.get32-3.ensures ∙ k.size, c.le32.ensures ∙ k.number)
+    let at = c.record_at.result in
+    let k = columns-at t c.args.i c.requires.1 c.record_at.ensures in
+    let q = link_at_lem t c.args.i c.requires.1 c.record_at.ensures refl in
+    let read : ℕ → ℕ = λ (x : ℕ). le_at 4 c.args.w.now x in
+    let s : at + 24 + 4 ≡ at + 28 = omega arith in
+    let z : at + 24 + 8 ≡ at + 32 = omega arith in
+    let n : at + 24 + 12 ≡ at + 36 = omega arith in
+    c.columns_at.ensures ∙ rw (q, ap read s ∙ k.start, ap read z ∙ k.size, ap read n ∙ k.number)

@@ -11,7 +11,7 @@ use Rattle.text.specs.Utf8.{utf8}
 use Rattle.batch.specs.Holds.{name_at}
 use Rattle.packages.specs.ClassPath.{path_bytes}
 use Rattle.packages.specs.Row.{whole_at}
-use Rattle.packages.specs.declared.names.Name.{Name}
+use Rattle.batch.specs.declared.places.Name.{Name}
 use Rattle.packages.specs.declared.rows.Row.{Row}
 use Rattle.packages.proofs.class_path.class_path_len.Goals as goal
 

@@ -10,7 +10,7 @@ use Rattle.base.specs.OutputLaws.{wrote_as, wrote-rest, next-room, front_fits}
 use Rattle.text.specs.Utf8.{utf8}
 use Rattle.packages.specs.ClassPath.{path_bytes}
 use Rattle.packages.specs.Row.{whole_at}
-use Rattle.packages.specs.declared.names.Name.{Name}
+use Rattle.batch.specs.declared.places.Name.{Name}
 use Rattle.packages.specs.declared.rows.Row.{Row}
 use Rattle.packages.proofs.class_path.put_class_path.Goals as goal
 

@@ -8,6 +8,7 @@ use Rattle.base.specs.NumberLaws.{Bytes}
 use Rattle.base.specs.Output.{Wrote}
 use Rattle.base.specs.OutputLaws.{wrote-rest, next-room, front_fits}
 use Rattle.batch.specs.Holds.{Holds, name_at, holds-own}
+use Rattle.batch.specs.declared.places.Name.{Name}
 use Rattle.batch.specs.declared.places.Place.{Place}
 use Rattle.packages.specs.Row.{whole_at, instance_base, instance_place, outer_at, names_at, RowHolds}
 use Rattle.packages.specs.RowLaws.{instance-holds, instance-room}
@@ -17,9 +18,10 @@ use Rattle.packages.proofs.rows.put_names.Goals as goal
 held : (b : List ℕ) (w : Row) (place : Place) → RowHolds b w → Bytes b → place ≡ instance_place w → Holds b place (instance_base b w)
 held b w place d y e = rw e (instance-holds d y)
 
-module _ (b : List ℕ) (w : Row) (place : Place) (h : Holds b place (instance_base b w)) (s : List ℕ) (room : length (names_at b w) ≤ length s) where
+module _ (b : List ℕ) (w : Row) (n : Name) (h : Holds b n.place (instance_base b w)) (e : n.number ≡ w.own.number) (s : List ℕ)
+    (room : length (names_at b w) ≤ length s) where
   abbrev first : List ℕ
-  first = text_bytes (name_at b place w.own.number)
+  first = text_bytes (name_at b n.place n.number)
 
   abbrev second : List ℕ
   second = text_bytes (whole_at b w.own)
@@ -29,7 +31,7 @@ module _ (b : List ℕ) (w : Row) (place : Place) (h : Holds b place (instance_b
 
   is : names_at b w ≡ (first ++ second) ++ third
   unfolding names_at
-  is = rw h.text
+  is = rw (e, h.text)
 
   all : length ((first ++ second) ++ third) ≤ length s
   all = rw is at room
@@ -60,20 +62,20 @@ instance-requires c = instance-room c.requires.0
 
 pub put_place_text-first-requires : goal.put_place_text-first-requires
 put_place_text-first-requires c =
-    let h = (held _ _ _ c.requires.0 (λ j. (c.type_inv.b j).fits) c.instance.ensures) in
-    (holds-own h, first_fits _ _ _ h c.args.out.now c.requires.1)
+    let h = (held _ _ _ c.requires.0 (λ j. (c.type_inv.b j).fits) c.instance.ensures.0) in
+    (holds-own h, first_fits _ _ _ h c.instance.ensures.1 c.args.out.now c.requires.1)
 
 pub put_place_text-requires : goal.put_place_text-requires
 put_place_text-requires c =
-    let h = (held _ _ _ c.requires.0 (λ j. (c.type_inv.b j).fits) c.instance.ensures) in
-    (c.requires.0.own, second_fits _ _ _ h _ c.requires.1 _ _ c.put_place_text-first.ensures)
+    let h = (held _ _ _ c.requires.0 (λ j. (c.type_inv.b j).fits) c.instance.ensures.0) in
+    (c.requires.0.own, second_fits _ _ _ h c.instance.ensures.1 _ c.requires.1 _ _ c.put_place_text-first.ensures)
 
 pub put_outer-requires : goal.put_outer-requires
 put_outer-requires c =
-    let h = (held _ _ _ c.requires.0 (λ j. (c.type_inv.b j).fits) c.instance.ensures) in
-    (c.requires.0, third-fits _ _ _ h _ c.requires.1 _ _ c.put_place_text-first.ensures _ _ c.put_place_text.ensures)
+    let h = (held _ _ _ c.requires.0 (λ j. (c.type_inv.b j).fits) c.instance.ensures.0) in
+    (c.requires.0, third-fits _ _ _ h c.instance.ensures.1 _ c.requires.1 _ _ c.put_place_text-first.ensures _ _ c.put_place_text.ensures)
 
 pub returns : goal.returns
 returns c =
-    let h = (held _ _ _ c.requires.0 (λ j. (c.type_inv.b j).fits) c.instance.ensures) in
-    done _ _ _ h _ c.requires.1 _ _ c.put_place_text-first.ensures _ _ c.put_place_text.ensures _ _ c.put_outer.ensures
+    let h = (held _ _ _ c.requires.0 (λ j. (c.type_inv.b j).fits) c.instance.ensures.0) in
+    done _ _ _ h c.instance.ensures.1 _ c.requires.1 _ _ c.put_place_text-first.ensures _ _ c.put_place_text.ensures _ _ c.put_outer.ensures

@@ -1,9 +1,8 @@
 -- `rows::clear_slots` meets its contract. Assumes nothing.
-use native.Mathlib.Omega.{arith}
 use Rattle.pool.specs.PoolLaws.{slots_cleared}
 use Rattle.pool.proofs.rows.clear_slots.Goals as goal
 
 pub returns : goal.returns
 returns c =
-    let k = c.slots_of in
-    slots_cleared _ c.args.rows k.result c.args.w.now k.ensures.1 (omega arith) c.clear.ensures
+    let p = c.args.p.now in
+    slots_cleared _ p.rows p.slots c.args.w.now p.few.1 c.requires c.clear.ensures

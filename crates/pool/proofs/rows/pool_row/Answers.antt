@@ -1,5 +1,5 @@
 -- `rows::pool_row` meets its contract. Assumes nothing.
-use mathlib.Core.Path.{sym, ◌∙◌, ap, subst}
+use mathlib.Core.Path.{◌≡◌, sym, ◌∙◌, ap, subst}
 use Prim.Native.Nat.{◌+◌, ◌*◌, ◌%◌, ◌≤◌}
 use native.Mathlib.Nat.{mod-lt}
 use native.Mathlib.Omega.{arith}
@@ -14,6 +14,10 @@ use Rattle.pool.specs.PoolLaws.{state-next, state_empty, shared, slot_kept, slot
 use Rattle.pool.proofs.rows.pool_row.Goals.{After-set32}
 use Rattle.pool.proofs.rows.pool_row.Goals as goal
 
+-- the row leads to an object
+leads : (c : After-set32) → c.object_in-u.result.outer ≡ 0 → ⊥
+leads c z = c.is_missing.ensures.1 c.if-is_missing.false z
+
 -- the slot was set, which stands before the texts
 set : (c : After-set32) → let p = c.args.p.now in let s = p.gap + 4 * (c.object_in-u.result.start % p.slots) in
     Kept s (s + 4) c.args.w.now c.set32.new.w × (s + 4 ≤ p.gap + 4 * p.slots)
@@ -23,8 +27,8 @@ set c =
     let m = mod-lt c.object_in-u.result.start g.some in
     (slot_kept c.args.w.now (p.gap + 4 * (c.object_in-u.result.start % p.slots)) c.args.r c.set32.ensures (omega (arith, m, g.texts, g.room)), omega (arith, m))
 
-pub returns-then-u-eq0-clause-is : goal.returns-then-u-eq0-clause-is
-returns-then-u-eq0-clause-is c = λ v t. let g = c.requires.0 in state_empty t c.keep.ensures g.front (omega (arith, g.texts)) g.room g.inside
+pub returns-then-is_missing-clause-is : goal.returns-then-is_missing-clause-is
+returns-then-is_missing-clause-is c = λ v t. let g = c.requires.0 in state_empty t c.keep.ensures g.front (omega (arith, g.texts)) g.room g.inside
 
 pub returns-in-Some-clause-is : goal.returns-in-Some-clause-is
 returns-in-Some-clause-is c = λ v t.
@@ -44,7 +48,7 @@ put_text-requires c =
     let l = c.object_in-u in
     let p = c.args.p.now in
     let k = (set (goal.at.put_text-requires c).After-set32).0 in
-    let ne = c.if-u-eq0.false in (
+    let ne = leads (goal.at.put_text-requires c).After-set32 in (
       stood_still p.n c.args.w.now k (omega (arith, g.front))
           (subst (λ (y : Object). Stood p.block.now (take (48 * p.n) c.args.w.now) y) (sym l.ensures)
           (c.requires.1.stood (λ z. ne (ap (λ (y : Object). y.outer) l.ensures ∙ z)))),
@@ -62,5 +66,6 @@ returns-in_default-put_text-clause-is c = λ v t.
 pub returns-clause-is : goal.returns-clause-is
 returns-clause-is c = λ v t.
     let g = c.requires.0 in
-    let k = set (goal.at.returns-clause-is c).After-set32 in
-    state-added k.0 t c.in-Some-put_text.ensures c.keep-2.ensures c.object_in-u.ensures c.if-u-eq0.false g.front (omega arith) k.1 g.texts g.room g.inside
+    let s = (goal.at.returns-clause-is c).After-set32 in
+    let k = set s in
+    state-added k.0 t c.in-Some-put_text.ensures c.keep-2.ensures c.object_in-u.ensures (leads s) g.front (omega arith) k.1 g.texts g.room g.inside

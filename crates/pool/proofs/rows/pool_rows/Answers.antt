@@ -5,12 +5,12 @@ use Rattle.pool.proofs.rows.pool_rows.Goals as goal
 
 pub pool_row-free-requires : goal.pool_row-free-requires
 pool_row-free-requires c =
-    let p = c.requires.0 in
+    let p = c.requires in
     let l = c.loop-r in
     let i = l.invariant in (
       record {
         front = omega arith;
-        some = c.slots_of-slots.ensures.0 (omega arith);
+        some = c.args.p.now.few.0 (omega arith);
         texts = i.slots;
         room = omega (arith, i.room, l.auto.w);
         inside = c.loop-r-test.true;
@@ -20,7 +20,7 @@ pool_row-free-requires c =
 
 pub returns-clause-is : goal.returns-clause-is
 returns-clause-is c = λ q o xs lookups refs t x e.
-    let i = c.loop-r.invariant in state-all t (omega arith) e (omega (arith, c.requires.0.room)) i.state c.loop-r-test.false (omega (arith, i.room))
+    let i = c.loop-r.invariant in state-all t (omega arith) e (omega (arith, c.requires.room)) i.state c.loop-r-test.false (omega (arith, i.room))
 
 pub returns-clause-marks : goal.returns-clause-marks
-returns-clause-marks c = left-marks c.args.n c.loop-r.invariant.state.left (omega (arith, c.requires.0.room))
+returns-clause-marks c = left-marks c.args.p.now.n c.loop-r.invariant.state.left (omega (arith, c.requires.room))

@@ -6,7 +6,7 @@ use Rattle.pool.proofs.rows.pool_rows.Given as goal
 
 abbrev pub invariant-loop-r : goal.invariant-loop-r
 invariant-loop-r l = record {
-  slots : l.gap + 4 * l.slots ≤ l.free;
-  room : l.free + 32 * l.rows ≤ length l.initial.w;
-  state : State l.s l.n l.objects l.gap l.rows (l.gap + 4 * l.slots) l.free l.r l.initial.w l.w;
+  slots : l.p.gap + 4 * l.p.slots ≤ l.free;
+  room : l.free + 32 * l.p.rows ≤ length l.initial.w;
+  state : State l.p.block.now l.p.n l.p.limits.objects l.p.gap l.p.rows (l.p.gap + 4 * l.p.slots) l.free l.r l.initial.w l.w;
 }

@@ -1,30 +1,43 @@
 -- `rows::pool_texts` meets its contract: with its slots set to 0 the buffer is resolved as before. Assumes nothing.
+use mathlib.Core.Path.{◌≡◌, ap}
+use Prim.Native.Nat.{◌+◌, ◌*◌}
 use native.Mathlib.Omega.{arith}
+use lib.ListN.{length}
 use Rattle.resolve.specs.MarkLaws.{marks_then}
 use Rattle.pool.specs.PoolLaws.{left-resolved, left-marks}
 use Rattle.pool.proofs.rows.pool_texts.Goals as goal
 
 pub pool_rows-requires : goal.pool_rows-requires
 pool_rows-requires c =
-    let p = c.requires.0 in
-    let l = c.clear_slots.ensures in (
-      record {
-        corpus = p.corpus;
-        objects = p.objects;
-        table = p.table;
-        lookups = p.lookups;
-        refs = p.refs;
-        holds = left-resolved p.holds (omega (arith, p.classes-are)) p.rows_are (omega (arith, p.room)) l;
-        classes-are = p.classes-are;
-        rows_are = p.rows_are;
-        room = omega (arith, p.room, l.kept.size);
-      },
-      c.requires.1,
-    )
+    let r = c.requires in
+    let p = c.of-p.result in
+    let e = c.of-p.ensures in
+    let l = rw e.3 at c.clear_slots.ensures in
+    let start : p.gap ≡ 64 * (c.args.n + length r.table) = omega (arith, p.behind, e.1, e.2, r.classes-are) in
+    rw (ap (λ x. x.now) e.0, e.1, e.2, e.3) (record {
+      corpus = r.corpus;
+      objects = r.objects;
+      table = r.table;
+      lookups = r.lookups;
+      refs = r.refs;
+      holds = left-resolved r.holds start r.rows_are (omega (arith, start, r.classes-are, r.room)) l;
+      classes-are = r.classes-are;
+      rows_are = r.rows_are;
+      room = omega (arith, r.room, l.kept.size);
+    })
 
 pub returns-clause-is : goal.returns-clause-is
 returns-clause-is c = λ q o xs lookups refs t x y.
-    c.pool_rows.ensures.is q o xs lookups refs (left-resolved t (omega arith) y (omega (arith, c.requires.0.room)) c.clear_slots.ensures) x y
+    let p = c.of-p.result in
+    let e = c.of-p.ensures in
+    let l = rw e.3 at c.clear_slots.ensures in
+    let start : p.gap ≡ 64 * (c.args.n + length xs) = omega (arith, p.behind, e.1, e.2, x) in
+    (rw (ap (λ x. x.now) e.0, e.1, e.2, e.3, e.4) at c.pool_rows.ensures.is) q o xs lookups refs
+    (left-resolved t start y (omega (arith, start, x, c.requires.room)) l) x y
 
 pub returns-clause-marks : goal.returns-clause-marks
-returns-clause-marks c = marks_then (left-marks c.args.n c.clear_slots.ensures (omega (arith, c.requires.0.room))) c.pool_rows.ensures.marks
+returns-clause-marks c =
+    let p = c.of-p.result in
+    let e = c.of-p.ensures in
+    let l = rw e.3 at c.clear_slots.ensures in
+    marks_then (left-marks c.args.n l (omega (arith, c.requires.room))) (rw (e.1, e.3) at c.pool_rows.ensures.marks)

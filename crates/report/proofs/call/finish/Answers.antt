@@ -27,7 +27,7 @@ link_classes-requires c = gathered-classes c.requires.begun.1
 pub resolve_all-requires : goal.resolve_all-requires
 resolve_all-requires c =
     let g = c.requires.begun.1 in
-    (gathered-kept g c.link_classes.ensures.kept, c.args.m.few, g.few.0)
+    (gathered-kept g c.link_classes.ensures.kept, g.few.0)
 
 pub overflow_add-size : goal.overflow_add-size
 overflow_add-size c =
@@ -44,15 +44,14 @@ returns-then-size-gt-MOST c =
 
 pub pool_texts-requires : goal.pool_texts-requires
 pool_texts-requires c =
-    (finish_roomy (summed (goal.at.pool_texts-requires c).After-resolve_all) c.link_classes.auto.w, c.args.m.few)
+    finish_roomy (summed (goal.at.pool_texts-requires c).After-resolve_all) c.link_classes.auto.w
 
 pub put_report-requires : goal.put_report-requires
 put_report-requires c =
     let z = summed (goal.at.put_report-requires c).After-resolve_all in
-    let (names, imported) = c.requires.names_len in
     let kept = marks_then (marked (goal.at.put_report-requires c).After-resolve_all) c.pool_texts.ensures.marks in
     rw c.packages.ensures (record {
-      sites = (begun-sites z.begun, z.packages, omega (arith, (begun-few z.begun).0), names, imported);
+      sites = (begun-sites z.begun, z.packages, omega (arith, (begun-few z.begun).0));
       report_room = finish-room z c.pool_texts.ensures.is _ c.if-size-gt-MOST.false c.if-report-size.false;
       marks_in = gathered-marks z.gathered kept;
     })

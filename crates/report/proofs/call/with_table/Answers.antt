@@ -1,7 +1,7 @@
 -- `report::call::with_table` meets its contract. Assumes nothing.
-use Rattle.std.specs.Prelude.{Ok, Err}
+use Rattle.std.specs.Prelude.{Err}
 use Rattle.std.proofs.lemmas.Result.{err_from_is_err_and}
-use mathlib.Core.Path.{◌≡◌, refl}
+use mathlib.Core.Path.{◌≡◌, refl, ap}
 use lib.ListN.{length}
 use borrow.Author.Rules.{rules}
 use Rattle.base.specs.Reading.{run}
@@ -13,42 +13,44 @@ use Rattle.resolve.specs.Rows.{limits_of}
 use Rattle.walk.specs.Found.{Linked}
 use Rattle.walk.specs.OpenLaws.{begun-bytes, begun-small, opened-script}
 use Rattle.report.specs.CallLaws.{refused-opened, answered-refused}
-use Rattle.report.proofs.call.with_table.Goals.{In_err-map_err, In_ok-map_err}
+use Rattle.report.proofs.call.with_table.Goals.{In_err-block, In_ok-block}
 use Rattle.report.proofs.call.with_table.Goals as goal
 
 -- the script objects, entered and linked, or what the block is refused for
-entered : (c : In_ok-map_err) → let a = c.args in
-    (script_answer (run script 0 a.c.now.script.now) ≡ Ok a.layout) × Linked a.c.now.script.now a.layout.count c.enter_script.new.w
+entered : (c : In_ok-block) → let a = c.args in
+    (c.in_ok-block.block.bytes ≡ a.c.now.script) × (c.in_ok-block.block.layout ≡ a.layout) × Linked a.c.now.script.now a.layout.count c.enter_script.new.w
     × (length c.enter_script.new.w ≡ length a.w.now)
 entered c = search rules
 
-script-refused : (c : In_err-map_err) → let e = c.in_err-map_err.field-0.0 in
+script-refused : (c : In_err-block) → let e = c.in_err-block.field-0.0 in
     (script_answer (run script 0 c.args.c.now.script.now) ≡ Err (number e.why)) × (e.block ≡ 1)
 script-refused c = search rules
 
-pub note_names-requires : goal.note_names-requires
-note_names-requires c = (open_held _ c.requires.0 (begun-bytes c.args.c.now.begun), refl)
+pub of-names-requires : goal.of-names-requires
+of-names-requires c = open_held _ c.requires.0 (begun-bytes c.args.c.now.begun)
 
 pub enter_script-requires : goal.enter_script-requires
 enter_script-requires c =
     let (q, r) = c.requires in
-    (q, c.note_names.ensures.0, r, begun-small c.args.c.now.begun)
+    rw (c.of-names.ensures.0, c.of-names.ensures.1) (q, refl, r, begun-small c.args.c.now.begun)
 
-pub returns-in_err-map_err : goal.returns-in_err-map_err
-returns-in_err-map_err c =
+pub returns-in_err-block : goal.returns-in_err-block
+returns-in_err-block c =
     let a = c.args in
     let p = err_from_is_err_and c.from_residual.result c.from_residual.ensures.1 in
-    let (e, b) = script-refused (goal.at.returns-in_err-map_err c).In_err-map_err in
+    let (e, b) = script-refused (goal.at.returns-in_err-block c).In_err-block in
     let opens = opened-script (limits_of a.m.lookups a.m.objects) _ a.c.now.begun e in
     rw (p.1, p.2) (answered-refused (refused-opened opens (rw b)))
 
 pub invariant_of-s : goal.invariant_of-s
 invariant_of-s c =
-    let (a, k, n) = entered (goal.at.invariant_of-s c).In_ok-map_err in
-    record { noted = (a, c.note_names.ensures.0); fits = begun-bytes c.args.c.now.begun }
+    let (e, l, k, n) = entered (goal.at.invariant_of-s c).In_ok-block in
+    record { own = rw (e, l, c.of-names.ensures.0, c.of-names.ensures.1) (refl, refl) }
 
 pub with_objects-requires : goal.with_objects-requires
-with_objects-requires c = let (a, k, n) = entered (goal.at.with_objects-requires c).In_ok-map_err in (refl, k)
+with_objects-requires c =
+    let (e, l, k, n) = entered (goal.at.with_objects-requires c).In_ok-block in
+    (ap (λ x. x.now) e, refl, rw l k)
 
 pub returns : goal.returns
-returns c = rw (entered (goal.at.returns c).In_ok-map_err).2 at c.with_objects.ensures
+returns c = rw (entered (goal.at.returns c).In_ok-block).3 at c.with_objects.ensures

@@ -6,4 +6,4 @@ use Rattle.resolve.proofs.chain.class_at.Goals as goal
 
 pub returns : goal.returns
 returns c = λ s b o xs t.
-    c.look_up.ensures _ _ _ (rw (lent-part) t.classes.keys) ∙ look-number t.classes c.args.lo c.args.hi c.requires.1
+    c.look_up.ensures _ _ _ (rw (lent-part) t.classes.keys) ∙ look-number t.classes c.args.key.lo c.args.key.hi c.requires.1

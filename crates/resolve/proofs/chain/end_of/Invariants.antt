@@ -13,8 +13,8 @@ use Rattle.resolve.proofs.chain.end_of.Given as goal
 abbrev pub invariant-loop-next : goal.invariant-loop-next
 invariant-loop-next l =
     SomeClasses l.n (one_more l.next) l.w
-    × ((s b : List ℕ) (o : Objects) (xs : List Class) (r : Ref) → Tables s b o l.n xs l.w → Keeps xs l.lo l.hi r → one_more l.fn.class ≡ class_number xs r
-    → Onward l.lookups xs o r l.x l.y (one_more l.next) l.left)
+    × ((s b : List ℕ) (o : Objects) (xs : List Class) (r : Ref) → Tables s b o l.n xs l.w → Keeps xs l.fn.kept.lo l.fn.kept.hi r → one_more l.fn.class ≡ class_number xs r
+    → Onward l.lookups xs o r l.m.lo l.m.hi (one_more l.next) l.left)
 
 abbrev pub decreases-loop-next : goal.decreases-loop-next
 decreases-loop-next l = l.left

@@ -2,7 +2,7 @@
 use Rattle.std.specs.Prelude.{Option, Some, None, unwrap_or}
 use mathlib.Core.Path.{◌≡◌, refl}
 use Rattle.packages.specs.Row.{start_or}
-use Rattle.packages.specs.declared.names.Name.{Name}
+use Rattle.batch.specs.declared.places.Name.{Name}
 use Rattle.resolve.specs.Classes.{described}
 use Rattle.resolve.proofs.classes.describe.Goals as goal
 

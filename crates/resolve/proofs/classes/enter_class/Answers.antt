@@ -22,24 +22,20 @@ missing (Some k) e = absurd (false≢true e)
 pub returns-then-is_some-clause-old : goal.returns-then-is_some-clause-old
 returns-then-is_some-clause-old c =
     let a = c.args in
-    let g = rw c.block-b.ensures.0 at c.export-e.ensures in
+    let g = c.export-e.ensures in
     λ e s xs z q t k. class-stands a.k (class_from s a.at a.i) k t (class-keyed a.i z q g) c.add.ensures.found (found c.add.result c.if-is_some.ensures)
 
 pub class_path_len-len-requires : goal.class_path_len-len-requires
 class_path_len-len-requires c =
-    let p = c.args.p.now in
-    let (e, f) = c.block-b.ensures in (
-      rw (c.home-home.ensures, e, f) (home-holds p.accepted p.fits),
-      rw (c.row-row.ensures, e, f) (class-holds p.accepted p.fits c.args.i c.requires.export.0),
-    )
+    let b = c.args.p.now.block in
+    (rw c.home-home.ensures (home-holds b.accepted b.fits), rw c.row-row.ensures (class-holds b.accepted b.fits c.args.i c.requires.export.0))
 
 pub returns-clause-new : goal.returns-clause-new
 returns-clause-new c =
     let a = c.args in
-    let p = a.p.now in
+    let b = a.p.now.block in
     let q = c.requires.export in
-    let (e, f) = c.block-b.ensures in
     let (n, short) = c.class_path_len-len.ensures in
-    λ z s xs x i t l. class-entered p.accepted p.fits a.i q.0 x i (rw e at c.export-e.ensures) q.1
-    (rw (e, f) at c.home-home.ensures) (rw (e, f) at c.row-row.ensures) (rw e at c.meaning-m.ensures) (omega (arith, c.meaning-m.type_inv)) (omega (arith, c.meaning-m.type_inv))
+    λ z s xs x i t l. class-entered b.accepted b.fits a.i q.0 x i c.export-e.ensures q.1
+    c.home-home.ensures c.row-row.ensures c.meaning-m.ensures (omega (arith, c.meaning-m.type_inv)) (omega (arith, c.meaning-m.type_inv))
     n short t l (c.add.ensures.added (missing c.add.result c.if-is_some.ensures)) c.record_at.ensures c.describe.ensures

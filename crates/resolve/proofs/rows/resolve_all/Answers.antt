@@ -18,15 +18,14 @@ resolve_row-total-requires c =
     let p = c.requires.0 in
     let l = c.loop-r in
     let i = l.invariant.2 p.corpus p.block p.objects p.classes p.refs p.holds p.count in (
-      record {
-        corpus = p.corpus;
-        block = p.block;
-        objects = p.objects;
-        classes = p.classes;
-        ref = get_or p.refs l.r null;
-        holds = part-row i.0 (omega (arith, p.count));
-      },
-      c.requires.1,
+    record {
+      corpus = p.corpus;
+      block = p.block;
+      objects = p.objects;
+      classes = p.classes;
+      ref = get_or p.refs l.r null;
+      holds = part-row i.0 (omega (arith, p.count));
+    }
     )
 
 pub loop-r-preserved : goal.loop-r-preserved
@@ -44,7 +43,7 @@ loop-r-preserved c =
           let i = l.invariant.2 s b o xs refs t q in
           let h : l.r < length refs = omega arith in
           let x = e.0 s b o xs (get_or refs l.r null) (part-row i.0 h) in
-          (part-more i.0 h x, omega (arith, i.1, x.size, sum-take (target_size (limits_of a.lookups a.objects) xs o) refs l.r null h)),
+          (part-more i.0 h x, omega (arith, i.1, x.size, sum-take (target_size (limits_of a.m.lookups a.m.objects) xs o) refs l.r null h)),
     )
 
 pub returns-clause-is : goal.returns-clause-is
@@ -57,5 +56,5 @@ returns-clause-is c =
     record {
       length-is = l.invariant.0.size;
       holds = part-all i.0 h;
-      size = i.1 ∙ ap (sum (target_size (limits_of a.lookups a.objects) xs o)) (take_all l.r refs h);
+      size = i.1 ∙ ap (sum (target_size (limits_of a.m.lookups a.m.objects) xs o)) (take_all l.r refs h);
     }

@@ -17,4 +17,4 @@ abbrev pub invariant-loop-r : goal.invariant-loop-r
 invariant-loop-r l =
     MarksKept l.n l.rows l.initial.w l.w × (l.total ≤ 17041700 * l.r)
     × ((s b : List ℕ) (o : Objects) (xs : List Class) (refs : List Ref) → Kept s b o l.n xs refs l.initial.w → length refs ≡ l.rows
-    → Part l.lookups s b o l.n xs refs l.r l.w × (l.total ≡ sum (target_size (limits_of l.lookups l.objects) xs o) (take l.r refs)))
+    → Part l.m.lookups s b o l.n xs refs l.r l.w × (l.total ≡ sum (target_size (limits_of l.m.lookups l.m.objects) xs o) (take l.r refs)))

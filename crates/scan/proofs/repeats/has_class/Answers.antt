@@ -13,7 +13,7 @@ pub returns-then-is_class_of : goal.returns-then-is_class_of
 unfolding has_class
 returns-then-is_class_of c = λ o q.
     let a = c.args in
-    let e = c.is_class_of.ensures o q ∙ ap (is_class_of a.limit o a.hash) c.export.ensures in
+    let e = c.is_class_of.ensures o q ∙ ap (is_class_of a.s.now.limit o a.hash) c.export.ensures in
     sym (below-yes _ _ c.loop-j.j (search rules) (sym e ∙ c.if-is_class_of.true))
 
 pub loop-j-preserved : goal.loop-j-preserved
@@ -22,7 +22,7 @@ loop-j-preserved c =
     let a = c.args in (
       search rules,
       λ o q.
-          let e = c.is_class_of.ensures o q ∙ ap (is_class_of a.limit o a.hash) c.export.ensures in
+          let e = c.is_class_of.ensures o q ∙ ap (is_class_of a.s.now.limit o a.hash) c.export.ensures in
           below_more _ _ (c.loop-j.invariant.1 o q) (sym e ∙ c.if-is_class_of.false),
     )
 

@@ -9,4 +9,4 @@ use Rattle.scan.specs.Repeats.{has_class}
 use Rattle.scan.proofs.repeats.has_class.Given as goal
 
 abbrev pub invariant-loop-j : goal.invariant-loop-j
-invariant-loop-j l = (l.j ≤ l.n) × ((o : Objects) → run script 0 l.s.block.now ≡ gives o → has_class l.limit o (read_in l.b.bytes.now).exports l.j l.hash ≡ false)
+invariant-loop-j l = (l.j ≤ l.n) × ((o : Objects) → run script 0 l.s.block.bytes.now ≡ gives o → has_class l.s.limit o (read_in l.b.bytes.now).exports l.j l.hash ≡ false)

@@ -23,13 +23,13 @@ module _ (limit : ℕ) (o : Objects) (c : List ℕ) (here id hash own : ℕ) (f 
   unfolding has_public
   same e b is p k r h = rw (eq-eqb (be_at 8 c here) id (sym f ∙ e), ← is, ← export_count_lem k) h
 
-pub accepted_block-b-requires : goal.accepted_block-b-requires
-accepted_block-b-requires c = rw c.block_at.ensures c.requires.is
+pub of-b-requires : goal.of-b-requires
+of-b-requires c = rw c.block_at.ensures c.requires.is
 
 pub returns : goal.returns
 returns c = λ o q.
-    let b = c.accepted_block-b.result in
-    same _ o _ _ _ _ _ c.id_at.ensures c.if-id_at-id.false _ (ap (λ x. x.now) c.accepted_block-b.ensures ∙ c.block_at.ensures) _ b.accepted _
+    let b = c.of-b.result in
+    same _ o _ _ _ _ _ c.id_at.ensures c.if-id_at-id.false _ (ap (λ x. x.now) c.of-b.ensures ∙ c.block_at.ensures) _ b.accepted _
     (c.has_class.ensures o q)
 
 pub returns-then-id_at-id : goal.returns-then-id_at-id

@@ -22,7 +22,7 @@ unfolding is_before
 returns-then-has_public c = λ o q.
     let a = c.args in
     let l = c.loop in
-    let e = c.has_public.ensures o q ∙ ap (λ x. has_public a.limit o (package_at a.c.now x) a.id a.hash) l.invariant.0 in
+    let e = c.has_public.ensures o q ∙ ap (λ x. has_public a.s.now.limit o (package_at a.c.now x) a.id a.hash) l.invariant.0 in
     sym (below-yes _ _ l.counter (search rules) (sym e ∙ c.if-has_public.true))
 
 pub next_at-here-requires : goal.next_at-here-requires
@@ -36,7 +36,7 @@ loop-preserved c =
       next_here _ _ l.counter l.invariant.0 c.next_at-here.ensures,
       search rules,
       λ o q.
-          let e = c.has_public.ensures o q ∙ ap (λ x. has_public a.limit o (package_at a.c.now x) a.id a.hash) l.invariant.0 in
+          let e = c.has_public.ensures o q ∙ ap (λ x. has_public a.s.now.limit o (package_at a.c.now x) a.id a.hash) l.invariant.0 in
           below_more _ _ (l.invariant.2 o q) (sym e ∙ c.if-has_public.false),
     )
 

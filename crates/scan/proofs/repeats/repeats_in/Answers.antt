@@ -27,8 +27,8 @@ id_at-id-requires c = let p = c.requires in (site-here p.0 p.2 (omega arith)).0
 pub block_at-requires : goal.block_at-requires
 block_at-requires c = let p = c.requires in site-here p.0 p.2 (omega arith)
 
-pub accepted_block-b-requires : goal.accepted_block-b-requires
-accepted_block-b-requires c =
+pub of-b-requires : goal.of-b-requires
+of-b-requires c =
     let p = c.requires in
     rw c.block_at.ensures (read_here p.0 p.2 (omega arith) p.1).is
 
@@ -43,7 +43,7 @@ is_repeat-requires c =
 pub returns-then-is_repeat : goal.returns-then-is_repeat
 returns-then-is_repeat c = λ o q.
     let k = whole _ o _ _ _ _ _ _ _ c.requires.2
-    c.id_at-id.ensures (ap (λ x. x.now) c.accepted_block-b.ensures ∙ c.block_at.ensures) c.accepted_block-b.result.accepted in
+    c.id_at-id.ensures (ap (λ x. x.now) c.of-b.ensures ∙ c.block_at.ensures) c.of-b.result.accepted in
     sym (sym k ∙ below-yes _ _ c.loop-j.j (search rules) (sym (c.is_repeat.ensures o q) ∙ c.if-is_repeat.true))
 
 pub loop-j-preserved : goal.loop-j-preserved
@@ -52,5 +52,5 @@ loop-j-preserved c = (search rules, λ o q. below_more _ _ (c.loop-j.invariant.1
 pub returns : goal.returns
 returns c = λ o q.
     let k = whole _ o _ _ _ _ _ _ _ c.requires.2
-    c.id_at-id.ensures (ap (λ x. x.now) c.accepted_block-b.ensures ∙ c.block_at.ensures) c.accepted_block-b.result.accepted in
+    c.id_at-id.ensures (ap (λ x. x.now) c.of-b.ensures ∙ c.block_at.ensures) c.of-b.result.accepted in
     below_end _ _ _ c.loop-j.invariant.0 (search rules) (c.loop-j.invariant.1 o q) ∙ k

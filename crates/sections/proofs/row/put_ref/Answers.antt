@@ -7,8 +7,8 @@ use Rattle.sections.specs.WrittenLaws.{behind-length, again-length, first-size, 
 use Rattle.sections.proofs.row.put_ref.Goals.{Start}
 use Rattle.sections.proofs.row.put_ref.Goals as goal
 
-room : (c : Start) → 4 + length (ref_bytes c.args.p.now.bytes.now c.args.index) ≤ length c.args.out.now
-room c = first-size (ref_bytes c.args.p.now.bytes.now c.args.index) c.requires.1
+room : (c : Start) → 4 + length (ref_bytes c.args.p.now.block.bytes.now c.args.index) ≤ length c.args.out.now
+room c = first-size (ref_bytes c.args.p.now.block.bytes.now c.args.index) c.requires.1
 
 pub slice_bounds-put_reference-count : goal.slice_bounds-put_reference-count
 slice_bounds-put_reference-count c = omega (arith, room (goal.at.slice_bounds-put_reference-count c).Start)

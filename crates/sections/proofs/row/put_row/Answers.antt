@@ -23,12 +23,12 @@ texts_fit_lem objects xs o lookups id d i out h =
 pub slice_bounds-put_texts-count : goal.slice_bounds-put_texts-count
 slice_bounds-put_texts-count c =
     let r = c.requires in
-    (texts_fit_lem c.args.src.now.limit r.classes r.read r.lookups r.id c.args.p.now.bytes.now r.number c.args.out.now r.room).0
+    (texts_fit_lem c.args.src.now.limit r.classes r.read r.lookups r.id c.args.p.now.block.bytes.now r.number c.args.out.now r.room).0
 
 pub slice_bounds-put_texts-start : goal.slice_bounds-put_texts-start
 slice_bounds-put_texts-start c =
     let r = c.requires in
-    (texts_fit_lem c.args.src.now.limit r.classes r.read r.lookups r.id c.args.p.now.bytes.now r.number c.args.out.now r.room).0
+    (texts_fit_lem c.args.src.now.limit r.classes r.read r.lookups r.id c.args.p.now.block.bytes.now r.number c.args.out.now r.room).0
 
 pub put_texts-t-requires : goal.put_texts-t-requires
 put_texts-t-requires c =
@@ -42,14 +42,14 @@ put_texts-t-requires c =
         id = r.id;
         number = r.number;
         due = record { inside = r.inside; kind_is = r.kind_is; row_is = r.row_is; target = r.target };
-        room = (texts_fit_lem c.args.src.now.limit r.classes r.read r.lookups r.id c.args.p.now.bytes.now r.number c.args.out.now r.room).1;
+        room = (texts_fit_lem c.args.src.now.limit r.classes r.read r.lookups r.id c.args.p.now.block.bytes.now r.number c.args.out.now r.room).1;
       };
     }
 
 pub put_front-requires : goal.put_front-requires
 put_front-requires c =
     let r = c.requires in
-    let f = texts_fit_lem c.args.src.now.limit r.classes r.read r.lookups r.id c.args.p.now.bytes.now r.number c.args.out.now r.room in
+    let f = texts_fit_lem c.args.src.now.limit r.classes r.read r.lookups r.id c.args.p.now.block.bytes.now r.number c.args.out.now r.room in
     let t = c.put_texts-t.ensures r.read r.classes r.lookups r.id r.number (record { inside = r.inside; kind_is = r.kind_is; row_is = r.row_is; target = r.target }) f.1 in
     let l = behind-length 10 c.args.out.now f.0 in
     omega (arith, t.wrote.fits, again-length 10 c.args.out.now c.put_texts-t.new.out f.0 c.put_texts-t.auto.out)
@@ -57,16 +57,16 @@ put_front-requires c =
 pub returns : goal.returns
 returns c = λ o xs lookups id i inside kind is target room.
     let a = c.args in
-    let d : RowDue a.src.now.corpus.now a.src.now.script.now a.src.now.objects a.src.now.limit a.src.now.work.now a.p.now.bytes.now a.p.now.parts a.v.now a.l o xs lookups id i = record { inside = inside; kind_is = kind; row_is = is; target = target } in
-    let f = texts_fit_lem a.src.now.limit xs o lookups id a.p.now.bytes.now i a.out.now room in
-    row_wrote c.args.p.now.accepted d a.out.now c.kind_of-kind.ensures f.0 (c.put_texts-t.ensures o xs lookups id i d f.1) c.put_front.ensures
+    let d : RowDue a.src.now.corpus.now a.src.now.script.now a.src.now.objects a.src.now.limit a.src.now.work.now a.p.now.block.bytes.now a.p.now.block.parts a.v.now a.l o xs lookups id i = record { inside = inside; kind_is = kind; row_is = is; target = target } in
+    let f = texts_fit_lem a.src.now.limit xs o lookups id a.p.now.block.bytes.now i a.out.now room in
+    row_wrote c.args.p.now.block.accepted d a.out.now c.kind_of-kind.ensures f.0 (c.put_texts-t.ensures o xs lookups id i d f.1) c.put_front.ensures
 
 pub overflow_add-result : goal.overflow_add-result
 overflow_add-result c =
     let r = c.requires in
     let a = c.args in
-    let d : RowDue a.src.now.corpus.now a.src.now.script.now a.src.now.objects a.src.now.limit a.src.now.work.now a.p.now.bytes.now a.p.now.parts a.v.now a.l r.read r.classes r.lookups r.id r.number =
+    let d : RowDue a.src.now.corpus.now a.src.now.script.now a.src.now.objects a.src.now.limit a.src.now.work.now a.p.now.block.bytes.now a.p.now.block.parts a.v.now a.l r.read r.classes r.lookups r.id r.number =
     record { inside = r.inside; kind_is = r.kind_is; row_is = r.row_is; target = r.target } in
-    let f = texts_fit_lem a.src.now.limit r.classes r.read r.lookups r.id a.p.now.bytes.now r.number a.out.now r.room in
-    let w = row_wrote c.args.p.now.accepted d a.out.now c.kind_of-kind.ensures f.0 (c.put_texts-t.ensures r.read r.classes r.lookups r.id r.number d f.1) c.put_front.ensures in
+    let f = texts_fit_lem a.src.now.limit r.classes r.read r.lookups r.id a.p.now.block.bytes.now r.number a.out.now r.room in
+    let w = row_wrote c.args.p.now.block.accepted d a.out.now c.kind_of-kind.ensures f.0 (c.put_texts-t.ensures r.read r.classes r.lookups r.id r.number d f.1) c.put_front.ensures in
     omega (arith, w.fits)

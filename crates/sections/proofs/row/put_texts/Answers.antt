@@ -75,13 +75,13 @@ second : (c : After-put_both-both) → let k = c.put_names-first.result + c.put_
     (k ≤ length c.args.out.now) × (k ≤ length (again c.put_names-first.result c.put_names-first.new.out c.put_both-both.new.out))
 second c =
     let r = c.requires.texts_room in
-    both_in c.args.p.now.accepted c.args.p.now.fits r.due c.args.out.now r.room c.put_names-first.ensures c.put_both-both.ensures
+    both_in c.args.p.now.block.accepted c.args.p.now.block.fits r.due c.args.out.now r.room c.put_names-first.ensures c.put_both-both.ensures
 
 pub put_names-first-requires : goal.put_names-first-requires
 put_names-first-requires c =
-    let a = c.args.p.now.accepted in
+    let a = c.args.p.now.block.accepted in
     let r = c.requires.texts_room in
-    (due-holds a r.due c.args.p.now.fits, names-fit a c.args.p.now.fits r.due c.args.out.now r.room)
+    (due-holds a r.due c.args.p.now.block.fits, names-fit a c.args.p.now.block.fits r.due c.args.out.now r.room)
 
 pub put_both-both-requires : goal.put_both-both-requires
 put_both-both-requires c =
@@ -92,7 +92,7 @@ put_both-both-requires c =
       lookups = r.lookups;
       ref = _;
       target = r.due.target;
-      room = both-fit c.args.p.now.accepted c.args.p.now.fits r.due c.args.out.now r.room c.put_names-first.ensures;
+      room = both-fit c.args.p.now.block.accepted c.args.p.now.block.fits r.due c.args.out.now r.room c.put_names-first.ensures;
     }
 
 pub overflow_add-second : goal.overflow_add-second
@@ -107,14 +107,14 @@ slice_bounds-put_ref-start c = (second (goal.at.slice_bounds-put_ref-start c).Af
 pub put_ref-requires : goal.put_ref-requires
 put_ref-requires c =
     let r = c.requires.texts_room in
-    (c.requires.class_kind, ref-fits c.args.p.now.accepted c.args.p.now.fits r.due c.args.out.now r.room c.put_names-first.ensures c.put_both-both.ensures)
+    (c.requires.class_kind, ref-fits c.args.p.now.block.accepted c.args.p.now.block.fits r.due c.args.out.now r.room c.put_names-first.ensures c.put_both-both.ensures)
 
 pub overflow_add-size : goal.overflow_add-size
 overflow_add-size c =
     let r = c.requires.texts_room in
-    let t = done c.args.p.now.accepted c.args.p.now.fits r.due c.args.out.now r.room c.put_names-first.ensures c.put_both-both.ensures c.put_ref.ensures in
+    let t = done c.args.p.now.block.accepted c.args.p.now.block.fits r.due c.args.out.now r.room c.put_names-first.ensures c.put_both-both.ensures c.put_ref.ensures in
     omega (arith, t.wrote.fits)
 
 pub returns : goal.returns
 returns c = λ o xs lookups id i due room.
-    done c.args.p.now.accepted c.args.p.now.fits due c.args.out.now room c.put_names-first.ensures c.put_both-both.ensures c.put_ref.ensures
+    done c.args.p.now.block.accepted c.args.p.now.block.fits due c.args.out.now room c.put_names-first.ensures c.put_both-both.ensures c.put_ref.ensures

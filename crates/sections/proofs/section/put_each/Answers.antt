@@ -12,6 +12,7 @@ use Rattle.base.specs.Find.{option}
 use Rattle.zen.specs.Zen.{Read, no_export, base_of}
 use Rattle.zen.specs.declared.tables.Export.{Export}
 use Rattle.meaning.specs.Scan.{candidates, candidate_kind, outer_of, gen_variable, default_start}
+use Rattle.packages.specs.Kinds.{number-of}
 use Rattle.packages.specs.Package.{read_in, package_in, PackageIn}
 use Rattle.packages.specs.declared.package.Parts.{Parts}
 use Rattle.packages.specs.PackageLaws.{export_count_lem}
@@ -79,8 +80,8 @@ kind-small r e = go (ends_with (base_of r e) gen_variable) (option false (λ (u 
     go false true = omega arith
     go false false = omega arith
 
-found : (c : Else-end-mark) → RowTold c.args.p.now.bytes.now c.args.step (c.loop-r.r - c.args.first) c.mark_at-mark.result
-found c = told (c.loop-r.r - c.args.first) (behind c.args.first c.loop-r.r c.loop-r.auto.r) c.args.p.now.accepted c.requires.rows_marked.0 (rw c.rest.ensures at c.mark_at-mark.ensures) c.if-end-mark.false c.loop-r-test.true
+found : (c : Else-end-mark) → RowTold c.args.p.now.block.bytes.now c.args.step (c.loop-r.r - c.args.first) c.mark_at-mark.result
+found c = told (c.loop-r.r - c.args.first) (behind c.args.first c.loop-r.r c.loop-r.auto.r) c.args.p.now.block.accepted c.requires.rows_marked.0 (rw c.rest.ensures at c.mark_at-mark.ensures.0) c.if-end-mark.false c.loop-r-test.true
 
 pub loop-r-init : goal.loop-r-init
 loop-r-init c =
@@ -98,8 +99,8 @@ pub returns-then-end-mark : goal.returns-then-end-mark
 returns-then-end-mark c = λ id h a.
     let l = c.loop-r in
     let k = l.r - c.args.first in
-    let b = c.args.p.now.bytes.now in
-    let z = beyond k (behind c.args.first l.r l.auto.r) c.args.p.now.accepted c.requires.rows_marked.0 (rw c.rest.ensures at c.mark_at-mark.ensures) c.if-end-mark.true in
+    let b = c.args.p.now.block.bytes.now in
+    let z = beyond k (behind c.args.first l.r l.auto.r) c.args.p.now.block.accepted c.requires.rows_marked.0 (rw c.rest.ensures at c.mark_at-mark.ensures.0) c.if-end-mark.true in
     let e : k ≡ length (candidates (read_in b)) = omega (arith, z, l.invariant.0) in
     filled-all (export_refs (package_in id b)) (export_row c.args.src.now.limit h (package_in id b)) (candidates (read_in b)) k e (l.invariant.1 id h a)
 
@@ -113,25 +114,24 @@ pub overflow_sub-mark : goal.overflow_sub-mark
 overflow_sub-mark c = (found (goal.at.overflow_sub-mark c).Else-end-mark).low
 
 -- the candidate is there, and its row
-at-row : (c : Else-end-mark) → c.loop-r.r - c.args.first < length (candidates (read_in c.args.p.now.bytes.now))
-at-row c = left (c.loop-r.r - c.args.first) (behind c.args.first c.loop-r.r c.loop-r.auto.r) c.args.p.now.accepted c.requires.rows_marked.0 (rw c.rest.ensures at c.mark_at-mark.ensures) c.if-end-mark.false c.loop-r-test.true
+at-row : (c : Else-end-mark) → c.loop-r.r - c.args.first < length (candidates (read_in c.args.p.now.block.bytes.now))
+at-row c = left (c.loop-r.r - c.args.first) (behind c.args.first c.loop-r.r c.loop-r.auto.r) c.args.p.now.block.accepted c.requires.rows_marked.0 (rw c.rest.ensures at c.mark_at-mark.ensures.0) c.if-end-mark.false c.loop-r-test.true
 
-lent : (c : Else-end-mark) (id : ℕ) (h : How) → EachRoom c.args.src.now.corpus.now c.args.src.now.script.now c.args.src.now.objects c.args.src.now.work.now c.args.src.now.limit c.args.first id c.args.p.now.bytes.now c.args.out.now h
-    → ExportRoom c.args.src.now.corpus.now c.args.src.now.script.now c.args.src.now.objects c.args.src.now.work.now c.args.src.now.limit c.loop-r.r id c.args.p.now.bytes.now
+lent : (c : Else-end-mark) (id : ℕ) (h : How) → EachRoom c.args.src.now.corpus.now c.args.src.now.script.now c.args.src.now.objects c.args.src.now.work.now c.args.src.now.limit c.args.first id c.args.p.now.block.bytes.now c.args.out.now h
+    → ExportRoom c.args.src.now.corpus.now c.args.src.now.script.now c.args.src.now.objects c.args.src.now.work.now c.args.src.now.limit c.loop-r.r id c.args.p.now.block.bytes.now
     (c.mark_at-mark.result / 4 - c.args.step) (take (length c.loop-r.out - c.loop-r.size) (drop c.loop-r.size c.loop-r.out)) h
 lent c id h a =
     let l = c.loop-r in
-    room c.args.src.now.limit id c.args.p.now.bytes.now l.size (l.r - c.args.first) a (l.invariant.1 id h a) (at-row c) (found c) (behind c.args.first l.r l.auto.r)
+    room c.args.src.now.limit id c.args.p.now.block.bytes.now l.size (l.r - c.args.first) a (l.invariant.1 id h a) (at-row c) (found c) (behind c.args.first l.r l.auto.r)
 
 pub put_export-size-requires : goal.put_export-size-requires
 put_export-size-requires c =
     let p = (goal.at.put_export-size-requires c).Else-end-mark in
     let t = found p in
-    let e = c.kind_in.ensures ∙ t.kind in
     let (id, h, a) = c.requires.by_index in
     record {
-      inside = omega (arith, t.inside, export_count_lem c.args.p.now.accepted);
-      kind_value = c.candidate_of-kind.ensures (rw e (kind-small (read_in c.args.p.now.bytes.now) _)) ∙ e;
+      inside = omega (arith, t.inside, export_count_lem c.args.p.now.block.accepted);
+      kind_value = rw c.candidate_in.ensures (number-of _ (rw t.kind (kind-small (read_in c.args.p.now.block.bytes.now) _)) ∙ t.kind);
       by_index = (id, h, lent p id h a);
     }
 
@@ -141,7 +141,7 @@ overflow_add-size c =
     let l = c.loop-r in
     let (id, h, a) = c.requires.by_index in
     let y = c.put_export-size.ensures id h (lent p id h a) in
-    omega (arith, sum c.args.src.now.limit id c.args.p.now.bytes.now l.size (l.r - c.args.first) a (l.invariant.1 id h a) (at-row p) (found p) y)
+    omega (arith, sum c.args.src.now.limit id c.args.p.now.block.bytes.now l.size (l.r - c.args.first) a (l.invariant.1 id h a) (at-row p) (found p) y)
 
 pub loop-r-preserved : goal.loop-r-preserved
 loop-r-preserved c =
@@ -151,7 +151,7 @@ loop-r-preserved c =
     rw e (
       omega (arith, at-row p),
       λ id h a.
-          more c.args.src.now.limit id c.args.p.now.bytes.now l.size (l.r - c.args.first) a (l.invariant.1 id h a) (at-row p) (found p)
+          more c.args.src.now.limit id c.args.p.now.block.bytes.now l.size (l.r - c.args.first) a (l.invariant.1 id h a) (at-row p) (found p)
           (c.put_export-size.ensures id h (lent p id h a)),
     )
 
@@ -161,7 +161,7 @@ shape_of-out c = (holds-size (goal.at.shape_of-out c).At-loop-r).1
 pub returns : goal.returns
 returns c = λ id h a.
     let l = c.loop-r in
-    let b = c.args.p.now.bytes.now in
+    let b = c.args.p.now.block.bytes.now in
     let i = rows_inside c.requires.rows_marked.0 in
     let k : l.r ≡ c.args.all = omega (arith, c.loop-r-test.false) in
     let e : l.r - c.args.first ≡ length (candidates (read_in b)) = omega (arith, l.invariant.0) in

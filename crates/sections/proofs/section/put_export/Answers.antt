@@ -58,13 +58,13 @@ led_at-l-requires c = rw c.rest.ensures (omega (arith, c.requires.by_index.2.res
 pub put_row-requires : goal.put_row-requires
 put_row-requires c =
     let q = rw c.rest.ensures at c.led_at-l.ensures in
-    let e = rw (c.block.ensures.0, c.block.ensures.1) at c.row-v.ensures in
-    row_room c.args.src.now.limit c.requires.by_index.0 c.args.p.now.bytes.now c.args.i c.requires.by_index.2 q c.requires.inside
+    let e = c.row-v.ensures in
+    row_room c.args.src.now.limit c.requires.by_index.0 c.args.p.now.block.bytes.now c.args.i c.requires.by_index.2 q c.requires.inside
     (kind_is _ _ _ _ e c.requires.kind_value) (row_is _ _ _ _ e)
 
 pub returns : goal.returns
 returns c = λ id h a.
     let q = rw c.rest.ensures at c.led_at-l.ensures in
-    let e = rw (c.block.ensures.0, c.block.ensures.1) at c.row-v.ensures in
+    let e = c.row-v.ensures in
     c.put_row.ensures h.objects h.classes h.lookups id c.args.i c.requires.inside (kind_is _ _ _ _ e c.requires.kind_value) (row_is _ _ _ _ e)
-    (target c.args.src.now.limit id c.args.p.now.bytes.now c.args.i a q) a.room
+    (target c.args.src.now.limit id c.args.p.now.block.bytes.now c.args.i a q) a.room

@@ -14,7 +14,7 @@ use Rattle.packages.specs.ClassPath.{home-holds, home-name}
 use Rattle.packages.specs.Package.{package_in, PackageIn}
 use Rattle.packages.specs.PackageLaws.{export_count_lem}
 use Rattle.packages.specs.Row.{home_in}
-use Rattle.packages.specs.declared.names.Name.{Name}
+use Rattle.batch.specs.declared.places.Name.{Name}
 use Rattle.packages.specs.declared.package.Parts.{Parts}
 use Rattle.sections.specs.Sections.{head_of}
 use Rattle.sections.proofs.section.put_head.Goals.{After-home-home}
@@ -66,9 +66,9 @@ module _ {b : List ℕ} {p : Parts} {id : ℕ} {home : Name} {s : List ℕ} (k :
           → Wrote s (head_of (package_in id b)) (take (i + j) both ++ (u ++ drop (length both - (i + j)) (drop (i + j) both))) (i + j + m)
       done u m z = rw is (wrote-rest (wrote-rest v x) z)
 
-known : (c : After-home-home) → let a = c.args in Known a.p.now.bytes.now a.p.now.parts a.id c.home-home.result a.out.now
+known : (c : After-home-home) → let a = c.args in Known a.p.now.block.bytes.now a.p.now.block.parts a.id c.home-home.result a.out.now
 known c =
-    record { read = c.args.p.now.accepted; bytes = c.args.p.now.fits; at = rw (c.block.ensures.0, c.block.ensures.1) at c.home-home.ensures; fits = c.requires.1 }
+    record { read = c.args.p.now.block.accepted; bytes = c.args.p.now.block.fits; at = c.home-home.ensures; fits = c.requires.1 }
 
 pub put_be64-k-requires : goal.put_be64-k-requires
 put_be64-k-requires c = first_fits (known (goal.at.put_be64-k-requires c).After-home-home)

@@ -85,7 +85,7 @@ put_sections-size-requires c =
     let a = c.args in
     let r = c.requires.report_room in
     record {
-      sites = (c.requires.sites.0, c.requires.sites.1, c.requires.sites.3, c.requires.sites.4);
+      sites = (c.requires.sites.0, c.requires.sites.1);
       sections_room = (
         how a.src.now.corpus.now a.at a.count r.lookups a.src.now.limit r.read,
         room a.src.now.corpus.now a.at a.count r.lookups a.src.now.limit r.read a.out.now r.ready r.room,

@@ -40,34 +40,34 @@ module _ (objects id : ℕ) (b : List ℕ) {c s : List ℕ} {n : ℕ} {w : List 
         let f = wrote-front {s = out} y.wrote (omega (arith, size)) (wrote_count x e) in
         record { wrote = wrote_count (wrote_as f (rw counted)) (omega arith); rows = counted ∙ sym (refs-count (package_in id b)) }
 
-done : (c : After-put_be32-k) → (id : ℕ) (h : How) → RowsRoom c.args.src.now.corpus.now c.args.src.now.script.now c.args.src.now.objects c.args.src.now.work.now c.args.src.now.limit c.args.first id c.args.p.now.bytes.now c.args.out.now h
-    → RowsFilled c.args.src.now.limit id c.args.p.now.bytes.now h c.args.out.now c.put_be32-k.new.out
+done : (c : After-put_be32-k) → (id : ℕ) (h : How) → RowsRoom c.args.src.now.corpus.now c.args.src.now.script.now c.args.src.now.objects c.args.src.now.work.now c.args.src.now.limit c.args.first id c.args.p.now.block.bytes.now c.args.out.now h
+    → RowsFilled c.args.src.now.limit id c.args.p.now.block.bytes.now h c.args.out.now c.put_be32-k.new.out
     (behind_of c.put_be32-k.result c.put_each-z.result)
 done c id h a =
-    filled c.args.src.now.limit id c.args.p.now.bytes.now a (c.put_each-z.ensures id h (each c.args.src.now.limit id c.args.p.now.bytes.now a)) c.put_be32-k.ensures
+    filled c.args.src.now.limit id c.args.p.now.block.bytes.now a (c.put_each-z.ensures id h (each c.args.src.now.limit id c.args.p.now.block.bytes.now a)) c.put_be32-k.ensures
 
 pub slice_bounds-put_each-count : goal.slice_bounds-put_each-count
-slice_bounds-put_each-count c = let (id, h, a) = c.requires.by_index in omega (arith, size c.args.src.now.limit id c.args.p.now.bytes.now a)
+slice_bounds-put_each-count c = let (id, h, a) = c.requires.by_index in omega (arith, size c.args.src.now.limit id c.args.p.now.block.bytes.now a)
 
 pub slice_bounds-put_each-start : goal.slice_bounds-put_each-start
-slice_bounds-put_each-start c = let (id, h, a) = c.requires.by_index in omega (arith, size c.args.src.now.limit id c.args.p.now.bytes.now a)
+slice_bounds-put_each-start c = let (id, h, a) = c.requires.by_index in omega (arith, size c.args.src.now.limit id c.args.p.now.block.bytes.now a)
 
 pub put_each-z-requires : goal.put_each-z-requires
 put_each-z-requires c =
     let (id, h, a) = c.requires.by_index in
-    record { by_index = (id, h, each c.args.src.now.limit id c.args.p.now.bytes.now a); rows_marked = c.requires.rows_marked }
+    record { by_index = (id, h, each c.args.src.now.limit id c.args.p.now.block.bytes.now a); rows_marked = c.requires.rows_marked }
 
 pub overflow_cast-z : goal.overflow_cast-z
 overflow_cast-z c =
     let a = c.requires.by_index.2 in
-    let y = c.put_each-z.ensures c.requires.by_index.0 c.requires.by_index.1 (each c.args.src.now.limit c.requires.by_index.0 c.args.p.now.bytes.now a) in
-    omega (arith, counted c.args.src.now.limit c.requires.by_index.0 c.args.p.now.bytes.now a y, candidates-few (read_in c.args.p.now.bytes.now), export_count_lem c.args.p.now.accepted, c.requires.few)
+    let y = c.put_each-z.ensures c.requires.by_index.0 c.requires.by_index.1 (each c.args.src.now.limit c.requires.by_index.0 c.args.p.now.block.bytes.now a) in
+    omega (arith, counted c.args.src.now.limit c.requires.by_index.0 c.args.p.now.block.bytes.now a y, candidates-few (read_in c.args.p.now.block.bytes.now), export_count_lem c.args.p.now.block.accepted, c.requires.few)
 
 pub put_be32-k-requires : goal.put_be32-k-requires
 put_be32-k-requires c =
     let out = c.args.out.now in
     let (id, h, a) = c.requires.by_index in
-    rw (length-append (take 4 out), length-take-le 4 out (omega (arith, size c.args.src.now.limit id c.args.p.now.bytes.now a))) (omega arith)
+    rw (length-append (take 4 out), length-take-le 4 out (omega (arith, size c.args.src.now.limit id c.args.p.now.block.bytes.now a))) (omega arith)
 
 pub behind-requires : goal.behind-requires
 behind-requires c =

@@ -1,5 +1,5 @@
 -- `section::put_section` meets its contract: the rows are written behind the head. Assumes nothing.
-use mathlib.Core.Path.{◌≡◌, sym, ◌∙◌}
+use mathlib.Core.Path.{◌≡◌, sym, ◌∙◌, ap}
 use mathlib.Core.List.{List, ◌++◌}
 use Prim.Native.Nat.{ℕ, ◌-◌, ◌≤◌}
 use native.Mathlib.Omega.{arith}
@@ -9,8 +9,7 @@ use Rattle.base.specs.NumberLaws.{Bytes}
 use Rattle.base.specs.Output.{Wrote}
 use Rattle.base.specs.OutputLaws.{wrote-rest, wrote_as, next-room, front_fits}
 use Rattle.meaning.specs.Reference.{Package}
-use Rattle.packages.specs.Package.{read_in, package_in, PackageIn}
-use Rattle.packages.specs.PackageLaws.{accepted-by, package_in_lem, names-held, imported-held}
+use Rattle.packages.specs.Package.{package_in, PackageIn}
 use Rattle.packages.specs.Walk.{block_at, Site}
 use Rattle.packages.specs.declared.package.Parts.{Parts}
 use Rattle.resolve.specs.Marks.{first_step}
@@ -18,7 +17,7 @@ use Rattle.sections.specs.MarkedLaws.{Small, step_small, step-first}
 use Rattle.sections.specs.SectionLaws.{section-is}
 use Rattle.sections.specs.Sections.{How, behind_of, head_of, all_rows, section_of, refs_of, RowsMarked, Room, Filled, SectionRoom, SectionFilled}
 use Rattle.sections.specs.declared.section.Section.{Section}
-use Rattle.sections.proofs.section.put_section.Goals.{After-id_at, After-parts_of-parts, After-put_rows-z}
+use Rattle.sections.proofs.section.put_section.Goals.{After-id_at, After-of-b, After-put_rows-z}
 use Rattle.sections.proofs.section.put_section.Goals as goal
 
 -- the rows behind the head, of any package
@@ -59,24 +58,24 @@ module _ (c : List ℕ) (objects at id : ℕ) (d : List ℕ) (e : d ≡ block_at
       → SectionFilled c objects at h out o z
   filled-here y = rw (e, f) at y
 
-here : (c : After-parts_of-parts) → let u = c.args in
-    Here u.src.now.corpus.now u.at c.block_at-b.result.now c.parts_of-parts.result
+here : (c : After-of-b) → let u = c.args in
+    Here u.src.now.corpus.now u.at c.of-b.result.bytes.now c.of-b.result.parts
 here c =
     let t = c.requires.site.0 in
-    let e = c.block_at-b.ensures in
-    let site : Site c.args.src.now.corpus.now c.args.at c.block_at-b.result.now = record { starts = t.starts; stops = t.stops; small = t.small; is = e } in
-    let q = package_in_lem c.block_at-b.result.now c.layout_of.result c.parts_of-parts.result c.layout_of.ensures c.parts_of-parts.ensures in
-    record { block = e; read = q; bytes = λ j. (c.type_inv.b j).fits; small = step_small site q }
+    let b = c.of-b.result in
+    let e = ap (λ x. x.now) c.of-b.ensures ∙ c.block_at.ensures in
+    let site : Site c.args.src.now.corpus.now c.args.at b.bytes.now = record { starts = t.starts; stops = t.stops; small = t.small; is = e } in
+    record { block = e; read = b.accepted; bytes = b.fits; small = step_small site b.accepted }
 
 -- the section's room as the head's and the rows'
 room : (c : After-id_at)
     → let u = c.args in
     (h : How) → SectionRoom u.src.now.corpus.now u.src.now.script.now u.src.now.objects u.src.now.work.now u.src.now.limit u.first u.at u.out.now h
-    → Room u.src.now.corpus.now u.src.now.script.now u.src.now.objects u.src.now.work.now u.src.now.limit u.first (refs_of (package_in c.id_at.result c.block_at-b.result.now))
-    (section_of u.src.now.limit h (package_in c.id_at.result c.block_at-b.result.now)) u.out.now h
+    → Room u.src.now.corpus.now u.src.now.script.now u.src.now.objects u.src.now.work.now u.src.now.limit u.first (refs_of (package_in c.id_at.result c.of-b.result.bytes.now))
+    (section_of u.src.now.limit h (package_in c.id_at.result c.of-b.result.bytes.now)) u.out.now h
 room c h a =
     let u = c.args in
-    room-here u.src.now.corpus.now u.src.now.limit u.at c.id_at.result c.block_at-b.result.now c.block_at-b.ensures c.id_at.ensures h a
+    room-here u.src.now.corpus.now u.src.now.limit u.at c.id_at.result c.of-b.result.bytes.now (ap (λ x. x.now) c.of-b.ensures ∙ c.block_at.ensures) c.id_at.ensures h a
 
 done : (c : After-put_rows-z)
     → let u = c.args in
@@ -86,58 +85,40 @@ done : (c : After-put_rows-z)
     (behind_of c.put_head-k.result c.put_rows-z.result)
 done c h a =
     let u = c.args in
-    let d = package_in c.id_at.result c.block_at-b.result.now in
-    let r = room-here u.src.now.corpus.now u.src.now.limit u.at c.id_at.result c.block_at-b.result.now c.block_at-b.ensures c.id_at.ensures h a in
-    filled-here u.src.now.corpus.now u.src.now.limit u.at c.id_at.result c.block_at-b.result.now c.block_at-b.ensures c.id_at.ensures h
-    (filled u.src.now.limit d r c.put_head-k.ensures (c.put_rows-z.ensures c.id_at.result h (rows-room u.src.now.limit d r c.put_head-k.ensures)))
+    let d = package_in c.id_at.result c.of-b.result.bytes.now in
+    let r = room-here u.src.now.corpus.now u.src.now.limit u.at c.id_at.result c.of-b.result.bytes.now (ap (λ x. x.now) c.of-b.ensures ∙ c.block_at.ensures) c.id_at.ensures h a in
+    filled-here u.src.now.corpus.now u.src.now.limit u.at c.id_at.result c.of-b.result.bytes.now (ap (λ x. x.now) c.of-b.ensures ∙ c.block_at.ensures) c.id_at.ensures h
+    (filled u.src.now.limit d r (rw c.noted-p.ensures at c.put_head-k.ensures) ((rw c.noted-p.ensures at c.put_rows-z.ensures) c.id_at.result h (rows-room u.src.now.limit d r (rw c.noted-p.ensures at c.put_head-k.ensures))))
 
-pub layout_of-requires : goal.layout_of-requires
-layout_of-requires c =
-    let d = c.block_at-b.result.now in
-    ((read_in d).layout, accepted-by d (read_in d) (rw c.block_at-b.ensures c.requires.site.1))
-
-pub note_names-requires : goal.note_names-requires
-note_names-requires c =
-    let k = here (goal.at.note_names-requires c).After-parts_of-parts in
-    (names-held k.read k.bytes, c.requires.site.2)
-
-pub note_names-requires-2 : goal.note_names-requires-2
-note_names-requires-2 c =
-    let k = here (goal.at.note_names-requires-2 c).After-parts_of-parts in
-    (imported-held k.read k.bytes, c.requires.site.3)
-
-pub invariant_of-p : goal.invariant_of-p
-invariant_of-p c =
-    let k = here (goal.at.invariant_of-p c).After-parts_of-parts in
-    record { accepted = k.read; fits = k.bytes; names_noted = c.note_names.ensures.0; imported_noted = c.note_names-2.ensures.0 }
+pub of-b-requires : goal.of-b-requires
+of-b-requires c = rw c.block_at.ensures c.requires.site.1
 
 pub put_head-k-requires : goal.put_head-k-requires
-put_head-k-requires c = (
-  (here (goal.at.put_head-k-requires c).After-parts_of-parts).small.count,
-  head-fits c.args.src.now.limit (package_in c.id_at.result c.block_at-b.result.now) (room (goal.at.put_head-k-requires c).After-id_at c.requires.section_room.0 c.requires.section_room.1),
+put_head-k-requires c = rw c.noted-p.ensures (
+  (here (goal.at.put_head-k-requires c).After-of-b).small.count,
+  head-fits c.args.src.now.limit (package_in c.id_at.result c.of-b.result.bytes.now) (room (goal.at.put_head-k-requires c).After-id_at c.requires.section_room.0 c.requires.section_room.1),
 )
 
 pub step_of-step-requires : goal.step_of-step-requires
-step_of-step-requires c = (here (goal.at.step_of-step-requires c).After-parts_of-parts).small.start
+step_of-step-requires c = (here (goal.at.step_of-step-requires c).After-of-b).small.start
 
 pub put_rows-z-requires : goal.put_rows-z-requires
 put_rows-z-requires c =
-    let k = here (goal.at.put_rows-z-requires c).After-parts_of-parts in
+    let k = here (goal.at.put_rows-z-requires c).After-of-b in
     let e = c.step_of-step.ensures in
     let (h, a) = c.requires.section_room in
-    record {
+    rw c.noted-p.ensures (record {
       few = k.small.count;
-      by_index = (c.id_at.result, h, rows-room c.args.src.now.limit (package_in c.id_at.result c.block_at-b.result.now) (room (goal.at.put_rows-z-requires c).After-id_at h a) c.put_head-k.ensures);
+      by_index = (c.id_at.result, h, rows-room c.args.src.now.limit (package_in c.id_at.result c.of-b.result.bytes.now) (room (goal.at.put_rows-z-requires c).After-id_at h a) (rw c.noted-p.ensures at c.put_head-k.ensures));
       rows_marked = (
         marked-here c.args.src.now.corpus.now c.args.at k.block (e ∙ step-first c.args.src.now.corpus.now c.args.at k.block k.read) c.requires.rows_marked,
         omega (arith, e, k.small.step),
       );
-    }
+    })
 
 pub behind-requires : goal.behind-requires
 behind-requires c =
     omega (arith, (done (goal.at.behind-requires c).After-put_rows-z c.requires.section_room.0 c.requires.section_room.1).wrote.fits)
 
 pub returns : goal.returns
-returns c =
-    record { is = λ h a. rw c.behind.ensures (done (goal.at.returns c).After-put_rows-z h a); notes = (c.note_names.ensures.1, c.note_names-2.ensures.1) }
+returns c = record { is = λ h a. rw c.behind.ensures (done (goal.at.returns c).After-put_rows-z h a) }

@@ -51,24 +51,21 @@ rows-room n w m e = omega (arith, m.room, e, length-drop (48 * n) w)
 -- what was written fits
 holds-size : (c : At-loop)
     → (c.loop.size ≤ length c.loop.out) × (length c.loop.out ≡ length c.args.out.now)
-holds-size c = filled-inside (c.loop.invariant.0.filled c.requires.sections_room.0 c.requires.sections_room.1)
+holds-size c = filled-inside (c.loop.invariant.filled c.requires.sections_room.0 c.requires.sections_room.1)
 
 summed : (c : After-put_section-z)
     → let l = c.loop in
     let u = c.args in
     (l.size + c.put_section-z.result.size ≤ length u.out.now) × (l.rows + c.put_section-z.result.rows ≤ length u.src.now.work.now)
 summed c =
-    let t = c.loop.invariant.0 in
+    let t = c.loop.invariant in
     let (h, a) = c.requires.sections_room in
     sums t c.loop-test.true h a (c.put_section-z.ensures.is h (room t c.loop-test.true h a))
 
 pub loop-init : goal.loop-init
 loop-init c =
-    let z = c.args in (
-      record { place = sym (place_none z.src.now.corpus.now z.from); marks = sym (marks-first z.src.now.corpus.now z.from); filled = λ h a. filled_none z.out.now },
-      c.requires.sites.2,
-      c.requires.sites.3,
-    )
+    let z = c.args in
+    record { place = sym (place_none z.src.now.corpus.now z.from); marks = sym (marks-first z.src.now.corpus.now z.from); filled = λ h a. filled_none z.out.now }
 
 pub slice_bounds-put_section-count : goal.slice_bounds-put_section-count
 slice_bounds-put_section-count c = (holds-size (goal.at.slice_bounds-put_section-count c).At-loop).0
@@ -79,14 +76,12 @@ slice_bounds-put_section-start c = (holds-size (goal.at.slice_bounds-put_section
 pub put_section-z-requires : goal.put_section-z-requires
 put_section-z-requires c =
     let l = c.loop in
-    let t = l.invariant.0 in
+    let t = l.invariant in
     let (h, a) = c.requires.sections_room in
     record {
       site = (
         rw t.place (c.requires.sites.0.site l.counter c.loop-test.true),
         rw t.place (c.requires.sites.1.read l.counter c.loop-test.true),
-        c.look_ahead-ahead.ensures,
-        l.invariant.2,
       );
       section_room = (h, room t c.loop-test.true h a);
       rows_marked = rw t.place (rows-marked c.args.src.now.objects c.args.src.now.work.now c.requires.sites.0 c.requires.sites.1 c.requires.marks_in.0 c.requires.marks_in.1 l.counter c.loop-test.true t.marks);
@@ -104,16 +99,13 @@ pub loop-preserved : goal.loop-preserved
 loop-preserved c =
     let l = c.loop in
     let u = c.args in
-    let t = l.invariant.0 in
-    let (h, a) = c.requires.sections_room in (
-      record {
-        place = c.next_at-at.ensures ∙ rw t.place (sym (place-next u.src.now.corpus.now u.from l.counter));
-        marks = marked t c.loop-test.true h a (c.put_section-z.ensures.is h (room t c.loop-test.true h a));
-        filled = λ h a. more t c.loop-test.true h a (c.put_section-z.ensures.is h (room t c.loop-test.true h a));
-      },
-      c.put_section-z.ensures.notes.0,
-      c.put_section-z.ensures.notes.1,
-    )
+    let t = l.invariant in
+    let (h, a) = c.requires.sections_room in
+    record {
+      place = c.next_at-at.ensures ∙ rw t.place (sym (place-next u.src.now.corpus.now u.from l.counter));
+      marks = marked t c.loop-test.true h a (c.put_section-z.ensures.is h (room t c.loop-test.true h a));
+      filled = λ h a. more t c.loop-test.true h a (c.put_section-z.ensures.is h (room t c.loop-test.true h a));
+    }
 
 pub shape_of-out : goal.shape_of-out
 shape_of-out c = (holds-size (goal.at.shape_of-out c).At-loop).1
@@ -124,4 +116,4 @@ returns c = λ h a.
     let u = c.args in
     let ps = packages_at u.src.now.corpus.now u.from u.count in
     let e : l.counter ≡ length ps = omega (arith, c.loop-test.false, packages-length u.src.now.corpus.now u.from u.count) in
-    (filled-all refs_of (section_of u.src.now.limit h) ps l.counter e (l.invariant.0.filled h a)).wrote
+    (filled-all refs_of (section_of u.src.now.limit h) ps l.counter e (l.invariant.filled h a)).wrote

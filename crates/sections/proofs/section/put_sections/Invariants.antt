@@ -4,7 +4,6 @@ use mathlib.Core.List.{List}
 use Prim.Native.Nat.{ℕ}
 use lib.ListN.{length, take}
 use Rattle.base.specs.Find.{flat}
-use Rattle.batch.specs.Notes.{note_count}
 use Rattle.meaning.specs.Reference.{Package}
 use Rattle.packages.specs.Walk.{place_of, packages_at}
 use Rattle.resolve.specs.Marks.{marks_in}
@@ -22,4 +21,4 @@ pub record Sofar (c s : List ℕ) (n : ℕ) (w : List ℕ) (objects from count :
 
 abbrev pub invariant-loop : goal.invariant-loop
 invariant-loop l =
-    Sofar l.src.corpus.now l.src.script.now l.src.objects l.src.work.now l.src.limit l.from l.count l.initial.out l.counter l.at l.out (record { size = l.size; rows = l.rows }) × (length l.names ≡ note_count) × (length l.imported ≡ note_count)
+    Sofar l.src.corpus.now l.src.script.now l.src.objects l.src.work.now l.src.limit l.from l.count l.initial.out l.counter l.at l.out (record { size = l.size; rows = l.rows })

@@ -15,11 +15,11 @@ four c = omega (arith, text-least (native_text (limits_of c.requires.lookups c.a
 
 pub put_unknown-requires : goal.put_unknown-requires
 put_unknown-requires c =
-    unknown-room (native-none c.requires.target c.if-u-eq0.true) c.requires.room
+    unknown-room (native-none c.requires.target (c.is_missing.ensures.0 c.if-is_missing.true)) c.requires.room
 
-pub returns-then-u-eq0 : goal.returns-then-u-eq0
-returns-then-u-eq0 c = λ q o xs lookups r t room.
-    rw (native-none t c.if-u-eq0.true) c.put_unknown.ensures
+pub returns-then-is_missing : goal.returns-then-is_missing
+returns-then-is_missing c = λ q o xs lookups r t room.
+    rw (native-none t (c.is_missing.ensures.0 c.if-is_missing.true)) c.put_unknown.ensures
 
 pub slice_bounds-put_path-count : goal.slice_bounds-put_path-count
 slice_bounds-put_path-count c = four (goal.at.slice_bounds-put_path-count c).Start
@@ -29,11 +29,11 @@ slice_bounds-put_path-start c = four (goal.at.slice_bounds-put_path-start c).Sta
 
 pub put_path-requires : goal.put_path-requires
 put_path-requires c =
-    rw c.front.ensures (native_roomy c.requires.target c.if-u-eq0.false c.args.out.now c.requires.room)
+    rw c.front.ensures (native_roomy c.requires.target (c.is_missing.ensures.1 c.if-is_missing.false) c.args.out.now c.requires.room)
 
 pub put_unknown-requires-in-None : goal.put_unknown-requires-in-None
 put_unknown-requires-in-None c =
-    native-lost-room c.requires.target c.if-u-eq0.false c.args.out.now c.requires.room (rw c.front.ensures at c.in-None.ensures) refl
+    native-lost-room c.requires.target (c.is_missing.ensures.1 c.if-is_missing.false) c.args.out.now c.requires.room (rw c.front.ensures at c.in-None.ensures) refl
 
 pub put_length-requires : goal.put_length-requires
 put_length-requires c =
@@ -41,12 +41,12 @@ put_length-requires c =
 
 pub overflow_add-result : goal.overflow_add-result
 overflow_add-result c =
-    omega (arith, native-found-room c.requires.target c.if-u-eq0.false c.args.out.now c.requires.room (rw c.front.ensures at c.in-Some.ensures) refl)
+    omega (arith, native-found-room c.requires.target (c.is_missing.ensures.1 c.if-is_missing.false) c.args.out.now c.requires.room (rw c.front.ensures at c.in-Some.ensures) refl)
 
 pub returns-in-None : goal.returns-in-None
 returns-in-None c = λ q o xs lookups r t room.
-    native-lost t c.if-u-eq0.false c.args.out.now room (rw c.front.ensures at c.in-None.ensures) refl c.put_unknown-in-None.ensures
+    native-lost t (c.is_missing.ensures.1 c.if-is_missing.false) c.args.out.now room (rw c.front.ensures at c.in-None.ensures) refl c.put_unknown-in-None.ensures
 
 pub returns-in-Some : goal.returns-in-Some
 returns-in-Some c = λ q o xs lookups r t room.
-    native-found t c.if-u-eq0.false c.args.out.now room (rw c.front.ensures at c.in-Some.ensures) refl c.put_length.ensures
+    native-found t (c.is_missing.ensures.1 c.if-is_missing.false) c.args.out.now room (rw c.front.ensures at c.in-Some.ensures) refl c.put_length.ensures

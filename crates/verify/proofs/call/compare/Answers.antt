@@ -14,11 +14,11 @@ use Rattle.verify.proofs.call.compare.Goals.{After-packages}
 use Rattle.verify.proofs.call.compare.Goals as goal
 
 compared : (c : After-packages) (r : Option ℕ) → let a = c.args in
-    ((o : Objects) → run script 0 a.s.now.block.now ≡ gives o → r ≡ nonzero (repeat_block (first_in limits.objects o a.c.now.bytes.now a.c.now.frame)))
-    → Compared a.c.now.bytes.now a.c.now.frame a.c.now.script.now a.s.now.layout a.t r
+    ((o : Objects) → run script 0 a.s.now.block.bytes.now ≡ gives o → r ≡ nonzero (repeat_block (first_in limits.objects o a.c.now.bytes.now a.c.now.frame)))
+    → Compared a.c.now.bytes.now a.c.now.frame a.c.now.script.now a.s.now.block.layout a.t r
 compared c r told =
-    let (a, e, y) = c.requires in
-    record { begun = c.args.c.now.begun; packages = a; accepted = rw e at c.args.s.now.noted.0; tally = y; told = rw e at told }
+    let (a, e, l, y) = c.requires in
+    record { begun = c.args.c.now.begun; packages = a; accepted = rw e at c.args.s.now.block.accepted; tally = y; told = rw e at told }
 
 pub repeat_block-requires : goal.repeat_block-requires
 repeat_block-requires c =
@@ -26,7 +26,7 @@ repeat_block-requires c =
     rw c.packages.ensures (begun-sites b, c.requires.0, (begun-few b).0)
 
 pub returns-in-Some : goal.returns-in-Some
-returns-in-Some c = compared-twice (compared (goal.at.returns-in-Some c).After-packages _ (rw c.packages.ensures at c.in-Some.ensures))
+returns-in-Some c = compared-twice (compared (goal.at.returns-in-Some c).After-packages _ (rw (c.packages.ensures, c.requires.2) at c.in-Some.ensures))
 
 pub finish-requires : goal.finish-requires
-finish-requires c = compared-none (compared (goal.at.finish-requires c).After-packages _ (rw c.packages.ensures at c.in_default.ensures))
+finish-requires c = compared-none (compared (goal.at.finish-requires c).After-packages _ (rw (c.packages.ensures, c.requires.2) at c.in_default.ensures))

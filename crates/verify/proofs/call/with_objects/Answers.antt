@@ -10,9 +10,9 @@ use Rattle.verify.proofs.call.with_objects.Goals as goal
 
 -- what the walk entered
 walked : (c : In_ok-k) → let a = c.args in
-    Walked a.c.now.bytes.now a.c.now.frame a.c.now.script.now a.s.now.layout.count a.t c.in_ok-k.k a.w.now c.scan_packages.new.w
+    Walked a.c.now.bytes.now a.c.now.frame a.c.now.script.now a.s.now.block.layout.count a.t c.in_ok-k.k a.w.now c.scan_packages.new.w
 walked c =
-    let (q, k, y) = c.requires in
+    let (q, z, k, y) = c.requires in
     let e = rw c.packages.ensures at c.scan_packages.ensures in
     let t = c.in_ok-k.was in
     record { begun = c.args.c.now.begun; linked = k; tally = y; packages = e.all _ t; state = e.state _ k.objects t k.holds }
@@ -20,12 +20,12 @@ walked c =
 pub scan_packages-requires : goal.scan_packages-requires
 scan_packages-requires c =
     let b = c.args.c.now.begun in
-    let (q, k, y) = c.requires in
-    record { sites = rw c.packages.ensures (begun-sites b, (begun-few b).0, (begun-few b).2, refl, refl); linked = (k, begun-small b) }
+    let (q, z, k, y) = c.requires in
+    record { sites = rw c.packages.ensures (begun-sites b, (begun-few b).0, (begun-few b).2); linked = (k, begun-small b) }
 
 pub returns-in_err-k : goal.returns-in_err-k
 returns-in_err-k c =
-    let (q, k, y) = c.requires in
+    let (q, z, k, y) = c.requires in
     let e = rw c.packages.ensures at c.scan_packages.ensures in
     let p = err_from_is_err_and c.from_residual.result c.from_residual.ensures.1 in
     rw (p.1, p.2) (answered-opened (opened_package limits _ c.args.c.now.begun k.holds.all.read (e.refused _ c.in_err-k.was)) refl)
@@ -38,5 +38,5 @@ finish-requires c = walked_all (walked (goal.at.finish-requires c).In_ok-k) c.in
 
 pub compare-requires : goal.compare-requires
 compare-requires c =
-    let (q, k, y) = c.requires in
-    ((walked (goal.at.compare-requires c).In_ok-k).packages, q, y)
+    let (q, z, k, y) = c.requires in
+    ((walked (goal.at.compare-requires c).In_ok-k).packages, q, z, y)

@@ -6,4 +6,4 @@ use Rattle.verify.proofs.counts.count.Given as goal
 
 abbrev pub invariant-loop-i : goal.invariant-loop-i
 invariant-loop-i g l =
-    Counted l.s l.l (λ i h. (chain : _) × (after : _) × goal.F-post g l.hash i chain h after) l.i l.t × (length l.chain ≡ 65)
+    Counted l.s.bytes.now l.s.layout (λ i h. (room : _) × (after : _) × (length room.now ≡ l.limit) × goal.F-post g l.hash i room h after) l.i l.t × (length l.chain ≡ 65)

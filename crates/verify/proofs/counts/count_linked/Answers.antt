@@ -4,4 +4,4 @@ use Rattle.verify.proofs.Counting.{linked-inside}
 use Rattle.verify.proofs.counts.count_linked.Goals as goal
 
 pub count-requires-clause-callable : goal.count-requires-clause-callable
-count-requires-clause-callable c = λ i chain inside size. let z = linked-inside _ _ c.requires.0 c.requires.1 inside in search rules
+count-requires-clause-callable c = λ i room inside size. let z = linked-inside _ _ c.args.s.now.accepted c.requires.0 inside in search rules

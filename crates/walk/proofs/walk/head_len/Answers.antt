@@ -10,7 +10,7 @@ use Rattle.batch.specs.Holds.{Holds}
 use Rattle.packages.specs.ClassPath.{home-holds}
 use Rattle.packages.specs.Package.{package_in, PackageIn}
 use Rattle.packages.specs.Row.{home_in, base_at, whole_at}
-use Rattle.packages.specs.declared.names.Name.{Name}
+use Rattle.batch.specs.declared.places.Name.{Name}
 use Rattle.packages.specs.declared.package.Parts.{Parts}
 use Rattle.walk.specs.Found.{head_size}
 use Rattle.walk.specs.SizeLaws.{head_size_lem}
@@ -25,10 +25,10 @@ module _ {b : List ℕ} {p : Parts} (a : PackageIn b p) (y : Bytes b) {home : Na
 
 pub place_len-requires : goal.place_len-requires
 place_len-requires c =
-    let b = c.args.b.now in
-    held b.accepted b.fits c.home-home.ensures
+    let b = c.args.p.now.block in
+    held b.accepted b.fits c.home.ensures
 
 pub returns : goal.returns
 returns c =
-    let b = c.args.b.now in
-    (measured b.accepted b.fits c.home-home.ensures c.place_len.ensures.0, omega (arith, c.place_len.ensures.1))
+    let b = c.args.p.now.block in
+    (measured b.accepted b.fits c.home.ensures c.place_len.ensures.0, omega (arith, c.place_len.ensures.1))

@@ -74,27 +74,27 @@ module _ (n : ℕ) (v : Visit) (d : List ℕ) (i : ℕ) (t : Census) (w : List �
 pub returns-then-w-n-clause-state : goal.returns-then-w-n-clause-state
 returns-then-w-n-clause-state c =
     let a = c.args in
-    no_room a.n a.v a.p.now.bytes.now a.i a.t a.w.now c.requires.open_value.0 c.if-w-n.true c.closed.ensures
+    no_room a.n a.v a.p.now.block.bytes.now a.i a.t a.w.now c.requires.open_value.0 c.if-w-n.true c.closed.ensures
 
 pub enter_class-requires-clause-classes : goal.enter_class-requires-clause-classes
 enter_class-requires-clause-classes c =
     let a = c.args in
     let q = c.requires.open_value in
-    let k = asked a.n a.v a.p.now.bytes.now a.i a.t a.w.now q.0 c.if-w-n.false q.2 q.3 in
+    let k = asked a.n a.v a.p.now.block.bytes.now a.i a.t a.w.now q.0 c.if-w-n.false q.2 q.3 in
     (k.0, k.1, q.4, k.2)
 
 pub returns-then-enter_class-clause-state : goal.returns-then-enter_class-clause-state
 returns-then-enter_class-clause-state c =
     let a = c.args in
-    entered a.n a.v a.p.now.bytes.now a.i a.t a.w.now c.requires.open_value.0 c.if-w-n.false c.if-enter_class.true c.enter_class.ensures.new c.opened.ensures
+    entered a.n a.v a.p.now.block.bytes.now a.i a.t a.w.now c.requires.open_value.0 c.if-w-n.false c.if-enter_class.true c.enter_class.ensures.new c.opened.ensures
 
 pub returns-then-enter_class-clause-marks : goal.returns-then-enter_class-clause-marks
 returns-then-enter_class-clause-marks c =
     let a = c.args in
-    marked a.n a.v a.p.now.bytes.now a.i a.t a.w.now c.requires.open_value.0 c.if-w-n.false c.if-enter_class.true c.enter_class.ensures.new c.opened.ensures
+    marked a.n a.v a.p.now.block.bytes.now a.i a.t a.w.now c.requires.open_value.0 c.if-w-n.false c.if-enter_class.true c.enter_class.ensures.new c.opened.ensures
 
 pub returns-clause-state : goal.returns-clause-state
 returns-clause-state c =
     let a = c.args in
-    stands a.n a.v a.p.now.bytes.now a.i a.t a.w.now c.requires.open_value.0 c.if-w-n.false c.if-enter_class.false c.enter_class.ensures.old
+    stands a.n a.v a.p.now.block.bytes.now a.i a.t a.w.now c.requires.open_value.0 c.if-w-n.false c.if-enter_class.false c.enter_class.ensures.old
     c.closed-2.ensures

@@ -38,6 +38,10 @@ some_kind : (k : Candidate) → candidate_number (Some k) ≡ 0 → ⊥
 some_kind Variable q = omega arith
 some_kind Subobject q = omega arith
 
+small_kind : (k : Candidate) → candidate_number (Some k) ≤ 2
+small_kind Variable = omega arith
+small_kind Subobject = omega arith
+
 -- export i of the package with an id, whose block d is; its kind as a candidate
 module _ (n id i : ℕ) (d : List ℕ) (t : Census) (w : List ℕ) (k : Maybe Candidate) (is : candidate_number k ≡ candidate_kind (read_in d) (export_no d i)) where
   abbrev Next : Census → List ℕ → Type 0
@@ -88,45 +92,39 @@ module _ (n step i : ℕ) (d : List ℕ) (t : Census) (w : List ℕ) (k : Maybe 
 pub returns-in_default-clause-state : goal.returns-in_default-clause-state
 returns-in_default-clause-state c =
     let a = c.args in
-    let e = c.block-b.ensures.0 in
-    no_candidate a.n a.id a.i a.p.now.bytes.now a.t a.w.now c.candidate.result (rw e at c.candidate.ensures) c.in_default.is
+    no_candidate a.n a.id a.i a.p.now.block.bytes.now a.t a.w.now c.candidate.result c.candidate.ensures c.in_default.is
 
 pub returns-in_default-clause-marks : goal.returns-in_default-clause-marks
 returns-in_default-clause-marks c =
     let a = c.args in
-    let e = c.block-b.ensures.0 in
-    no_mark a.n a.step a.i a.p.now.bytes.now a.t a.w.now c.candidate.result (rw e at c.candidate.ensures) c.in_default.is
+    no_mark a.n a.step a.i a.p.now.block.bytes.now a.t a.w.now c.candidate.result c.candidate.ensures c.in_default.is
 
 pub returns-then-w-n-clause-state : goal.returns-then-w-n-clause-state
 returns-then-w-n-clause-state c =
     let a = c.args in
-    let e = c.block-b.ensures.0 in
-    no_room a.n a.id a.i a.p.now.bytes.now a.t a.w.now (Some c.in-Some.kind) (rw e at c.in-Some.ensures) (some_kind c.in-Some.kind) c.requires.open_value.0
+    no_room a.n a.id a.i a.p.now.block.bytes.now a.t a.w.now (Some c.in-Some.kind) c.in-Some.ensures (some_kind c.in-Some.kind) c.requires.open_value.0
     c.if-w-n.true c.closed.ensures
 
 pub row_len-len-requires : goal.row_len-len-requires
 row_len-len-requires c =
     let a = c.args in
     let p = a.p.now in
-    let e = c.block-b.ensures in
-    held a.n a.id a.i p.bytes.now a.t a.w.now (Some c.in-Some.kind) (rw e.0 at c.in-Some.ensures) (some_kind c.in-Some.kind) c.requires.open_value.0
-    p.accepted p.fits c.requires.export (rw (e.0, e.1) at c.row-v.ensures)
+    held a.n a.id a.i p.block.bytes.now a.t a.w.now (Some c.in-Some.kind) c.in-Some.ensures (some_kind c.in-Some.kind) c.requires.open_value.0
+    p.block.accepted p.block.fits c.requires.export c.row-v.ensures
 
 pub returns-clause-state : goal.returns-clause-state
 returns-clause-state c =
     let a = c.args in
     let p = a.p.now in
-    let e = c.block-b.ensures in
     let m = c.meaning-m in
-    row_put a.n a.id a.i p.bytes.now a.t a.w.now (Some c.in-Some.kind) (rw e.0 at c.in-Some.ensures) (some_kind c.in-Some.kind) c.requires.open_value.0
-    p.accepted p.fits c.requires.export (rw (e.0, e.1) at c.row-v.ensures) c.if-w-n.false
-    (rw e.0 at m.ensures) (omega (arith, m.type_inv)) (omega (arith, m.type_inv)) c.mark_of.result c.put_words.ensures c.row_len-len.ensures.0 c.opened.ensures
+    row_put a.n a.id a.i p.block.bytes.now a.t a.w.now (Some c.in-Some.kind) c.in-Some.ensures (some_kind c.in-Some.kind) c.requires.open_value.0
+    p.block.accepted p.block.fits c.requires.export c.row-v.ensures c.if-w-n.false
+    m.ensures (omega (arith, m.type_inv)) (omega (arith, m.type_inv)) c.mark_of.result c.put_words.ensures c.row_len-len.ensures.0 c.opened.ensures
 
 pub returns-clause-marks : goal.returns-clause-marks
 returns-clause-marks c =
     let a = c.args in
-    let e = c.block-b.ensures.0 in
     let y = c.mark_of.ensures in
-    mark-put a.n a.step a.i a.p.now.bytes.now a.t a.w.now (Some c.in-Some.kind) (rw e at c.in-Some.ensures) (some_kind c.in-Some.kind) c.requires.open_value.0
-    c.if-w-n.false c.meaning-m.result (y ∙ ap (mark_of a.step) c.number.ensures) (omega (arith, y, c.requires.open_value.5, c.number.type_inv))
+    mark-put a.n a.step a.i a.p.now.block.bytes.now a.t a.w.now (Some c.in-Some.kind) c.in-Some.ensures (some_kind c.in-Some.kind) c.requires.open_value.0
+    c.if-w-n.false c.meaning-m.result y (omega (arith, y, c.requires.open_value.5, small_kind c.in-Some.kind))
     c.put_words.ensures c.opened.ensures

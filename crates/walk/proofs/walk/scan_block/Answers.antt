@@ -36,4 +36,4 @@ returns-in-Ok-2-clause-read c = λ t z. (layout_package c.args.b.now c.in-Ok-2.f
 pub returns-in-Ok-2-clause-state : goal.returns-in-Ok-2-clause-state
 returns-in-Ok-2-clause-state c = λ t k o f z v x.
     let a = c.args in
-    rw (← ok_same z) (shut a.b.now a.s.now a.n a.limit a.v (c.is_open.ensures.1 c.if-is_open.false) x)
+    rw (← ok_same z) (shut a.b.now a.s.now.block.now a.s.now.count a.s.now.limit a.v (c.is_open.ensures.1 c.if-is_open.false) x)

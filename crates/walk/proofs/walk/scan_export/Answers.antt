@@ -83,20 +83,20 @@ module _ (c : After-is_class) where
   open-row : c.keep_row-r.result.state ≡ Open
   open-row = c.is_open.ensures.0 c.if-not-is_open.false
 
-  export-is : c.export-e.result ≡ export_no c.args.p.now.bytes.now c.args.i
-  export-is = rw c.block.ensures.0 at c.export-e.ensures
+  export-is : c.export-e.result ≡ export_no c.args.p.now.block.bytes.now c.args.i
+  export-is = c.export-e.ensures
 
   -- what entering its class asks
   class-asked : c.is_class.result ≡ true → let r = c.keep_row-r in
-      ((export_no c.args.p.now.bytes.now c.args.i).hash ≡ 0 → ⊥) × Classes (4 * c.args.n) r.result.classes (drop (48 * c.args.n) r.new.w) × (0 < c.args.n)
+      ((export_no c.args.p.now.block.bytes.now c.args.i).hash ≡ 0 → ⊥) × Classes (4 * c.args.s.now.count) r.result.classes (drop (48 * c.args.s.now.count) r.new.w) × (0 < c.args.s.now.count)
   class-asked h =
       let a = c.args in
-      asked a.n a.limit a.v a.i a.p.now.bytes.now a.s.now c.keep_row-r.ensures.state open-row export-is c.is_class.ensures h c.requires.open_value.1
+      asked a.s.now.count a.s.now.limit a.v a.i a.p.now.block.bytes.now a.s.now.block.now c.keep_row-r.ensures.state open-row export-is c.is_class.ensures h c.requires.open_value.1
 
 pub returns-then-not-is_open-clause-state : goal.returns-then-not-is_open-clause-state
 returns-then-not-is_open-clause-state c =
     let a = c.args in
-    shut a.n a.limit a.v a.i a.p.now.bytes.now a.s.now c.keep_row-r.ensures.state (c.is_open.ensures.1 c.if-not-is_open.true)
+    shut a.s.now.count a.s.now.limit a.v a.i a.p.now.block.bytes.now a.s.now.block.now c.keep_row-r.ensures.state (c.is_open.ensures.1 c.if-not-is_open.true)
 
 pub keep_class-requires-clause-export : goal.keep_class-requires-clause-export
 keep_class-requires-clause-export c =
@@ -115,7 +115,7 @@ pub returns-then-is_class-clause-state : goal.returns-then-is_class-clause-state
 returns-then-is_class-clause-state c =
     let z = (goal.at.returns-then-is_class-clause-state c).After-is_class in
     let a = c.args in
-    a-class a.n a.limit a.v a.i a.p.now.bytes.now a.s.now c.keep_row-r.ensures.state (open-row z) (export-is z) c.is_class.ensures c.if-is_class.true
+    a-class a.s.now.count a.s.now.limit a.v a.i a.p.now.block.bytes.now a.s.now.block.now c.keep_row-r.ensures.state (open-row z) (export-is z) c.is_class.ensures c.if-is_class.true
     c.keep_class.ensures.state
 
 pub returns-then-is_class-clause-marks : goal.returns-then-is_class-clause-marks
@@ -123,11 +123,11 @@ returns-then-is_class-clause-marks c = λ l m.
     let z = (goal.at.returns-then-is_class-clause-marks c).After-is_class in
     let a = c.args in
     let e = c.keep_row-r.ensures in
-    let p = some-row a.n a.limit a.v a.i a.p.now.bytes.now a.s.now e.state (open-row z) c.requires.open_value.1 in
-    c.keep_class.ensures.marks p.corpus a.s.now p.objects p.found _ p.visited p.holds (e.marks l m)
+    let p = some-row a.s.now.count a.s.now.limit a.v a.i a.p.now.block.bytes.now a.s.now.block.now e.state (open-row z) c.requires.open_value.1 in
+    c.keep_class.ensures.marks p.corpus a.s.now.block.now p.objects p.found _ p.visited p.holds (e.marks l m)
 
 pub returns-clause-state : goal.returns-clause-state
 returns-clause-state c =
     let z = (goal.at.returns-clause-state c).After-is_class in
     let a = c.args in
-    no_class_lem a.n a.limit a.v a.i a.p.now.bytes.now a.s.now c.keep_row-r.ensures.state (open-row z) (export-is z) c.is_class.ensures c.if-is_class.false
+    no_class_lem a.s.now.count a.s.now.limit a.v a.i a.p.now.block.bytes.now a.s.now.block.now c.keep_row-r.ensures.state (open-row z) (export-is z) c.is_class.ensures c.if-is_class.false

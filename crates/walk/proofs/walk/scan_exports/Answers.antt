@@ -14,13 +14,13 @@ grown-more h g = record { classes = omega (arith, g.classes); rows = omega (arit
 pub loop-i-init : goal.loop-i-init
 loop-i-init c =
     let a = c.args in
-    begun a.p.now.bytes.now a.s.now a.n a.limit a.v a.step c.requires.some_state.0
+    begun a.p.now.block.bytes.now a.s.now.block.now a.s.now.count a.s.now.limit a.v a.step c.requires.some_state.0
 
 pub returns-then-not-is_open-clause-state : goal.returns-then-not-is_open-clause-state
 returns-then-not-is_open-clause-state c =
     let l = c.loop-i in
     let a = c.args in
-    shut a.p.now.bytes.now a.s.now a.n a.limit a.v a.step l.invariant a.p.now.accepted l.auto.i-end (c.is_open.ensures.1 c.if-not-is_open.true)
+    shut a.p.now.block.bytes.now a.s.now.block.now a.s.now.count a.s.now.limit a.v a.step l.invariant a.p.now.block.accepted l.auto.i-end (c.is_open.ensures.1 c.if-not-is_open.true)
 
 pub returns-then-not-is_open-clause-grown : goal.returns-then-not-is_open-clause-grown
 returns-then-not-is_open-clause-grown c = grown-more c.loop-i.auto.i-end c.loop-i.invariant.grown
@@ -48,12 +48,12 @@ loop-i-preserved c =
     let a = c.args in
     let p = a.p.now in
     let e = c.scan_export-t.ensures in
-    more p.bytes.now a.s.now a.n a.limit a.v a.step l.invariant e.state e.grown e.size (omega (arith, c.loop-i-test.true, export_count_lem p.accepted)) e.marks
+    more p.block.bytes.now a.s.now.block.now a.s.now.count a.s.now.limit a.v a.step l.invariant e.state e.grown e.size (omega (arith, c.loop-i-test.true, export_count_lem p.block.accepted)) e.marks
 
 pub returns-clause-state : goal.returns-clause-state
 returns-clause-state c =
     let a = c.args in
-    whole a.p.now.bytes.now a.s.now a.n a.limit a.v a.step c.loop-i.invariant a.p.now.accepted (omega (arith, c.loop-i.auto.i-end, c.loop-i-test.false))
+    whole a.p.now.block.bytes.now a.s.now.block.now a.s.now.count a.s.now.limit a.v a.step c.loop-i.invariant a.p.now.block.accepted (omega (arith, c.loop-i.auto.i-end, c.loop-i-test.false))
 
 pub returns-clause-grown : goal.returns-clause-grown
 returns-clause-grown c = grown-more c.loop-i.auto.i-end c.loop-i.invariant.grown
@@ -61,4 +61,4 @@ returns-clause-grown c = grown-more c.loop-i.auto.i-end c.loop-i.invariant.grown
 pub returns-clause-marks : goal.returns-clause-marks
 returns-clause-marks c =
     let a = c.args in
-    marked a.p.now.bytes.now a.s.now a.n a.limit a.v a.step c.loop-i.invariant a.p.now.accepted (omega (arith, c.loop-i.auto.i-end, c.loop-i-test.false))
+    marked a.p.now.block.bytes.now a.s.now.block.now a.s.now.count a.s.now.limit a.v a.step c.loop-i.invariant a.p.now.block.accepted (omega (arith, c.loop-i.auto.i-end, c.loop-i-test.false))

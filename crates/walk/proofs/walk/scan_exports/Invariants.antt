@@ -81,4 +81,4 @@ module _ (d b : List ℕ) (n limit : ℕ) (v : Visit) (step : ℕ) {t₀ : Censu
       marked e l m = let q = take_all i (read_in d).exports (omega (arith, export_count_lem a)) in rw q at (k.marks l m)
 
 abbrev pub invariant-loop-i : goal.invariant-loop-i
-invariant-loop-i l = Done l.p.bytes.now l.s l.n l.limit l.v l.step l.initial.t l.initial.w l.i l.t l.w
+invariant-loop-i l = Done l.p.block.bytes.now l.s.block.now l.s.count l.s.limit l.v l.step l.initial.t l.initial.w l.i l.t l.w

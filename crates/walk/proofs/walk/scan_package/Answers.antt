@@ -6,7 +6,7 @@ use native.Mathlib.Omega.{arith}
 use lib.ListN.{length}
 use Rattle.scriptblock.specs.Script.{Objects}
 use Rattle.packages.specs.Package.{read_in, package_in, PackageIn}
-use Rattle.packages.specs.PackageLaws.{package_in_lem, package_facts, export_count_lem, names-held, imported-held}
+use Rattle.packages.specs.PackageLaws.{package_in_lem, package_facts, export_count_lem}
 use Rattle.packages.specs.declared.package.Parts.{Parts}
 use Rattle.resolve.specs.MarkLaws.{few-steps, step_is}
 use Rattle.resolve.specs.Marks.{marks_from, step_at, marks_of}
@@ -17,7 +17,7 @@ use Rattle.walk.specs.Steps.{opened_as, SomeState, Marked, row_most, head_most, 
 use Rattle.walk.specs.declared.walk.Census.{Census}
 use Rattle.walk.specs.declared.walk.Entering.TheVariants.{Open}
 use Rattle.walk.specs.declared.walk.Visit.{Visit}
-use Rattle.walk.proofs.walk.scan_package.Goals.{After-parts_of-parts}
+use Rattle.walk.proofs.walk.scan_package.Goals.{After-parts_of}
 use Rattle.walk.proofs.walk.scan_package.Goals as goal
 
 few-exports : {d : List ℕ} {p : Parts} → PackageIn d p → 72 * p.count ≤ length d
@@ -59,64 +59,49 @@ module _ (d b : List ℕ) (n limit : ℕ) (v : Visit) {t : Census} {w : List ℕ
   marked_headed a e next l m = rw (← step_is a v.at e) (next l (marked-same m going (ap (λ (x : Census). x.rows) is)))
 
 -- its parts are those of an accepted package
-accepted : (c : After-parts_of-parts) → PackageIn c.args.b.now c.parts_of-parts.result
-accepted c = package_in_lem c.args.b.now c.args.l c.parts_of-parts.result c.requires.b_value.0 c.parts_of-parts.ensures
+accepted : (c : After-parts_of) → PackageIn c.args.b.now c.parts_of.result
+accepted c = package_in_lem c.args.b.now c.args.l c.parts_of.result c.requires.b_value c.parts_of.ensures
 
-pub note_names-requires : goal.note_names-requires
-note_names-requires c =
-    let a = accepted (goal.at.note_names-requires c).After-parts_of-parts in
-    (names-held a (λ i. (c.type_inv.b i).fits), c.requires.b_value.1)
-
-pub note_names-requires-2 : goal.note_names-requires-2
-note_names-requires-2 c =
-    let a = accepted (goal.at.note_names-requires-2 c).After-parts_of-parts in
-    (imported-held a (λ i. (c.type_inv.b i).fits), c.requires.b_value.2)
-
-pub invariant_of-p : goal.invariant_of-p
-invariant_of-p c = record {
-  accepted = accepted (goal.at.invariant_of-p c).After-parts_of-parts;
-  fits = λ i. (c.type_inv.b i).fits;
-  names_noted = c.note_names.ensures.0;
-  imported_noted = c.note_names-2.ensures.0;
-}
+pub invariant_of-block : goal.invariant_of-block
+invariant_of-block c = record { accepted = accepted (goal.at.invariant_of-block c).After-parts_of; fits = λ i. (c.type_inv.b i).fits }
 
 pub step_of-step-requires : goal.step_of-step-requires
 step_of-step-requires c =
-    (few-steps c.requires.open_value.1.visited.site (accepted (goal.at.step_of-step-requires c).After-parts_of-parts)).0
+    (few-steps c.requires.open_value.1.visited.site (accepted (goal.at.step_of-step-requires c).After-parts_of)).0
 
 pub scan_exports-requires : goal.scan_exports-requires
 scan_exports-requires c =
     let o = c.opened-before.ensures in
     let h = c.head_len.ensures in
-    let p = c.parts_of-parts.result in
+    let p = c.parts_of.result in
     let a = c.args in
     let q = c.requires.open_value in
-    let k = accepted (goal.at.scan_exports-requires c).After-parts_of-parts in
-    let (x, small, room) = q.2 in record {
+    let k = accepted (goal.at.scan_exports-requires c).After-parts_of in
+    let (x, small, room) = q.2 in rw c.noted-p.ensures (record {
       some_state = (
-        some_headed a.b.now a.s.now a.n a.limit a.v q.0 (rw c.block.ensures.0 at h.0) o q.1,
+        some_headed a.b.now a.s.now.block.now a.s.now.count a.s.now.limit a.v q.0 (rw c.noted-p.ensures at h.0) o q.1,
         rw o (few-classes (length a.b.now) p.count small (few-exports k) h.1 room),
         rw o (few-rows (length a.b.now) p.count small (few-exports k) h.1 room),
         rw o (few_bytes (length a.b.now) p.count small (few-exports k) h.1 room),
         rw c.step_of-step.ensures (few-steps q.1.visited.site k).1,
       );
-    }
+    })
 
 pub returns-clause-state : goal.returns-clause-state
 returns-clause-state c = λ q o f z x.
     let a = c.args in
-    c.scan_exports.ensures.state q o f z
-    (state_headed a.b.now a.s.now a.n a.limit a.v c.requires.open_value.0 (rw c.block.ensures.0 at c.head_len.ensures.0) c.opened-before.ensures x)
+    (rw c.noted-p.ensures at c.scan_exports.ensures.state) q o f z
+    (state_headed a.b.now a.s.now.block.now a.s.now.count a.s.now.limit a.v c.requires.open_value.0 (rw c.noted-p.ensures at c.head_len.ensures.0) c.opened-before.ensures x)
 
 pub returns-clause-small : goal.returns-clause-small
 returns-clause-small c = λ x small.
-    let k = accepted (goal.at.returns-clause-small c).After-parts_of-parts in
-    small-next (length c.args.b.now) c.parts_of-parts.result.count small (few-exports k) c.head_len.ensures.1
-    (rw c.opened-before.ensures at c.scan_exports.ensures.grown)
+    let k = accepted (goal.at.returns-clause-small c).After-parts_of in
+    small-next (length c.args.b.now) c.parts_of.result.count small (few-exports k) c.head_len.ensures.1
+    (rw (c.noted-p.ensures, c.opened-before.ensures) at c.scan_exports.ensures.grown)
 
 pub returns-clause-marks : goal.returns-clause-marks
 returns-clause-marks c =
     let a = c.args in
-    let k = accepted (goal.at.returns-clause-marks c).After-parts_of-parts in
-    marked_headed a.b.now a.s.now a.n a.limit a.v c.requires.open_value.0 (rw c.block.ensures.0 at c.head_len.ensures.0) c.opened-before.ensures k
-    c.step_of-step.ensures c.scan_exports.ensures.marks
+    let k = accepted (goal.at.returns-clause-marks c).After-parts_of in
+    marked_headed a.b.now a.s.now.block.now a.s.now.count a.s.now.limit a.v c.requires.open_value.0 (rw c.noted-p.ensures at c.head_len.ensures.0) c.opened-before.ensures k
+    c.step_of-step.ensures (rw c.noted-p.ensures at c.scan_exports.ensures.marks)

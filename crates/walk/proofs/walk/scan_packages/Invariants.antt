@@ -8,7 +8,6 @@ use lib.Seq.{length-take-le}
 use Rattle.base.specs.Number.{be_at}
 use Rattle.base.specs.NumberLaws.{Bytes}
 use Rattle.base.specs.Reading.{gives, refused, run_block}
-use Rattle.batch.specs.Notes.{note_count}
 use Rattle.scriptblock.specs.Script.{Objects}
 use Rattle.zen.specs.Zen.{package_block}
 use Rattle.meaning.specs.Call.{read_from, refused_in}
@@ -134,4 +133,4 @@ module _ (s : List ℕ) (at : ℕ) (b : List ℕ) (n limit : ℕ) where
 
 abbrev pub invariant-loop-i : goal.invariant-loop-i
 invariant-loop-i l =
-    (length l.names ≡ note_count) × (length l.imported ≡ note_count) × Passed l.c l.at l.s l.n l.limit l.initial.w l.i l.place l.t l.w
+    Passed l.c l.at l.s.block.now l.s.count l.s.limit l.initial.w l.i l.place l.t l.w

@@ -17,4 +17,4 @@ pub returns-then-p-i : goal.returns-then-p-i
 returns-then-p-i c = id-past _ _ (accepted (goal.at.returns-then-p-i c).In-Ok) _ c.if-p-i.true
 
 pub returns : goal.returns
-returns c = id-there _ _ (accepted (goal.at.returns c).In-Ok) _ _ c.if-p-i.false (rw c.in-Ok.ensures at c.imported_id.ensures)
+returns c = id-there _ _ (accepted (goal.at.returns c).In-Ok) _ _ c.if-p-i.false (rw (c.names.ensures.0, c.in-Ok.ensures) at c.imported_id.ensures)

@@ -1,10 +1,6 @@
 -- `zenapi::package::zen_check_package` meets its contract.
-use mathlib.Core.Path.{sym, ◌∙◌}
-use Rattle.zenapi.proofs.PackageFound.{told, passed}
+use Rattle.zenapi.proofs.PackageFound.{refused-as}
 use Rattle.zenapi.proofs.package.zen_check_package.Goals as goal
 
-pub returns-in-Ok : goal.returns-in-Ok
-returns-in-Ok c = passed _ _ (sym c.in-Ok.ensures)
-
-pub returns-in-Err : goal.returns-in-Err
-returns-in-Err c = c.from.ensures ∙ c.number.ensures ∙ told _ _ (sym c.in-Err.ensures)
+pub returns : goal.returns
+returns c = refused-as _ _ _ c.check_package.ensures c.refused.ensures

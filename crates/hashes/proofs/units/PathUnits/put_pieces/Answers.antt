@@ -11,21 +11,21 @@ use Rattle.std.specs.List.{push}
 use Rattle.text.specs.UnitBytesLaws.{unit_bytes-length}
 use Rattle.base.specs.OutputLaws.{wrote-length}
 use Rattle.text.specs.Utf16.{unit_bytes}
-use Rattle.hashes.specs.Chain.{no_link, pieces}
+use Rattle.hashes.specs.Chain.{no_name, pieces}
 use Rattle.hashes.specs.PieceLaws.{pieces_none, Part, own-holds, own-fits, own-after, own-size, filled_none, filled-all, part_room, part_filled}
-use Rattle.hashes.specs.declared.chain.Link.{Link}
+use Rattle.batch.specs.declared.places.Name.{Name}
 use Rattle.hashes.proofs.units.PathUnits.put_pieces.Goals.{In-Some, After-min-here, After-put_piece}
 use Rattle.hashes.proofs.units.PathUnits.put_pieces.Goals as goal
 
 -- the last of the first objects of a chain, and those before it
-module _ (c xs rest : List Link) (x : Link) (h : length xs ≤ length c) (is : xs ≡ take (length xs) c) (step : xs ≡ push rest x) where
+module _ (c xs rest : List Name) (x : Name) (h : length xs ≤ length c) (is : xs ≡ take (length xs) c) (step : xs ≡ push rest x) where
   last-length : length xs ≡ length rest + 1
   last-length = ap length step ∙ length-append rest (x ∷ [])
 
-  last-is : x ≡ get_or c (length rest) no_link
+  last-is : x ≡ get_or c (length rest) no_name
   last-is =
-      let e : get_or xs (length rest) no_link ≡ x = ap (λ (l : List Link). get_or l (length rest) no_link) step ∙ get_or_at rest x [] no_link (length rest) refl in
-      sym e ∙ (ap (λ (l : List Link). get_or l (length rest) no_link) is ∙ get_or-take (length xs) c (length rest) no_link (omega (arith, last-length)))
+      let e : get_or xs (length rest) no_name ≡ x = ap (λ (l : List Name). get_or l (length rest) no_name) step ∙ get_or_at rest x [] no_name (length rest) refl in
+      sym e ∙ (ap (λ (l : List Name). get_or l (length rest) no_name) is ∙ get_or-take (length xs) c (length rest) no_name (omega (arith, last-length)))
 
   last-rest : rest ≡ take (length rest) c
   last-rest =
@@ -38,7 +38,7 @@ count c =
     let i = c.loop-u.invariant in
     last-length c.args.self.now.chain.now c.loop-u.u-iterator.iter.rest.now c.next.new.self.iter.rest.now c.in-Some.u.now i.0 i.1 c.in-Some.ensures.steps
 
-object : (c : In-Some) → c.in-Some.u.now ≡ get_or c.args.self.now.chain.now (length c.next.new.self.iter.rest.now) no_link
+object : (c : In-Some) → c.in-Some.u.now ≡ get_or c.args.self.now.chain.now (length c.next.new.self.iter.rest.now) no_name
 object c =
     let i = c.loop-u.invariant in
     last-is c.args.self.now.chain.now c.loop-u.u-iterator.iter.rest.now c.next.new.self.iter.rest.now c.in-Some.u.now i.0 i.1 c.in-Some.ensures.steps
@@ -46,7 +46,7 @@ object c =
 part : (c : After-min-here)
     → let l = c.loop-u in
     length l.u-iterator.iter.rest.now ≡ length c.next.new.self.iter.rest.now + 1
-    → c.in-Some.u.now ≡ get_or c.args.self.now.chain.now (length c.next.new.self.iter.rest.now) no_link
+    → c.in-Some.u.now ≡ get_or c.args.self.now.chain.now (length c.next.new.self.iter.rest.now) no_name
     → Part c.args.self.now.names.now c.args.self.now.chain.now c.in-Some.u.now (length c.next.new.self.iter.rest.now) l.skip l.left
     c.piece_count-count.result c.min-past.result c.min-here.result
 part c n o =

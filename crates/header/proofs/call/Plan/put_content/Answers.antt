@@ -61,4 +61,6 @@ returns c =
     (content-made c.args.self.now.s.now c.args.self.now.whole c.args.self.now.parts c.args.self.now.parts_are)
 
 pub invariant_of-texts : goal.invariant_of-texts
-invariant_of-texts c = record { fit = (texts-batch c.args.self.now.s.now c.args.self.now.whole c.args.self.now.parts c.args.self.now.parts_are).fits }
+invariant_of-texts c =
+    let b = texts-batch c.args.self.now.s.now c.args.self.now.whole c.args.self.now.parts c.args.self.now.parts_are in
+    record { fit = b.fits }

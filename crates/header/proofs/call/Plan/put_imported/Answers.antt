@@ -43,4 +43,6 @@ returns c =
     c.args.self.now.s.now c.args.self.now.whole c.args.self.now.parts c.args.self.now.parts_are)
 
 pub invariant_of-names : goal.invariant_of-names
-invariant_of-names c = record { fit = (names-batch c.args.self.now.s.now c.args.self.now.whole c.args.self.now.parts c.args.self.now.parts_are).fits }
+invariant_of-names c =
+    let b = names-batch c.args.self.now.s.now c.args.self.now.whole c.args.self.now.parts c.args.self.now.parts_are in
+    record { fit = b.fits }

@@ -33,8 +33,7 @@ put_names-requires c =
     let names = names_bytes (texts_from a.self.more a.self.s.now a.self.from a.self.count) in
     let e = batch-made a.self.more a.self.s.now a.self.from a.self.count c.args.strings c.requires.2 c.if-self-eq0.false in (
       c.requires.0,
-      next-room _ (front_bytes a.self.count c.args.strings) names _ _ c.put_front-a.ensures (omega
-          (arith, c.requires.3, ap length e)),
+      next-room _ (front_bytes a.self.count c.args.strings) names _ _ c.put_front-a.ensures (omega (arith, c.requires.3, ap length e)),
     )
 
 pub returns : goal.returns

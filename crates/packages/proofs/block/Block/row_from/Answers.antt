@@ -1,5 +1,6 @@
 -- `packages::block::Block::row_from` meets its contract. Assumes nothing.
 use Rattle.std.specs.Prelude.{None}
+use mathlib.Core.Path.{refl}
 use Rattle.packages.proofs.RowMade.{alone, nested, outer-there, named, own-start, above-start}
 use Rattle.packages.proofs.block.Block.row_from.Goals as goal
 
@@ -8,21 +9,19 @@ place_from-requires c =
     let q = c.export-e.ensures in
     (named _ _ c.args.self.now.accepted c.args.i _ q c.requires.0, own-start _ _ c.args.i None _ c.args.own q c.requires.1)
 
-pub place_from-requires-then-is_local : goal.place_from-requires-then-is_local
-place_from-requires-then-is_local c =
+pub place_from-requires-in-Some : goal.place_from-requires-in-Some
+place_from-requires-in-Some c =
     let a = c.args.self.now.accepted in
-    let q = c.export-e.ensures in
-    let g = c.is_local.ensures in
-    let l = outer-there _ _ a c.export-e.result _ g c.if-is_local.true in
-    (named _ _ a _ _ c.export-u.ensures l, above-start _ _ a c.args.i None _ _ _ c.args.outer q g c.if-is_local.true c.export-u.ensures c.requires.2)
+    let (t, k) = c.in-Some.ensures in
+    let u = rw k at c.export-u.ensures in
+    (named _ _ a _ _ u (outer-there _ _ a c.export-e.result _ refl t), above-start _ _ a c.args.i None _ _ _ c.args.outer c.export-e.ensures refl t u c.requires.2)
 
-pub returns-then-is_local : goal.returns-then-is_local
-returns-then-is_local c =
+pub returns-in-Some : goal.returns-in-Some
+returns-in-Some c =
     let a = c.args.self.now.accepted in
-    let d = c.place_from.ensures in
-    let t = c.if-is_local.true in
-    nested _ _ a c.args.i _ _ _ c.export-e.ensures d _ c.is_local.ensures _ _ t c.export-u.ensures c.place_from-then-is_local.ensures
+    let (t, k) = c.in-Some.ensures in
+    nested _ _ a c.args.i _ _ _ c.export-e.ensures c.place_from.ensures _ refl _ _ t (rw k at c.export-u.ensures) c.place_from-in-Some.ensures
 
-pub returns-else-is_local : goal.returns-else-is_local
-returns-else-is_local c =
-    alone _ _ c.args.self.now.accepted c.args.i _ _ _ c.export-e.ensures c.place_from.ensures _ c.is_local.ensures c.if-is_local.false
+pub returns-in-None : goal.returns-in-None
+returns-in-None c =
+    alone _ _ c.args.self.now.accepted c.args.i _ _ _ c.export-e.ensures c.place_from.ensures _ refl c.in-None.ensures

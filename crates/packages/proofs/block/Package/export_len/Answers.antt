@@ -8,6 +8,7 @@ use lib.ListN.{length, get_or, length-append}
 use Rattle.base.specs.Literal.{quoted}
 use Rattle.text.specs.Utf8.{utf8}
 use Rattle.batch.specs.Holds.{Holds, name_at}
+use Rattle.batch.specs.declared.places.Name.{Name}
 use Rattle.batch.specs.declared.places.Place.{Place}
 use Rattle.zen.specs.Zen.{no_export, export_name}
 use Rattle.zen.specs.declared.tables.Export.{Export}
@@ -25,14 +26,11 @@ size b i n e place q d g =
     let all : length (export_bytes (read_in b) i) ≡ 7 + length (utf8 (export_name (read_in b) u)) = length-append (quoted "export:") (utf8 (export_name (read_in b) u)) in
     omega (arith, all, ap (λ (t : List ℕ). length (utf8 t)) name, g.0)
 
-pub name-requires : goal.name-requires
-name-requires c =
-    let e = c.block-b.ensures in
-    (rw (e.0, e.1) c.args.self.now.names_noted, named _ _ c.block-b.result.accepted c.args.i _ c.export-e.ensures (rw e.1 c.requires))
+pub name_of-requires : goal.name_of-requires
+name_of-requires c = named _ _ c.args.self.now.block.accepted c.args.i _ c.export-e.ensures c.requires
 
 pub returns : goal.returns
 returns c =
-    let e = c.block-b.ensures.0 in
-    let q = rw e at c.export-e.ensures in
-    let d = rw e at c.name.ensures.1 in
-    (size _ _ _ _ _ q d c.place_len.ensures, search rules)
+    let q = c.export-e.ensures in
+    let d = c.name_of.ensures.1 in
+    (size _ _ _ _ _ q d (rw (ap (λ (n : Name). n.number) c.name_of.ensures.0) at c.place_len.ensures), search rules)

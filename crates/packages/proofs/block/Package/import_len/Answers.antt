@@ -32,7 +32,6 @@ size b x i n number place e d f g =
 
 pub returns : goal.returns
 returns c =
-    let e = c.block-b.ensures.0 in
-    let d = rw e at c.imported.ensures.1 in
-    let n = rw e at c.imported_number.ensures in
+    let d = c.imported_name.ensures.1 in
+    let n = c.imported_name.ensures.2 in
     (size _ _ _ _ _ _ c.import_name-i.ensures d n c.place_len.ensures, search rules)

@@ -37,23 +37,20 @@ module _ (b : List ℕ) (x i j hash number : ℕ) (place : Place) (e : i ≡ imp
 
 pub put_behind-n-requires : goal.put_behind-n-requires
 put_behind-n-requires c =
-    let e = c.block-b.ensures.0 in
-    let d = rw e at c.imported.ensures.1 in
-    let n = rw e at c.imported_number.ensures in
+    let d = c.imported_name.ensures.1 in
+    let n = c.imported_name.ensures.2 in
     (holds-own d, front-room _ _ _ _ _ _ _ c.import_name-i.ensures refl d n refl _ c.requires.2)
 
 pub put_index-requires : goal.put_index-requires
 put_index-requires c =
-    let e = c.block-b.ensures.0 in
-    let d = rw e at c.imported.ensures.1 in
-    let n = rw e at c.imported_number.ensures in
-    let h = rw e at c.hash.ensures in
+    let d = c.imported_name.ensures.1 in
+    let n = c.imported_name.ensures.2 in
+    let h = c.hash-hash.ensures in
     rest-room _ _ _ _ _ _ _ c.import_name-i.ensures c.import_hash.ensures d n h _ _ _ c.put_behind-n.ensures c.requires.2
 
 pub returns : goal.returns
 returns c =
-    let e = c.block-b.ensures.0 in
-    let d = rw e at c.imported.ensures.1 in
-    let n = rw e at c.imported_number.ensures in
-    let h = rw e at c.hash.ensures in
+    let d = c.imported_name.ensures.1 in
+    let n = c.imported_name.ensures.2 in
+    let h = c.hash-hash.ensures in
     done _ _ _ _ _ _ _ c.import_name-i.ensures c.import_hash.ensures d n h _ _ _ c.put_behind-n.ensures _ _ c.put_index.ensures

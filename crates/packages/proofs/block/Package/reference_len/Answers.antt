@@ -40,24 +40,24 @@ module _ (b : List ℕ) (p : Parts) (x : ℕ) (a : PackageIn b p) where
   bad-size s f e = e.0 ∙ ap length (bytes-bad a x (sym f))
 
 pub returns-in-Script : goal.returns-in-Script
-returns-in-Script c = (script-size _ _ _ c.args.self.now.accepted (rw c.in-Script.is at c.requires), search rules)
+returns-in-Script c = (script-size _ _ _ c.args.self.now.block.accepted (rw c.in-Script.is at c.requires), search rules)
 
 pub import_len-requires : goal.import_len-requires
-import_len-requires c = imported _ _ _ c.args.self.now.accepted (rw c.in-Import.is at c.requires)
+import_len-requires c = imported _ _ _ c.args.self.now.block.accepted (rw c.in-Import.is at c.requires)
 
 pub returns-in-Import : goal.returns-in-Import
 returns-in-Import c =
-    (import-size _ _ _ c.args.self.now.accepted _ (rw c.in-Import.is at c.requires) c.import_len.ensures, search rules)
+    (import-size _ _ _ c.args.self.now.block.accepted _ (rw c.in-Import.is at c.requires) c.import_len.ensures, search rules)
 
 pub export_len-requires : goal.export_len-requires
-export_len-requires c = exported _ _ _ c.args.self.now.accepted (rw c.in-Export.is at c.requires)
+export_len-requires c = exported _ _ _ c.args.self.now.block.accepted (rw c.in-Export.is at c.requires)
 
 pub returns-in-Export : goal.returns-in-Export
 returns-in-Export c =
-    (export-size _ _ _ c.args.self.now.accepted _ (rw c.in-Export.is at c.requires) c.export_len.ensures, search rules)
+    (export-size _ _ _ c.args.self.now.block.accepted _ (rw c.in-Export.is at c.requires) c.export_len.ensures, search rules)
 
 pub returns-in-Null : goal.returns-in-Null
-returns-in-Null c = (null_size _ _ _ c.args.self.now.accepted (rw c.in-Null.is at c.requires), search rules)
+returns-in-Null c = (null_size _ _ _ c.args.self.now.block.accepted (rw c.in-Null.is at c.requires), search rules)
 
 pub returns-in-Bad : goal.returns-in-Bad
-returns-in-Bad c = (bad-size _ _ _ c.args.self.now.accepted _ (rw c.in-Bad.is at c.requires) c.bad_len.ensures, search rules)
+returns-in-Bad c = (bad-size _ _ _ c.args.self.now.block.accepted _ (rw c.in-Bad.is at c.requires) c.bad_len.ensures, search rules)

@@ -43,26 +43,24 @@ module _ (s : List ℕ) (l : Layout) (a : script_answer (run script 0 s) ≡ Ok 
     numbered : (o : Objects) → run script 0 s ≡ gives o → (u.number ≡ 0 → ⊥) → ends_with (object_name o (get_or o.entries i no_entry)) class_end ≡ false
     numbered o q n = rw (← same o q) (name_numbered_lem o u n)
 
-pub entry_at-e-requires : goal.entry_at-e-requires
-entry_at-e-requires c = let a = c.args.self.now.noted.0 in (a, inside _ _ a _ c.requires)
+pub entry-e-requires : goal.entry-e-requires
+entry-e-requires c = inside _ _ c.args.self.now.block.accepted _ c.requires
 
 pub returns-then-e-ne0 : goal.returns-then-e-ne0
-returns-then-e-ne0 c = λ o q. let a = c.args.self.now.noted.0 in sym (numbered _ _ a _ c.requires _ c.entry_at-e.ensures o q c.if-e-ne0.true)
+returns-then-e-ne0 c = λ o q. sym (numbered _ _ c.args.self.now.block.accepted _ c.requires _ c.entry-e.ensures o q c.if-e-ne0.true)
 
-pub object_place-place-requires : goal.object_place-place-requires
-object_place-place-requires c =
-    let d = c.args.self.now.noted in
-    (d.0, named _ _ d.0 _ c.requires _ c.entry_at-e.ensures, d.1)
+pub place-requires : goal.place-requires
+place-requires c =
+    let s = c.args.self.now in
+    rw s.own.1 (named _ _ s.block.accepted _ c.requires _ c.entry-e.ensures)
 
 pub place_ends_with-requires : goal.place_ends_with-requires
 place_ends_with-requires c =
-    let d = c.args.self.now.noted in (
-      holds _ _ d.0 _ c.requires _ c.entry_at-e.ensures c.args.self.now.fits _ c.object_place-place.ensures,
-      refl,
-    )
+    let s = c.args.self.now in
+    (holds _ _ s.block.accepted _ c.requires _ c.entry-e.ensures s.block.fits _ (rw (s.own.0, s.own.1) at c.place.ensures), refl)
 
 pub returns : goal.returns
 returns c = λ o q.
-    let d = c.args.self.now.noted in
-    plain _ _ d.0 _ c.requires _ c.entry_at-e.ensures c.args.self.now.fits _ c.object_place-place.ensures o q c.if-e-ne0.false _
+    let s = c.args.self.now in
+    plain _ _ s.block.accepted _ c.requires _ c.entry-e.ensures s.block.fits _ (rw (s.own.0, s.own.1) at c.place.ensures) o q c.if-e-ne0.false _
     c.place_ends_with.ensures

@@ -58,13 +58,13 @@ returns-in_default c = λ o q. other _ _ c.if-e-eq0.false _ c.index_kind.ensures
 pub returns-in-Null : goal.returns-in-Null
 returns-in-Null c = λ o q. sym (class-parent _ o _ (sym c.in-Null.ensures))
 
-pub returns-in_default-find_entry : goal.returns-in_default-find_entry
-returns-in_default-find_entry c = λ o q.
-    missing _ _ c.if-e-eq0.false c.in-Script.ensures _ c.index_kind-2.ensures c.in_default-index_kind.not-Null _ o q c.in_default-find_entry.ensures
+pub returns-in_default-find : goal.returns-in_default-find
+returns-in_default-find c = λ o q.
+    missing _ _ c.if-e-eq0.false c.in-Script.ensures _ c.index_kind-2.ensures c.in_default-index_kind.not-Null _ o q c.in_default-find.ensures
 
 pub ends_in_class-requires : goal.ends_in_class-requires
 ends_in_class-requires c =
-    let a = c.args.self.now.noted.0 in
+    let a = c.args.self.now.block.accepted in
     counted _ _ a _ (found_inside _ _ _ c.in-Some.ensures)
 
 pub returns-then-ends_in_class : goal.returns-then-ends_in_class

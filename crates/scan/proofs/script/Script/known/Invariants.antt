@@ -10,4 +10,4 @@ use Rattle.scan.proofs.script.Script.known.Given as goal
 
 abbrev pub invariant-loop : goal.invariant-loop
 invariant-loop l =
-    (l.counter ≤ l.limit) × ((o : Objects) → run script 0 l.self.block.now ≡ gives o → is_known (path_of l.limit o l.index) ≡ is_known (path_of (l.limit - l.counter) o l.at))
+    (l.counter ≤ l.self.limit) × ((o : Objects) → run script 0 l.self.block.bytes.now ≡ gives o → is_known (path_of l.self.limit o l.index) ≡ is_known (path_of (l.self.limit - l.counter) o l.at))
