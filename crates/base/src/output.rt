@@ -26,7 +26,8 @@ pub fn put_bytes(out: &mut [u8], src: &[u8]) -> usize
     src.len()
 }
 
-// Kept: two functions of one line: `to_be_bytes` is of no trait, so a trait over u32 and u64 would have this line in each `impl`.
+// Kept: two functions of one line: `to_be_bytes` is of no trait of std, and over num_traits' `ToBytes` the clause would be `be_bytes_of n`, so that what is proved
+// of `be_bytes 4 n` and `be_bytes 8 n` would want a law for each width in place of the two.
 
 // A number in 4 bytes, big-endian.
 pub fn put_be32(out: &mut [u8], n: u32) -> usize

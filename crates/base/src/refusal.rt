@@ -41,10 +41,17 @@ impl Refusal {
     {
         self as u8
     }
+
+    // A refusal of a block.
+    pub fn at(self, block: u32) -> Refused
+        ensures { (result.why ≡ self) × (result.block ≡ block) }
+    {
+        Refused { why: self, block }
+    }
 }
 
 // A refusal, and the block that it is of: 0 for none, 1 for the script block, 2 and on for the packages.
-// Kept: block 0 and no Option: document 01 numbers the blocks so, and the number that C sees has it.
+// Kept: block 0 and no Option: the number that C sees has it (include/classreport.h, `classreport_block`).
 #[derive(Clone, Copy, PartialEq, Eq)]
 pub struct Refused {
     pub why: Refusal,

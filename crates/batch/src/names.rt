@@ -6,7 +6,7 @@ ghost use Rattle.base.specs.Refusal.{numbered};
 ghost use Rattle.batch.specs.Batch.{head_at, strings, body, some_names, batch};
 ghost use Rattle.batch.specs.BatchAnswers.{checked, batched};
 
-use super::reader;
+use base::number::{le32_usize, le64};
 use base::refusal::Refusal;
 use text::text::Part;
 
@@ -30,18 +30,12 @@ pub fn read_head(s: &[u8], h: usize) -> Head
     requires { h + 2 ≤ length s.now }
     ensures { (result ≡ head_at s.now h) × (result.size < 65536) }
 {
-    let a = reader::byte(s, h);
-    let n = a % 128 * 256 + reader::byte(s, h + 1);
-    if 128 <= a {
-        Head {
-            wide: true,
-            size: 2 * n,
-        }
-    } else {
-        Head {
-            wide: false,
-            size: n,
-        }
+    let head = u16::from_be_bytes([s[h], s[h + 1]]);
+    let wide = 0x8000 <= head;
+    let n = usize::from(head % 0x8000);
+    Head {
+        wide,
+        size: if wide { 2 * n } else { n },
     }
 }
 
@@ -109,12 +103,12 @@ fn read_some(s: &[u8], at: usize, count: usize) -> Result<Names, Refusal>
     if end < version {
         return Err(Refusal::Cut);
     }
-    let room = reader::u32_le(s, at);
+    let room = le32_usize(s, at);
     let next = version + 8;
     if end < next {
         return Err(Refusal::Cut);
     }
-    if reader::u64_le(s, version) != 0xC1640000 {
+    if le64(s, version) != 0xC1640000 {
         return Err(Refusal::HashVersion);
     }
     read_body(s, next, count, room)
@@ -129,7 +123,7 @@ pub fn read_batch(s: &[u8], at: usize) -> Result<Names, Refusal>
     if s.len() < next {
         return Err(Refusal::Cut);
     }
-    let count = reader::u32_le(s, at);
+    let count = le32_usize(s, at);
     if count == 0 {
         return Ok(Names {
             count: 0,

@@ -2,7 +2,7 @@
 ghost use Rattle.std.specs.Prelude.{◌≡◌, ◌<◌, length};
 ghost use Rattle.base.specs.NumberLaws.{Bytes};
 ghost use Rattle.batch.specs.Places.{name_start, place_at, Held};
-ghost use Rattle.batch.specs.Notes.{note_count, step_of, Noted};
+ghost use Rattle.batch.specs.Notes.{note_count, no_notes, step_of, Noted};
 
 use super::names::{Names, read_head};
 use super::places::{Place, name_start};
@@ -26,7 +26,10 @@ pub struct Notes {
 
 impl Notes {
     // With nothing noted.
-    pub fn new() -> Notes {
+    #[tactic(auto, unfolding(crate::specs::Notes::no_notes))]
+    pub fn new() -> Notes
+        ensures { result.starts ≡ no_notes }
+    {
         Notes { starts: [0; NOTES] }
     }
 
@@ -87,7 +90,8 @@ pub struct NotedNames<'a> {
 }
 
 impl<'a> NotedNames<'a> {
-    // The batch, once its names are noted.
+    // The batch, once its names are noted. Written out where it is called, as `Package::noted` is, since both hand out a struct that is many words long.
+    #[inline(always)]
     pub fn of(block: &'a [u8], names: Names, notes: &'a mut Notes) -> NotedNames<'a>
         requires { Held block.now names }
         ensures { (result.block ≡ block.entry) × (result.names ≡ names) }

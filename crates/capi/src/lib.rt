@@ -6,9 +6,8 @@ ghost use Rattle.claims.specs.Claims.{Called};
 ghost use Rattle.claims.specs.Header as Header;
 ghost use Rattle.claims.specs.Verify as Verify;
 
-use base::refusal::{Refusal, Refused};
-use limits::in_range;
-use resolve::limits::Limits;
+use base::refusal::Refusal;
+use limits::limits_of;
 
 mod limits; // question 29
 
@@ -23,18 +22,10 @@ pub extern "C" fn class_report(
 ) -> u64
     ensures { Called corpus.now lookups objects work.old report.old result report.new }
 {
-    if in_range(lookups, objects) {
-        let m = Limits {
-            lookups: lookups as usize,
-            objects: objects as usize,
-        };
-        return report::call::class_report(corpus, work, report, m);
-    }
-    Refused {
-        why: Refusal::Limits,
-        block: 0,
-    }
-    .number()
+    let Some(m) = limits_of(lookups, objects) else {
+        return Refusal::Limits.at(0).number();
+    };
+    report::call::class_report(corpus, work, report, m)
 }
 
 // A build's own hashes (document 02, Q-2): its counts, and a flag for each package. `work` may have any length, and the answer is the same; with twice

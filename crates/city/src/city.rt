@@ -42,8 +42,9 @@ fn mul_of(n: usize) -> u64
     add(K2, mul(n as u64, 2))
 }
 
-// Kept: that a slice has as many bytes as its formula reads is a `requires`: `first_state` and `one_turn` are public, and a `&[u8; 64]`, as
-// `as_chunks::<64>` gives them, asks more of a caller than a slice of at least 64. The numbers that formulas take stay apart as CityHash64 has them.
+// Kept: that a slice has as many bytes as its formula reads is a `requires`: most formulas are for a range of lengths, as 8 to 16, which no array type says.
+// Those that read 64 are `first_state` and `one_turn`, which are public, and of which a `&[u8; 64]`, as `as_chunks::<64>` gives them, would ask more of a caller
+// than a slice of at least 64, and `next_v` and `next_w`, which are handed that slice. The numbers that formulas take stay apart as CityHash64 has them.
 // Kept: a function for each length: one over the width would be told how to read and how to mix, as `ends(s, 4, le32, hash_halves)`.
 
 // The hash of n bytes, up to three, of the first, the middle and the last one.

@@ -1,7 +1,5 @@
 -- Laws of bytes of ASCII in a row: in well-formed bytes each is a character, and one unit as UTF-16LE. Assumes nothing.
-use Rattle.std.specs.Prelude.{◌≡◌, true, false, ◌&&◌, List, [], ◌∷◌, ◌++◌, ℕ, zero, suc, ◌+◌, ◌*◌, ◌-◌, ◌/◌, ◌%◌, ◌≤◌, ◌<◌, leb, length, take, drop, get_or, set}
-use Rattle.base.specs.Output.{Wrote}
-use Rattle.base.specs.OutputLaws.{wrote_as, wrote-byte, wrote_count}
+use Rattle.std.specs.Prelude.{◌≡◌, true, false, ◌&&◌, List, [], ◌∷◌, ◌++◌, ℕ, zero, suc, ◌+◌, ◌-◌, ◌/◌, ◌%◌, ◌≤◌, ◌<◌, leb, length, take, drop, get_or}
 use Rattle.std.proofs.Common.{sym, ap, ◌∙◌, append_assoc, add-one, arith, le-leb, leb-true, ltb-true, length-take, length-drop, take-suc, get_or-drop}
 use Rattle.std.proofs.Math.Bool.{and-eq-true_iff}
 use Rattle.std.proofs.lemmas.Bool.{lt-leb}
@@ -89,14 +87,3 @@ module _ (s : List ℕ) (at : ℕ) (ok : is_well (from s at) ≡ true) where
 
 pub units-next : (x : List ℕ) (i v : ℕ) → i < length x → v ≡ get_or x i 0 → unit_bytes (take i x) ++ (v % 256 ∷ v / 256 ∷ []) ≡ unit_bytes (take (i + 1) x)
 units-next x i v h e = sym (rw (add-one i, e) (units-last x i h))
-
-pub units-wrote : {o out : List ℕ} (x : List ℕ) (i v : ℕ) → Wrote o (unit_bytes (take i x)) out (2 * i) → i < length x → 2 * i + 2 ≤ length o → v ≡ get_or x i 0 → v < 256
-    → Wrote o (unit_bytes (take (i + 1) x)) (set (set out (2 * i) v) (2 * i + 1) 0) (2 * (i + 1))
-units-wrote x i v w h l e b =
-    let u = unit_bytes (take i x) in
-    let m : v % 256 ≡ v = omega arith in
-    let d : v / 256 ≡ 0 = omega arith in
-    let n : 2 * i + 1 + 1 ≡ 2 * (i + 1) = omega arith in
-    let f : unit_bytes (take (i + 1) x) ≡ u ++ (v % 256 ∷ v / 256 ∷ []) = rw (add-one i, e) (units-last x i h) in
-    let g : (u ++ v ∷ []) ++ 0 ∷ [] ≡ unit_bytes (take (i + 1) x) = append_assoc u (v ∷ []) (0 ∷ []) ∙ sym (f ∙ rw (m, d)) in
-    wrote_count (wrote_as (wrote-byte (wrote-byte w (omega arith) v) (omega arith) 0) g) n

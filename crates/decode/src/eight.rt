@@ -5,7 +5,7 @@ ghost use Rattle.text.specs.Utf16.{unit_bytes};
 ghost use Rattle.decode.specs.Eight.{is_eight};
 
 use super::latin::all_below;
-use super::run::put_unit;
+use text::units::put_unit;
 
 // Whether eight bytes from a place on are there, and ASCII.
 pub fn starts_eight(s: &[u8], at: usize) -> bool
@@ -24,6 +24,6 @@ pub fn put_eight(out: &mut [u8], s: &[u8], at: usize)
     ensures { Wrote out.old (unit_bytes (take 8 (drop at s.now))) out.new 16 }
 {
     for i in 0..8 {
-        put_unit(&mut out[2 * i..], u16::from(s[at + i]));
+        put_unit(out, i, u16::from(s[at + i]));
     }
 }

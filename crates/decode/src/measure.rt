@@ -14,7 +14,7 @@ pub struct Measured {
 }
 
 // The text of some bytes, measured a few characters at a time.
-// Kept: `while`, since the text decides how far a turn goes: no `for` has such a step.
+// Kept: `while`, since the text decides how far a turn goes: no range has such a step.
 fn by_steps(s: &[u8]) -> Option<Measured>
     ensures { result ≡ measured (from_utf8 s.now) }
 {

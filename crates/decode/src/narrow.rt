@@ -23,7 +23,7 @@ fn is_wrong(z: u8, b: u8) -> bool
     (within(0x80, 0xBF, b) ^ (0xC0 <= z)) | within(0xC0, 0xC1, b) | (0xE0 <= b)
 }
 
-// Kept: the text is no slice of its own, here, in write.rt and in pairs.rt, but ends at `to` in `s`: up to 32 bytes behind it are read too, so that a window
+// Kept: the text is no slice of its own, here, in write.rt and in pairs.rt, but ends at `to` in `s`: up to 31 bytes behind it are read too, so that a window
 // has no branch.
 
 // The first n of the 32 bytes from a place on; the others are seen too, and count for nothing. Where they are all of the 32, nothing is masked out.
@@ -70,8 +70,8 @@ fn window(n: usize) -> u8
 }
 
 // Any text.
-// Kept: the measure is made anew, and not handed on, so that one which a caller makes itself doesn't wait in memory for what this one would say.
-// By itself `measure_at` takes as long either way.
+// Kept: the measure is made anew, so that it needn't be in memory. With `measure(&s[from..to])` where this is called 200 bytes of Latin or 20 of Greek at the end
+// of a buffer took 8 to 12 % longer, 12 ideographs before other bytes 10 %, five letters of which two are beyond ASCII 7 %; three ideographs 8 % less.
 fn any(s: &[u8], from: usize, to: usize) -> Option<Measured>
     requires { (from ≤ to) × (to ≤ length s.now) }
     ensures { result ≡ measured (from_utf8 (take (to - from) (drop from s.now))) }

@@ -59,7 +59,8 @@ pub fn put_pairs(out: &mut [u8], s: &[u8], to: usize, i: usize, pairs: usize) ->
         × (length (kept (get_or s.now (i - 1) 0) (drop i (take to s.now))) ≤ length out.old) }
     ensures { Filling out.old (get_or s.now (i - 1) 0) (drop i (take to s.now)) out.new (2 * pairs) result (get_or s.now (i + 2 * pairs - 1) 0) }
 {
-    // Kept: two arrays: each is filled by a loop of its own with no branch; of an array of triples one loop would do both.
+    // Kept: two arrays, each filled by a loop of its own, many bytes at a time: with one loop over an array of 16 `Pair { first, second, size }` a window
+    // took 41 to 58 ns for 11 to 26.
     let mut bytes = [0u8; 32];
     let mut sizes = [0u8; 16];
     look_bytes(&mut bytes, s, i);

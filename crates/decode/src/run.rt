@@ -8,6 +8,7 @@ ghost use Rattle.decode.specs.Run.{leads_two, two_at, leads_three, three_at, fou
 ghost use Rattle.decode.specs.TurnLaws.{Turn};
 
 use super::chars::{three, two, within};
+use text::units::put_unit;
 
 // A kind of character by how many bytes it has: one unit, which its first byte tells.
 pub trait Lead {
@@ -92,25 +93,14 @@ pub fn is_run<L: Lead>(s: &[u8], at: usize) -> bool
         & L::leads(s[at + 3 * size])
 }
 
-// A unit, the low byte first.
-// Kept: ids' wide.rt has its own, whose contract says unit i of a buffer by `set`; here it is `Wrote`, as of all that goes one behind another.
-pub fn put_unit(out: &mut [u8], unit: u16)
-    requires { 2 ≤ length out.old }
-    ensures { Wrote out.old (unit % 256 ∷ unit / 256 ∷ []) out.new 2 }
-{
-    let [low, high] = unit.to_le_bytes();
-    out[0] = low;
-    out[1] = high;
-}
-
 // Four such characters as UTF-16LE.
 pub fn put_run<L: Lead>(out: &mut [u8], s: &[u8], at: usize)
     requires { (is_well (from_utf8 (drop at s.now)) ≡ true) × (four_led L.lead L.SIZE s.now at ≡ true) × (8 ≤ length out.old) }
     ensures { Wrote out.old (four_units L.value L.SIZE s.now at) out.new 8 }
 {
     let size = L::SIZE;
-    put_unit(out, L::value_at(s, at));
-    put_unit(&mut out[2..], L::value_at(s, at + size));
-    put_unit(&mut out[4..], L::value_at(s, at + 2 * size));
-    put_unit(&mut out[6..], L::value_at(s, at + 3 * size));
+    put_unit(out, 0, L::value_at(s, at));
+    put_unit(out, 1, L::value_at(s, at + size));
+    put_unit(out, 2, L::value_at(s, at + 2 * size));
+    put_unit(out, 3, L::value_at(s, at + 3 * size));
 }

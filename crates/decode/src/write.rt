@@ -9,8 +9,9 @@ ghost use Rattle.decode.specs.Measure.{text_of, fits_latin1};
 use super::chars::known_char;
 use super::eight::{put_eight, starts_eight};
 use super::pairs::{pairs_of, put_pairs};
-use super::run::{Three, Two, is_run, put_run, put_unit};
+use super::run::{Three, Two, is_run, put_run};
 use super::tails::{put_each, put_last};
+use text::units::put_unit;
 
 // Kept: that bytes are UTF-8 is a `requires` on a slice, on its first bytes or on those from a place on, here and wherever text that is known to be UTF-8
 // is read. A struct with that as a ghost field would be made anew where one of these becomes another: `put_run::<Two>(out, Utf8 { bytes: &s[at..] })`.
@@ -46,16 +47,16 @@ fn put_units(out: &mut [u8], c: u32) -> usize
     ensures { Wrote out.old (unit_bytes (encode_one c)) out.new result }
 {
     if 0x10000 <= c {
-        put_unit(out, (0xD800 + (c - 0x10000) / 0x400) as u16);
-        put_unit(&mut out[2..], (0xDC00 + (c - 0x10000) % 0x400) as u16);
+        put_unit(out, 0, (0xD800 + (c - 0x10000) / 0x400) as u16);
+        put_unit(out, 1, (0xDC00 + (c - 0x10000) % 0x400) as u16);
         return 4;
     }
-    put_unit(out, c as u16);
+    put_unit(out, 0, c as u16);
     2
 }
 
 // The text as UTF-16LE: eight characters of ASCII at once, four of two bytes or of three at once, others one by one.
-// Kept: `while`, since the text decides how far a turn goes: no `for` has such a step.
+// Kept: `while`, since the text decides how far a turn goes: no range has such a step.
 pub fn put_utf16le(out: &mut [u8], s: &[u8]) -> usize
     requires { (is_well (from_utf8 s.now) ≡ true) × (length (utf16le (text_of s.now)) ≤ length out.old) }
     ensures { Wrote out.old (utf16le (text_of s.now)) out.new result }

@@ -17,7 +17,7 @@ use super::names::Texts;
 use super::pieces::put_pieces;
 use super::tables::{put_exports, put_hashes, put_numbers};
 use base::number::be32;
-use base::refusal::{Refusal, Refused};
+use base::refusal::Refusal;
 
 // A description that was checked: its bytes, its parts, and the regions of its header.
 #[derive(Clone, Copy)]
@@ -139,6 +139,6 @@ pub fn class_header(description: &[u8], header: &mut [u8]) -> u64
 {
     match answer(description, header) {
         Ok(n) => n as u64,
-        Err(why) => Refused { why, block: 0 }.number(),
+        Err(why) => why.at(0).number(),
     }
 }

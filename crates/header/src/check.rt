@@ -1,13 +1,12 @@
 // A description checked (27), and where its parts are.
-ghost use Rattle.std.specs.Prelude.{◌≡◌, ◌+◌, ◌*◌, ◌/◌, ◌^◌, ◌≤◌, ◌<◌, length};
-ghost use Rattle.base.specs.Number.{be_at};
+ghost use Rattle.std.specs.Prelude.{◌≡◌, ◌*◌, ◌/◌, ◌^◌, ◌≤◌, ◌<◌, length};
 ghost use Rattle.base.specs.ReadingRows.{cells};
 ghost use Rattle.zen.specs.Zen.{named};
 ghost use Rattle.header.specs.Places.{export_in};
 ghost use Rattle.header.specs.Parts.{Says, batch_of, Small, regions_of};
 ghost use Rattle.header.specs.Parts.{string_size, sized_text, sized_texts, Begun, Tabled, Listed};
 
-use base::number::be32;
+use base::number::be32_usize;
 use decode::measure::Measured;
 use decode::narrow::measure_at;
 
@@ -48,15 +47,6 @@ const LONGEST_NAME: usize = 32767;
 // "A header above 2,147,483,647 bytes".
 const LONGEST_HEADER: usize = 2147483647;
 
-// The number in 4 bytes at a place.
-// Kept: as in packages' frame.rt: in base `be_size32` would stand beside `le_size32`, which is signed and answers an Option.
-pub fn size_at(s: &[u8], at: usize) -> usize
-    requires { at + 4 ≤ length s.now }
-    ensures { (result ≡ be_at 4 s.now at) × (result < 2 ^ 32) }
-{
-    be32(s, at) as usize
-}
-
 // How many bytes the string of a text takes.
 pub fn string_size(text: Measured) -> usize
     requires { text.units < 2 ^ 32 }
@@ -77,7 +67,7 @@ fn sized_text(s: &[u8], at: usize, more: usize) -> Option<Extent>
     if left < 4 {
         return None;
     }
-    let n = size_at(s, at);
+    let n = be32_usize(s, at);
     if left - 4 < n + more {
         return None;
     }
@@ -93,8 +83,8 @@ fn sized_text(s: &[u8], at: usize, more: usize) -> Option<Extent>
 }
 
 // So many texts from a place on. None: one of them can't be written.
-// Kept: that the count fits 32 bits is a `requires` here, at `batch_size` and of the batch that is written: `Texts` is public, and as a ghost field
-// of it this would be asked of all who make one, for their numbers too.
+// Kept: that the count fits 32 bits is a `requires` here and at `batch_size`, which take a count alone, and in names.rt of the batch that is written: as a ghost
+// field of `Texts` it would be asked of all who make one, and `put_numbers`, which is public and takes one too, has never asked it.
 fn sized_texts(s: &[u8], from: usize, count: usize, more: usize) -> Option<Extent>
     requires { (from ≤ length s.now) × (count < 2 ^ 32) × (more ≤ 4) }
     ensures { result ≡ sized_texts 0 more s.now from count }
@@ -111,13 +101,13 @@ fn sized_texts(s: &[u8], from: usize, count: usize, more: usize) -> Option<Exten
 
 // Each export's text number is within the list; an export stands in 40 bytes.
 // Kept: zen's tables.rt has its own, for exports of another form: one for both would be told how wide they are and how to read the name, as
-// `all_named(exports.chunks_exact(40), |export| size_at(export, 0), count)`, which says what stands here in other words.
+// `all_named(exports.chunks_exact(40), |export| be32_usize(export, 0), count)`, which says what stands here in other words.
 fn check_exports(exports: &[u8], count: usize) -> bool
     ensures { result ≡ named count (cells (export_in exports.now) 40 0 (length exports.now / 40)) }
 {
     exports
         .chunks_exact(40)
-        .all(|export| size_at(export, 0) < count)
+        .all(|export| be32_usize(export, 0) < count)
 }
 
 // How many bytes a batch takes.
@@ -153,7 +143,7 @@ fn check_whole(s: &[u8], p: Parts) -> Option<Parts>
     requires { Listed s.now p }
     ensures { Says s.now result }
 {
-    if p.texts <= size_at(s, 5) {
+    if p.texts <= be32_usize(s, 5) {
         return None;
     }
     let g = regions_of(p);
@@ -169,18 +159,18 @@ fn check_imported(s: &[u8], texts: Extent, hashes: usize, stop: usize) -> Option
     requires { Tabled s.now texts.next texts.size hashes stop }
     ensures { Says s.now result }
 {
-    let count = size_at(s, stop);
+    let count = be32_usize(s, stop);
     let names = sized_texts(s, stop + 4, count, 4)?;
     if names.next != s.len() {
         return None;
     }
     let p = Parts {
-        texts: size_at(s, 13),
+        texts: be32_usize(s, 13),
         strings: texts.size,
         exports: texts.next + 4,
-        entries: size_at(s, texts.next),
+        entries: be32_usize(s, texts.next),
         hashes: hashes + 4,
-        keys: size_at(s, hashes),
+        keys: be32_usize(s, hashes),
         imported: stop + 4,
         names: count,
         spelt: names.size,
@@ -198,12 +188,12 @@ fn check_tables(s: &[u8], texts: Extent) -> Option<Parts>
     if n - end < 4 {
         return None;
     }
-    let exports = 40 * size_at(s, end) + 4;
+    let exports = 40 * be32_usize(s, end) + 4;
     if n - end < exports + 4 {
         return None;
     }
     let hashes = end + exports;
-    let stop = 8 * size_at(s, hashes) + 4;
+    let stop = 8 * be32_usize(s, hashes) + 4;
     if n - hashes < stop + 4 {
         return None;
     }
@@ -218,12 +208,12 @@ pub fn check(s: &[u8]) -> Option<Parts>
     if n < 17 {
         return None;
     }
-    if n - 4 != size_at(s, 0) {
+    if n - 4 != be32_usize(s, 0) {
         return None;
     }
     if s[4] != 1 {
         return None;
     }
-    let texts = sized_texts(s, 17, size_at(s, 13), 0)?;
+    let texts = sized_texts(s, 17, be32_usize(s, 13), 0)?;
     check_tables(s, texts)
 }

@@ -5,7 +5,7 @@ ghost use Rattle.base.specs.Output.{Wrote};
 
 use base::output::put_bytes;
 
-// Kept: two functions of one line: `to_le_bytes` is of no trait, so a trait over u32 and u64 would have this line in each `impl`.
+// Kept: two functions of one line, as `put_be32` and `put_be64` of base's output.rt.
 
 // A number in 4 bytes.
 pub fn put_le32(out: &mut [u8], n: u32) -> usize

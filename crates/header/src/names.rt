@@ -12,8 +12,8 @@ ghost use Rattle.written.specs.HeaderBytes.{longest_name};
 ghost use Rattle.header.specs.Places.{utf8_at, text_at, text_end, next_text, texts_from};
 ghost use Rattle.header.specs.Parts.{texts_fit, strings_from, TextIn, string_units, laid, names_bytes, front_bytes};
 
-use super::check::size_at;
 use super::little::{put_le32, put_le64};
+use base::number::be32_usize;
 use decode::latin::is_latin1;
 use decode::write::{put_latin1, put_utf16le};
 use text::plain::{is_plain, put_plain};
@@ -89,7 +89,7 @@ fn put_text(out: &mut [u8], head: usize, n: usize, s: &[u8], at: usize) -> usize
         × (out.new ≡ laid (laid out.old n (string_bytes (text_at s.now at))) head (head_bytes (text_at s.now at))) }
 {
     let start = at + 4;
-    let size = size_at(s, at);
+    let size = be32_usize(s, at);
     let p = put_string(&mut out[n..], &s[start..], size);
     out[head..head + 2].copy_from_slice(&p.head());
     p.size
@@ -100,7 +100,7 @@ pub fn next_text(s: &[u8], at: usize, more: usize) -> usize
     requires { TextIn more s.now at }
     ensures { result ≡ next_text more s.now at }
 {
-    at + 4 + size_at(s, at) + more
+    at + 4 + be32_usize(s, at) + more
 }
 
 // What stands before a batch's names: how many there are, how many bytes their strings take, the version of the hashes.

@@ -13,8 +13,9 @@ use super::names::{Texts, next_text};
 use super::pieces::put_pieces;
 use base::number::{be32, be64};
 
-// Kept: hashes and exports by number, since `put_pieces` is the loop: `for hash in hashes.chunks_exact(8) { n += put_le64(&mut out[n..], be64(hash, 0)); }`
-// would be a loop of its own, for exports another.
+// Kept: hashes, exports and the numbers of an array by number, here and in call.rt, since `put_pieces` is the loop of all four: over an iterator,
+// `put_pieces(out, hashes.chunks_exact(8), |out, hash| put_le64(out, be64(hash, 0)))`, its contract would say what any iterator gives one by one, and each call prove
+// that of its own.
 
 // Hashes, which stand in 8 bytes each.
 pub fn put_hashes(out: &mut [u8], hashes: &[u8]) -> usize

@@ -1,29 +1,32 @@
 -- Lemmas for the id of a short name of wide text that is ASCII: its units in an array of numbers. Assumes nothing.
 use mathlib.Core.Path.{◌≡◌, refl, sym, ◌∙◌, ap}
-use mathlib.Core.Bool.{Bool, true, and-eq-true_iff}
+use mathlib.Core.Bool.{true, ◌&&◌, and-true, and_assoc}
 use mathlib.Core.List.{List, [], ◌∷◌, ◌++◌, map}
 use mathlib.Core.Logic.{by_cases}
 use Prim.Native.Nat.{ℕ, zero, suc, ◌+◌, ◌-◌, ◌≤◌, ◌<◌}
 use native.Mathlib.Decide.{dec_lt}
 use native.Mathlib.Numerals.{add-one, add-two, add-three}
 use native.Mathlib.Omega.{arith}
-use lib.Bits.{bit_or, or_zero_l, or_add_and, and_le_l, and_le_r}
-use lib.ListN.{length, set, get_or, take, drop, length-take, length-drop, get_or-eq_default}
-use lib.Seq.{sets-eq, paste, drop-cons, take_all, get_or-take, get_or-drop}
+use lib.Bits.{bit_or, or_zero_l}
+use lib.Dec.{ltb}
+use lib.ListN.{length, set, get_or, take, drop, get_or-eq_default}
+use lib.Seq.{sets-eq, paste, drop-cons, take_all}
+use Rattle.std.proofs.Common.{ltb-true}
 use Rattle.lower.specs.Ascii.{lower_ascii}
 use Rattle.lower.specs.Lower.{lowered}
-use Rattle.rules.specs.Caseless.{caseless}
 use Rattle.rules.specs.ScriptLaws.{caseless-script}
 use Rattle.base.specs.NumberLaws.{Bytes}
+use Rattle.text.specs.Affix.{all_ascii}
+use Rattle.text.specs.PlainLaws.{or_ascii, ascii_cover}
 use Rattle.text.specs.Utf16.{is_well, encode16}
 use Rattle.text.specs.Utf16Cases.{Words}
 use Rattle.text.specs.Name.{decoded, base}
 use Rattle.text.specs.Units.{units_of}
 use Rattle.text.specs.UnitsLaws.{units_of-words}
-use Rattle.ids.specs.LoweredUnits.{all_are, bits_from, name_units}
+use Rattle.ids.specs.LoweredUnits.{bits_from, name_units}
 use Rattle.ids.proofs.NameUnits.{part_length, place}
 use Rattle.ids.proofs.ShortUnits.{words_append}
-use Rattle.ids.proofs.WideUnits.{each, bits-ascii, mapped-length, mapped_at, window, lowered-word}
+use Rattle.ids.proofs.WideUnits.{bits-ascii, mapped-length, mapped_at, window, lowered-word}
 
 -- ---- four units at once
 
@@ -52,39 +55,34 @@ lowered-there us i e f = e ∙ ap lower_ascii f ∙ sym (mapped_at caseless-scri
 
 -- ---- all units are ASCII
 
-all_are_lem : (t : ℕ → Bool) (us : List ℕ) → ((i : ℕ) → i < length us → t (get_or us i 0) ≡ true) → all_are t us ≡ true
-all_are_lem t [] f = refl
-all_are_lem t (u ∷ us) f = (and-eq-true_iff (t u) (all_are t us)).1 (f zero (omega arith), all_are_lem t us (λ i h. f (suc i) (omega arith)))
+-- by their bits and those of b
+bits_and : (b : ℕ) (us : List ℕ) → ltb (bits_from b us) 0x80 ≡ (ltb b 0x80 && all_ascii us)
+bits_and b [] = sym (and-true (ltb b 0x80))
+bits_and b (u ∷ us) = bits_and (bit_or b u) us ∙ rw (or_ascii b u) (and_assoc (ltb b 0x80) (ltb u 0x80) (all_ascii us))
+
+-- by their bits
+pub ascii_bits : (us : List ℕ) → ltb (bits_from 0 us) 0x80 ≡ all_ascii us
+ascii_bits us = bits_and 0 us
 
 -- by the bits of the first four and the last
 pub fours_ascii : (us : List ℕ) (n : ℕ) → n ≡ length us → 4 ≤ n → n ≤ 8
-    → bit_or (bits_from 0 (take 4 us)) (bits_from 0 (take 4 (drop (n - 4) us))) < 0x80 → all_are caseless us ≡ true
-fours_ascii us n e a b h =
-    let x : ℕ = bits_from 0 (take 4 us) in
-    let y : ℕ = bits_from 0 (take 4 (drop (n - 4) us)) in
-    let s = or_add_and x y in
-    let l = and_le_l x y in
-    let r = and_le_r x y in
-    let p = (bits-ascii 0 (take 4 us) (omega arith)).1 in
-    let q = (bits-ascii 0 (take 4 (drop (n - 4) us)) (omega arith)).1 in
-    all_are_lem caseless us (λ i k. by_cases (dec_lt i 4)
-    (λ (m : i < 4). rw (get_or-take 4 us i 0 m) at (each caseless (take 4 us) i (simp length-take (omega arith)) p))
-    (λ (m : ¬ (i < 4)).
-    let j : ℕ = i - (n - 4) in
-    let f : n - 4 + j ≡ i = omega arith in
-    rw (get_or-take 4 (drop (n - 4) us) j 0 (omega arith), get_or-drop (n - 4) us j 0, f) at (each caseless (take 4 (drop (n - 4) us)) j (simp (length-take, length-drop) (omega arith)) q)))
+    → ltb (bit_or (bits_from 0 (take 4 us)) (bits_from 0 (take 4 (drop (n - 4) us)))) 0x80 ≡ all_ascii us
+fours_ascii us n e a b =
+    rw (or_ascii (bits_from 0 (take 4 us)) (bits_from 0 (take 4 (drop (n - 4) us))), ascii_bits (take 4 us), ascii_bits (take 4 (drop (n - 4) us)))
+    (ascii_cover 4 us 4 (n - 4) (omega arith) (omega arith))
 
 module _ (part : List ℕ) (b : Bytes part) (w : is_well (decoded true part) ≡ true) where
   -- then they are the text's with A to Z lowered
-  ascii-units : all_are caseless (units_of true part) ≡ true → map lower_ascii (units_of true part) ≡ encode16 (lowered (base true part))
+  ascii-units : all_ascii (units_of true part) ≡ true → map lower_ascii (units_of true part) ≡ encode16 (lowered (base true part))
   ascii-units a =
       let us : List ℕ = units_of true part in
       let vs : List ℕ = encode16 (lowered (base true part)) in
       sym (take_all (length us) (map lower_ascii us) (omega (arith, mapped-length lower_ascii us)))
-      ∙ window caseless-script part b w 0 (length us) (rw (take_all (length us) us (omega arith)) a)
+      ∙ window caseless-script part b w 0 (length us)
+      (rw (take_all (length us) us (omega arith)) (bits-ascii 0 us (ltb-true (bits_from 0 us) 0x80 (ascii_bits us ∙ a))).1)
       ∙ take_all (length us) vs (omega (arith, part_length true part b w))
 
-  pub ascii-name : all_are caseless (units_of true part) ≡ true → (suffix : List ℕ) → map lower_ascii (units_of true part) ++ suffix ≡ name_units (base true part) suffix
+  pub ascii-name : all_ascii (units_of true part) ≡ true → (suffix : List ℕ) → map lower_ascii (units_of true part) ++ suffix ≡ name_units (base true part) suffix
   unfolding name_units
   ascii-name a suffix = ap (λ (s : List ℕ). s ++ suffix) (ascii-units a)
 

@@ -1,12 +1,12 @@
 // The units of a short name of wide text that is ASCII, in an array of numbers: `short` hashes them.
-ghost use Rattle.std.specs.Prelude.{◌≡◌, true, map, ◌+◌, ◌≤◌, ◌<◌, length, take, drop};
+ghost use Rattle.std.specs.Prelude.{◌≡◌, true, false, map, ◌+◌, ◌≤◌, ltb, length, take, drop, MatchOption};
 ghost use Rattle.std.proofs.Math.Seq.{paste};
 ghost use Rattle.lower.specs.Ascii.{lower_ascii};
-ghost use Rattle.rules.specs.Caseless.{caseless};
 ghost use Rattle.base.specs.Output.{Wrote};
+ghost use Rattle.text.specs.Affix.{all_ascii};
 ghost use Rattle.text.specs.Name.{base};
 ghost use Rattle.text.specs.Units.{units_of};
-ghost use Rattle.ids.specs.LoweredUnits.{all_are, bits_from, name_units};
+ghost use Rattle.ids.specs.LoweredUnits.{bits_from, name_units};
 
 use super::short::put_each;
 use super::wide::{Wide, WideName};
@@ -54,10 +54,11 @@ fn put_all(units: &mut [u32], text: Wide) -> u32
     bits
 }
 
-// The same, four to eight of them as the first four and the last. Where the bits are those of ASCII, A to Z is all there was to lower.
+// The same, four to eight of them as the first four and the last. The bits are below 0x80 just where all units are ASCII: then A to Z is all there was
+// to lower.
 fn put_lowered(units: &mut [u32], text: Wide) -> u32
     requires { length (units_of true text.bytes.now) ≤ length units.old }
-    ensures { (result < 0x80 → all_are caseless (units_of true text.entry.bytes.now) ≡ true)
+    ensures { (ltb result 0x80 ≡ all_ascii (units_of true text.entry.bytes.now))
         × Wrote units.old (map lower_ascii (units_of true text.entry.bytes.now)) units.new (length (units_of true text.entry.bytes.now)) }
 {
     let n = text.count();
@@ -68,21 +69,20 @@ fn put_lowered(units: &mut [u32], text: Wide) -> u32
     put_all(units, text)
 }
 
-// The units of a lowered name of wide text, if its base is ASCII, and whether it is.
-// Kept: no `Option<Numbers<'a>>` over `units: &'a mut [u32]`: a `&mut` that may have gone into the result has no value after the call (so says the check of
-// `units.new` in its contract), so nothing would be promised of the array, as here that nothing behind the units changes.
-pub fn put_name(units: &mut [u32], name: WideName) -> bool
+// The units of a lowered name of wide text, if its base is ASCII: how many they are.
+pub fn put_ascii(units: &mut [u32], name: WideName) -> Option<usize>
     requires { length (name_units (base true name.text.bytes.now) name.suffix.now) ≤ length units.old }
-    ensures { result ≡ true → Wrote units.old (name_units (base true name.entry.text.bytes.now) name.entry.suffix.now) units.new
-        (length (name_units (base true name.entry.text.bytes.now) name.entry.suffix.now)) }
+    ensures { MatchOption result (all_ascii (units_of true name.entry.text.bytes.now) ≡ false)
+        (λ n. (all_ascii (units_of true name.entry.text.bytes.now) ≡ true)
+        × Wrote units.old (name_units (base true name.entry.text.bytes.now) name.entry.suffix.now) units.new n) }
 {
     if 0x7F < put_lowered(units, name.text) {
-        return false;
+        return None;
     }
     put_each(
         &mut units[name.text.count()..],
         name.suffix,
         |b| u32::from(b),
     );
-    true
+    Some(name.count())
 }

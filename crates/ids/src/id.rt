@@ -13,14 +13,15 @@ ghost use Rattle.city.specs.City.{city_hash64};
 ghost use Rattle.ids.specs.LoweredUnits.{name_units};
 ghost use Rattle.ids.specs.Id.{id_of};
 
-use super::ascii::{is_tried, put_name};
+use super::ascii::{is_tried, put_ascii};
 use super::short::{Narrow, Numbers, Units, array_hash, one_hash, short_hash};
-use super::wide::{Wide, WideName, put_unit, put_wide};
+use super::wide::{Wide, WideName, put_wide};
 use base::number::le64;
 use city::city::{State, city_hash64};
 use rules::latin::lower_byte;
 use text::name::put_suffix;
 use text::text::Text;
+use text::units::put_unit;
 
 // A name: the text of its base, and its suffix as it stands.
 #[derive(Clone, Copy)]
@@ -208,12 +209,11 @@ fn wide_hash(name: WideName) -> u64
     requires { length (name_units (base true name.text.bytes.now) name.suffix.now) ≤ 32 }
     ensures { result ≡ city_hash64 (unit_bytes (name_units (base true name.entry.text.bytes.now) name.entry.suffix.now)) }
 {
-    let n = name.count();
-    if is_tried(name.text.bytes, n) {
-        let mut units = [0u32; 16];
-        if put_name(&mut units, name) {
-            return array_hash(Numbers { units: &units[..n] });
-        }
+    let mut units = [0u32; 16];
+    if is_tried(name.text.bytes, name.count())
+        && let Some(n) = put_ascii(&mut units, name)
+    {
+        return array_hash(Numbers { units: &units[..n] });
     }
     chunk_hash(name)
 }

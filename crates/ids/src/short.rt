@@ -14,7 +14,8 @@ use lower::ascii::lower_ascii;
 use rules::latin::{lower_byte, lower_latin};
 
 // Units that are read one by one.
-// Kept: they are u32, as `Part::unit` gives them: they are compared with scalar values and added in words, so as u16 each use would say `u32::from(u)`.
+// Kept: they are u32, as `Part::unit`, `lower_ascii` and `lower_latin` give them: as u16 they would spare the casts in `tiny_hash` and in `put_end`, and ask for four:
+// `lower_latin1(..) as u16` and `self.units[i] as u16` in the two `unit`s here, and in `pair`, where two of them are added, `u32::from` twice.
 pub trait Units: Copy {
     ghost units: { Self → List ℕ };
 

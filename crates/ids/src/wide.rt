@@ -14,6 +14,7 @@ ghost use Rattle.ids.specs.LoweredUnits.{name_units};
 use super::lowered::{lowered_unit, quick_unit};
 use super::script::{All, Bits, Caseless, Greek, Latin, Script, Test};
 use text::text::{Part, Text};
+use text::units::put_unit;
 
 // Wide text whose surrogates pair.
 #[derive(Clone, Copy)]
@@ -54,7 +55,8 @@ impl<'a> Wide<'a> {
     }
 }
 
-// Kept: apart from `Name`: of a `Name<T>` over the text's type `count` would stand in an `impl` for each type, as it does now.
+// Kept: apart from `Name`: of a `Name<'a, T: Units>` with `text: T`, of Text and of Wide, `count` would promise `length (T.units text) + length suffix`, so that
+// each caller would prove (by `name-length`) that these are the units of `name_units`, as both promise now.
 // A name of wide text: the text of its base, and its suffix as it stands.
 #[derive(Clone, Copy)]
 pub struct WideName<'a> {
@@ -70,16 +72,6 @@ impl<'a> WideName<'a> {
     {
         self.text.count() + self.suffix.len()
     }
-}
-
-// Writes a unit as unit i of a buffer, in UTF-16LE: its low byte and its high one.
-pub fn put_unit(out: &mut [u8], i: usize, u: u16)
-    requires { 2 * i + 2 ≤ length out.old }
-    ensures { out.new ≡ set (set out.old (2 * i) (u % 256)) (2 * i + 1) (u / 256) }
-{
-    let [low, high] = u.to_le_bytes();
-    out[2 * i] = low;
-    out[2 * i + 1] = high;
 }
 
 // Kept: text or name, from and n are three parameters, here and in id.rt, and that so many units are there is a `requires`: a struct of the three would be

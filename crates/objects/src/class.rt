@@ -10,11 +10,13 @@ ghost use Rattle.objects.specs.Work.{ObjectsIn, Linked, LinkedOf};
 
 use super::link::find;
 use super::object::{Outer, object_at, place_of};
+use base::number::le32_usize;
 use batch::texts::place_ends_with;
 use table::entries::record_at;
-use table::words::get32;
 
 // Whether the path of object i is known, of at most `limit` objects.
+// Kept: a loop beside that of `path_len`: `path_len(w, i, limit).is_some()` asks for a limit below 2^32, since it adds up lengths, and any limit may be given
+// here; with `limit.min(w.len() / 48)` there it would have to be proved that no known path has more objects than there are.
 pub fn known(w: &[u8], i: usize, limit: usize) -> bool
     requires { Linked w.now × (48 * i < length w.now) }
     ensures { (b : List ℕ) (o : Objects) → ObjectsIn b o w.now → result ≡ is_known (path_no limit o i) }
@@ -22,7 +24,7 @@ pub fn known(w: &[u8], i: usize, limit: usize) -> bool
     let n = w.len() / 48;
     let mut at = i;
     for _ in 0..limit {
-        match Outer::of(get32(w, record_at(n, 44, at) + 24)) {
+        match Outer::of(le32_usize(w, record_at(n, 44, at) + 24)) {
             Outer::Missing => return false,
             Outer::Nothing => return true,
             Outer::Object(k) => at = k,

@@ -15,8 +15,9 @@ use scriptblock::script::{Entry, Layout, check_entry, entry_in};
 use table::entries::{add, clear, record_at};
 use table::words::set32;
 
-// Kept: that a script block is shorter than 2^32 bytes is a `requires`, here and above: ScriptBlock is public, and a ghost field would ask it of all who open
-// one. So is that a size is below 65536: Place is public, and `place_of` makes one of any columns.
+// Kept: that a block is shorter than 2^32 bytes is a `requires`, of `enter`, in link.rt, in walk, which calls them, and in verify's counts: NotedNames, ScriptBlock
+// and walk's ScriptObjects are public, and a ghost field would ask it of all who make one. So is that a size is below 65536: Place is public, and `place_of`
+// makes one of any columns.
 
 // Twice a place's size, and 1 if it is UTF-16.
 pub fn packed(p: Place) -> usize

@@ -29,10 +29,7 @@ fn link_of(w: &[u8], outer: u64) -> usize
     if index_kind(outer) == Kind::Null {
         return 1;
     }
-    match find(w, outer) {
-        Some(i) => i + 2,
-        None => 0,
-    }
+    find(w, outer).map_or(0, |i| i + 2)
 }
 
 // Links each object of an accepted block to its outer.

@@ -4,12 +4,11 @@ ghost use Rattle.scriptblock.specs.Script.{Objects};
 ghost use Rattle.objects.specs.Work.{ObjectsIn, Linked, object_no, columns_at, outer_number, place_of};
 
 // Kept: the work buffer goes with the fact Linked, and no struct holds both, here and above: it is a part of the caller's buffer, which is written between two
-// calls, so that the struct would be made anew for each, as `is_class(s, Objects { w: &w[..size] }, e.class, limit)`.
+// calls, so that the struct would be made anew for each, as `is_class(s.block, Objects { w: &w[..size] }, e, s.limit)`.
 
-use base::number::le32;
+use base::number::{le32, le32_usize};
 use batch::places::{Name, Place};
 use table::entries::record_at;
-use table::words::get32;
 
 // Where the outer of an object leads: to no object of the block, to none at all, or to the object with a number.
 #[derive(Clone, Copy, PartialEq, Eq)]
@@ -20,7 +19,7 @@ pub enum Outer {
 }
 
 impl Outer {
-    // Kept: no From, here and in `name_of`: `Outer::from(link)` would say no more, and the clause stands on the function.
+    // Kept: no From, here, in `place_of` and in `name_of`: `Outer::from(link)` would say no more, and a number is no outer by itself.
     // By the number that stands for it in the work buffer: 0, 1, or two more than the object's number.
     pub fn of(link: usize) -> Outer
         ensures { outer_number result ≡ link }
@@ -66,9 +65,9 @@ pub fn columns_at(w: &[u8], at: usize) -> Object
     ensures { result ≡ columns_at w.now at }
 {
     Object {
-        outer: get32(w, at),
-        start: get32(w, at + 4),
-        size: get32(w, at + 8),
+        outer: le32_usize(w, at),
+        start: le32_usize(w, at + 4),
+        size: le32_usize(w, at + 8),
         number: le32(w, at + 12),
     }
 }

@@ -11,9 +11,9 @@ ghost use Rattle.objects.specs.Told.{told, path_bytes, Written, Roomy};
 ghost use Rattle.objects.specs.PutLaws.{OuterRead, TwoRoom};
 
 use super::object::{Object, Outer, name_of, object_at};
+use base::number::le32_usize;
 use batch::texts::put_place;
 use table::entries::record_at;
-use table::words::get32;
 
 // A path: how many bytes, of how many objects.
 #[derive(Clone, Copy, PartialEq, Eq)]
@@ -22,7 +22,8 @@ pub struct Path {
     pub objects: usize,
 }
 
-// Kept: the limit is a usize, and that it is below 2^32 a `requires`: as a u32 it would be cast for each count, as `objects: depth as usize + 1`.
+// Kept: the limit is a usize, and that it is below 2^32 a `requires`, here and in pool's compose.rt: limits are usize in all that calls, so that a u32 would be cast
+// there, as `path_len(&w[..size], i, m.objects as u32)`.
 // The path of object i, of at most `limit` objects, measured; None where it is unknown.
 pub fn path_len(w: &[u8], i: usize, limit: usize) -> Option<Path>
     requires { Linked w.now × (48 * i < length w.now) × (limit < 2 ^ 32) }
@@ -33,8 +34,8 @@ pub fn path_len(w: &[u8], i: usize, limit: usize) -> Option<Path>
     let mut at = i;
     for depth in 0..limit {
         let record = record_at(n, 44, at);
-        len += get32(w, record + 40);
-        match Outer::of(get32(w, record + 24)) {
+        len += le32_usize(w, record + 40);
+        match Outer::of(le32_usize(w, record + 24)) {
             Outer::Missing => return None,
             Outer::Nothing => {
                 return Some(Path {

@@ -38,7 +38,8 @@ fn keyed(id: u64, hash: u64) -> Words
 }
 
 impl<'a> Block<'a> {
-    // Kept: a package and the number of an export come apart, and that it is one of its exports is a `requires`, here and above: as a place in a slice.
+    // Kept: a block or package and the number of an export come apart, and that it is one of its exports is a `requires`, in this crate and those above, as with a
+    // slice and a place in it: a struct of both would be made anew for each export of a loop, as `Entry { p, i }.candidate()` for `p.candidate(i)`.
 
     // Export i.
     pub fn export(&self, i: usize) -> Export

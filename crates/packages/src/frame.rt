@@ -7,7 +7,7 @@ ghost use Rattle.meaning.specs.Frame.{framed};
 ghost use Rattle.packages.specs.Framing.{package_end, packages_end, next_at, parts_answer, framed_as};
 ghost use Rattle.packages.specs.Walk.{block_at};
 
-use base::number::{be32, be64};
+use base::number::{be32_usize, be64};
 use base::refusal::Refusal;
 
 // Where the script block ends, which starts at 9; the package count stands there, the first package behind it.
@@ -15,14 +15,6 @@ use base::refusal::Refusal;
 pub struct Frame {
     pub end: usize,
     pub count: usize,
-}
-
-// Kept: `be32(c, at) as usize` by a name, as in header: in base `be_size32` would stand beside `le_size32`, which is signed and answers an Option.
-fn size_at(c: &[u8], at: usize) -> usize
-    requires { at + 4 ≤ length c.now }
-    ensures { result ≡ be_at 4 c.now at }
-{
-    be32(c, at) as usize
 }
 
 // Where the package at a place ends, if it lies inside.
@@ -34,7 +26,7 @@ fn package_end(c: &[u8], at: usize) -> Option<usize>
     if left < 12 {
         return None;
     }
-    let size = size_at(c, at + 8);
+    let size = be32_usize(c, at + 8);
     if left - 12 < size {
         return None;
     }
@@ -62,7 +54,7 @@ fn parts(c: &[u8]) -> Result<Frame, Refusal>
     if n < 9 {
         return Err(Refusal::Framing);
     }
-    let size = size_at(c, 5);
+    let size = be32_usize(c, 5);
     if n - 9 < size {
         return Err(Refusal::Framing);
     }
@@ -70,7 +62,7 @@ fn parts(c: &[u8]) -> Result<Frame, Refusal>
     if n - end < 4 {
         return Err(Refusal::Framing);
     }
-    let count = size_at(c, end);
+    let count = be32_usize(c, end);
     if packages_end(c, end + 4, count) == Some(n) {
         return Ok(Frame { end, count });
     }
@@ -85,7 +77,7 @@ pub fn read_frame(c: &[u8]) -> Result<Frame, Refusal>
     if n < 5 {
         return Err(Refusal::Framing);
     }
-    if n - 4 != size_at(c, 0) {
+    if n - 4 != be32_usize(c, 0) {
         return Err(Refusal::Framing);
     }
     if c[4] != 1 {
@@ -107,7 +99,7 @@ pub fn next_at(c: &[u8], at: usize) -> usize
     requires { (at + 12 ≤ length c.now) × (next_at c.now at ≤ length c.now) }
     ensures { result ≡ next_at c.now at }
 {
-    at + 12 + size_at(c, at + 8)
+    at + 12 + be32_usize(c, at + 8)
 }
 
 // The block of the package at a place.
@@ -116,6 +108,6 @@ pub fn block_at(c: &[u8], at: usize) -> &[u8]
     ensures { result.now ≡ block_at c.now at }
 {
     let start = at + 12;
-    let end = start + size_at(c, at + 8);
+    let end = start + be32_usize(c, at + 8);
     &c[start..end]
 }

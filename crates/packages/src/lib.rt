@@ -3,6 +3,7 @@
 #![tactic(auto)]
 
 pub mod frame; // the corpus around its blocks
+pub mod site; // packages of a corpus, and where they are
 pub mod package; // where the parts of an accepted package are, and what an index means by them
 pub mod block; // an accepted package: its block, its parts, notes of its names
 pub mod entries; // what it holds, by number

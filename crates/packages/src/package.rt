@@ -76,11 +76,7 @@ impl Parts {
     pub fn local(&self, index: u64) -> Option<usize>
         ensures { MatchOption result (is_local self.now index ≡ false) (λ k. (is_local self.now index ≡ true) × (k ≡ index)) }
     {
-        if self.is_local(index) {
-            Some(index as usize)
-        } else {
-            None
-        }
+        self.is_local(index).then_some(index as usize)
     }
 
     // The class kind of an index, were it found.

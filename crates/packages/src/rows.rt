@@ -30,7 +30,7 @@ impl Candidate {
     }
 
     // The kind with a number, none for any other number.
-    // Kept: no TryFrom: a number that is none is no error, and each caller would say `Candidate::try_from(n).ok()`.
+    // Kept: no TryFrom: a number that is none is no error, so that the one caller would drop it, `Candidate::try_from(mark % 4).ok()`, and its type stand here.
     pub fn of(number: usize) -> Option<Candidate>
         ensures { result ≡ candidate_of number }
     {
@@ -86,6 +86,8 @@ impl<'a> Package<'a> {
     {
         let e = self.block.export(i);
         let own = self.name_of(e);
+        // Kept: a match: of what the closure of `local(e.outer).map(|k| self.name_of(self.block.export(k)))` returns the check knew nothing, so that it
+        // found no proof that the row is `row_in b p kind i`.
         let outer = match self.block.parts.local(e.outer) {
             Some(k) => Some(self.name_of(self.block.export(k))),
             None => None,
@@ -117,10 +119,7 @@ fn outer_len(b: &[u8], w: &Row) -> usize
     requires { RowHolds b.now w.now }
     ensures { (result ≡ length (utf8 (outer_at b.now w.now))) × (result ≤ 131089) }
 {
-    match w.outer {
-        Some(u) => place_len(b, u),
-        None => 0,
-    }
+    w.outer.map_or(0, |u| place_len(b, u))
 }
 
 // How many bytes instance, name and outer's name take.

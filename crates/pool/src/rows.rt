@@ -8,11 +8,12 @@ ghost use Rattle.resolve.specs.Rows.{row_at, led_at, Resolved};
 ghost use Rattle.pool.specs.Pool.{Stood, Left, State, Before, noted, TextPut, Gap, RowStood, Roomy, Pooled};
 
 use super::compose::compose;
+use base::number::le32_usize;
 use objects::object::Object;
 use resolve::limits::Limits;
 use resolve::rows::{led_at, object_in, row_at};
 use table::entries::clear;
-use table::words::{get32, set32};
+use table::words::set32;
 use text::plain::put_plain;
 
 // How many slots there are: one for each row, but not more than twice as many as script objects, and one.
@@ -62,12 +63,8 @@ fn before(w: &[u8], slot: usize, r: usize, u: Object) -> Option<usize>
     requires { (slot + 4 ≤ length w.now) × (32 * (r + 1) ≤ length w.now) }
     ensures { Before w.now r u result }
 {
-    let k = get32(w, slot);
-    if k < r && object_in(w, k) == u {
-        Some(k)
-    } else {
-        None
-    }
+    let k = le32_usize(w, slot);
+    (k < r && object_in(w, k) == u).then_some(k)
 }
 
 // Row r keeps a text.

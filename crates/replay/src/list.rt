@@ -1,5 +1,5 @@
 // The recorded list taken apart: data/README.md has its layout.
-use base::number::{be32, be64};
+use base::number::{be32_usize, be64};
 
 // A case: a corpus, the lengths of the work buffer and of the report buffer, the number that the call returns, and the report.
 #[derive(Clone, Copy)]
@@ -16,7 +16,7 @@ fn split_part<'a>(list: &'a [u8]) -> Option<(&'a [u8], &'a [u8])> {
     if list.len() < 4 {
         return None;
     }
-    let size = be32(list, 0) as usize;
+    let size = be32_usize(list, 0);
     list[4..].split_at_checked(size)
 }
 

@@ -43,16 +43,10 @@ fn refuse_short(c: &Corpus, s: &Script) -> Refused
         → work < work_needed s.now.limit o c.now.bytes.now c.now.frame
         → Refuses (limits_of lookups s.now.limit) c.now.bytes.now work room (refusal (number result.why) result.block) }
 {
-    if let Some(block) = repeat_block(c.bytes, c.packages(), c.frame.count, s) {
-        return Refused {
-            why: Refusal::RepeatedClass,
-            block,
-        };
+    if let Some(block) = repeat_block(&c.packages(), s) {
+        return Refusal::RepeatedClass.at(block);
     }
-    Refused {
-        why: Refusal::WorkRoom,
-        block: 0,
-    }
+    Refusal::WorkRoom.at(0)
 }
 
 // What is refused where the work buffer has no room for the script objects, by looking at the corpus only.
@@ -60,8 +54,8 @@ fn without_table(c: &Corpus, limit: usize) -> Result<usize, Refused>
     ensures { (l : Layout) (lookups work room : ℕ) → opened c.now.script.now ≡ Ok l → work < 64 * l.count
         → Refuses (limits_of lookups limit) c.now.bytes.now work room (answer_number result) }
 {
-    let block = ScriptBlock::open(c.script).map_err(|why| Refused { why, block: 1 })?;
-    check_packages(c.bytes, c.packages(), c.frame.count)?;
+    let block = ScriptBlock::open(c.script).map_err(|why| why.at(1))?;
+    check_packages(&c.packages())?;
     let mut notes = Notes::new();
     let names = block.names(&mut notes);
     Err(refuse_short(
@@ -90,20 +84,18 @@ fn finish(
     link_classes(w, n, t.classes);
     let size = t.size + resolve_all(w, n, t.rows, m);
     if MOST < size || report.len() < size {
-        return Err(Refused {
-            why: Refusal::ReportRoom,
-            block: 0,
-        });
+        return Err(Refusal::ReportRoom.at(0));
     }
     pool_texts(c.script, w, n, t.classes, t.rows, m);
     let src = Source {
-        corpus: c.bytes,
+        packages: c.packages(),
         script: c.script,
         work: &*w,
         objects: n,
+        rows: t.rows,
         limit: m.objects,
     };
-    Ok(put_report(report, &src, c.packages(), c.frame.count, t.rows, notes))
+    Ok(put_report(report, &src, notes))
 }
 
 // The packages, 24, 25 and the rest; w has the linked script objects in front.
@@ -124,19 +116,9 @@ fn with_objects(
         count: s.block.layout.count,
         limit: m.objects,
     };
-    let t = scan_packages(
-        c.bytes,
-        c.packages(),
-        c.frame.count,
-        &objects,
-        w,
-        &mut notes,
-    )?;
+    let t = scan_packages(&c.packages(), &objects, w, &mut notes)?;
     match t.state {
-        Entering::Repeated(block) => Err(Refused {
-            why: Refusal::RepeatedClass,
-            block,
-        }),
+        Entering::Repeated(block) => Err(Refusal::RepeatedClass.at(block)),
         Entering::Open => finish(c, objects.count, t, w, report, m, &mut notes),
         Entering::Full => Err(refuse_short(c, s)),
     }
@@ -155,7 +137,7 @@ fn with_table(
 {
     let mut notes = Notes::new();
     let names = NotedNames::of(c.script, layout.names, &mut notes);
-    let block = enter_script(&names, layout, w).map_err(|why| Refused { why, block: 1 })?;
+    let block = enter_script(&names, layout, w).map_err(|why| why.at(1))?;
     let s = Script {
         block,
         names,
@@ -169,7 +151,7 @@ fn answer(bytes: &[u8], w: &mut [u8], report: &mut [u8], m: Limits) -> Result<us
     ensures { Answered (limits_of m.lookups m.objects) bytes.now (length w.old) report.old report.new (answer_number result) }
 {
     let c = Corpus::framed(bytes)?;
-    let layout = open_script(c.script).map_err(|why| Refused { why, block: 1 })?;
+    let layout = open_script(c.script).map_err(|why| why.at(1))?;
     if w.len() / 64 < layout.count {
         return without_table(&c, m.objects);
     }

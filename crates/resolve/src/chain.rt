@@ -9,10 +9,10 @@ ghost use Rattle.meaning.specs.Reference.{Ref};
 ghost use Rattle.meaning.specs.Scan.{Class};
 ghost use Rattle.resolve.specs.Rows.{class_number, object_number, Means, Keeps, Tables, SomeTables, SomeClasses, Leads};
 
+use base::number::le64;
 use objects::link::find;
 use packages::entries::Words;
 use table::entries::{look_up, record_at};
-use table::words::get64;
 
 // What is added to the number of a class that is linked.
 pub const LINKED: u64 = 9223372036854775808;
@@ -26,8 +26,8 @@ pub fn words_at(w: &[u8], at: usize) -> Words
     ensures { (result.lo ≡ le_at 8 w.now at) × (result.hi ≡ le_at 8 w.now (at + 8)) }
 {
     Words {
-        lo: get64(w, at),
-        hi: get64(w, at + 8),
+        lo: le64(w, at),
+        hi: le64(w, at + 8),
     }
 }
 
@@ -42,8 +42,8 @@ pub fn class_at(w: &[u8], n: usize, key: Words) -> Option<usize>
 }
 
 // The class of what a record keeps: linked, or looked up.
-// Kept: words are read as numbers: of an enum each function would match the other's half too, as `Meaning::Object(_) | Meaning::Nothing => None` here and
-// `Meaning::Class(_) | Meaning::Key { .. } => None` in `end_of`.
+// Kept: words are read as numbers: `words_at` would make an enum of the two by the same tests that `class_of` and `end_of` make, and each would take it
+// apart, as said at `Words`.
 fn class_of(w: &[u8], n: usize, m: Words) -> Option<usize>
     requires { SomeTables n w.now }
     ensures { (s b : List ℕ) (o : Objects) (xs : List Class) (r : Ref) → Tables s b o n xs w.now → Keeps xs m.lo m.hi r
@@ -59,8 +59,6 @@ fn class_of(w: &[u8], n: usize, m: Words) -> Option<usize>
 }
 
 // The script object to which the chain of so many lookups leads from what is kept, whose class is told.
-// Kept: `left` is counted by hand: with `for _ in 0..lookups` a chain's end would stand in the loop and behind it, or be a function of its own, as
-// `let Some(k) = next else { return object_of(w, n, m) };`.
 fn end_of(w: &[u8], n: usize, class: Option<usize>, kept: Words, lookups: usize) -> Option<usize>
     requires { SomeClasses n (one_more class) w.now }
     ensures { (s b : List ℕ) (o : Objects) (xs : List Class) (r : Ref) → Tables s b o n xs w.now → Keeps xs kept.lo kept.hi r
@@ -69,16 +67,14 @@ fn end_of(w: &[u8], n: usize, class: Option<usize>, kept: Words, lookups: usize)
     let size = 48 * n;
     let mut next = class;
     let mut m = kept;
-    let mut left = lookups;
-    while let Some(k) = next {
-        if left == 0 {
-            return None;
-        }
+    for _ in 0..lookups {
+        let Some(k) = next else {
+            break;
+        };
         m = words_at(w, size + record_at(4 * n, 64, k) + 44);
         next = class_of(w, n, m);
-        left -= 1;
     }
-    if m.hi != 0 || m.lo == 0 {
+    if next.is_some() || m.hi != 0 || m.lo == 0 {
         return None;
     }
     find(&w[..size], m.lo)

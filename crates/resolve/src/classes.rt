@@ -11,13 +11,14 @@ ghost use Rattle.table.specs.Table.{record_at};
 ghost use Rattle.resolve.specs.Classes.{class_no, class_from, ClassesIn, Classes, Entered, Stands, described};
 
 use base::index::{Kind, index_kind};
+use base::number::le32_usize;
 use batch::places::Name;
 use packages::block::Package;
 use packages::class_path::class_path_len;
 use packages::entries::Words;
 use packages::rows::Row;
 use table::entries::{add, record_at};
-use table::words::{get32, set32, set64};
+use table::words::{set32, set64};
 use zen::tables::Export;
 
 // Whether an export is a class; w holds the script objects of the block s.
@@ -98,5 +99,5 @@ pub fn class_len(w: &[u8], n: usize, k: usize) -> usize
     requires { (q : ℕ) × Classes n q w.now × (k < q) }
     ensures { ((s : List ℕ) (xs : List Class) → ClassesIn s n xs w.now → k < length xs → result ≡ length (utf8 (class_no xs k).path)) × (result ≤ 393269) }
 {
-    get32(w, record_at(n, 64, k) + 60)
+    le32_usize(w, record_at(n, 64, k) + 60)
 }

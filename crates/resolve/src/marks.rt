@@ -6,10 +6,11 @@ ghost use Rattle.resolve.specs.Marks.{mark_of, step_at};
 ghost use Rattle.resolve.specs.Rows.{row_at};
 
 use super::rows::row_at;
-use base::number::le32;
+use base::number::le32_usize;
 use packages::rows::Candidate;
 
-// Kept: a mark and a step are numbers: `marks_in` lists them so, and a step would be made anew for each export, as `Step { at: step.at + i }`.
+// Kept: a mark and a step are numbers. `marks_in` lists marks so, and they stand in the work buffer, so that `mark_at` would make a `Mark(m)` for
+// `candidate_in` to take apart; `step_at` says a step so, and of a struct each export would have one made anew, as `Step { at: step.at + i }`.
 
 // The step in which the exports of the package at a place of the corpus start, which stand so far behind its block's start.
 pub fn step_of(at: usize, exports: usize) -> usize
@@ -32,7 +33,7 @@ pub fn mark_at(w: &[u8], r: usize) -> usize
     requires { 32 * (r + 1) ≤ length w.now }
     ensures { (result ≡ le_at 4 w.now (row_at w.now r + 28)) × (result < 2 ^ 32) }
 {
-    le32(w, row_at(w, r) + 28) as usize
+    le32_usize(w, row_at(w, r) + 28)
 }
 
 // The kind of candidate that a mark tells.

@@ -13,10 +13,11 @@ ghost use Rattle.resolve.specs.Resolving.{SomeTarget, targeted, RowIn, SomeRow, 
 use super::chain::{Target, target_of, words_at};
 use super::classes::class_len;
 use super::limits::Limits;
+use base::number::le32_usize;
 use objects::object::{Object, columns_at, object_at};
 use objects::path::path_len;
 use packages::entries::Words;
-use table::words::{get32, set32, set64};
+use table::words::{set32, set64};
 
 // Where row r stands: the rows stand at the buffer's end, the first one last.
 pub fn row_at(w: &[u8], r: usize) -> usize
@@ -64,10 +65,10 @@ pub fn led_at(w: &[u8], r: usize) -> Led
 {
     let at = row_at(w, r);
     Led {
-        class: get32(w, at),
+        class: le32_usize(w, at),
         object: object_in(w, r),
-        text: get32(w, at + 20),
-        size: get32(w, at + 24),
+        text: le32_usize(w, at + 20),
+        size: le32_usize(w, at + 24),
     }
 }
 
@@ -98,10 +99,7 @@ fn object_len(w: &[u8], n: usize, object: Option<usize>, m: Limits) -> usize
         return 1;
     };
     let size = 48 * n;
-    match path_len(&w[..size], i, m.objects) {
-        Some(path) => path.len,
-        None => 1,
-    }
+    path_len(&w[..size], i, m.objects).map_or(1, |path| path.len)
 }
 
 // How many bytes class and native class of a row take that leads there. Where it has no class of the table both are the same text: the path of
@@ -113,6 +111,8 @@ fn target_len(w: &[u8], n: usize, t: Target, m: Limits) -> usize
 {
     let native = object_len(w, n, t.object, m);
     let size = 48 * n;
+    // Kept: a match: with `t.class.map_or(2 * native, |i| native + class_len(&w[size..], 4 * n, i))` the range, what `class_len` asks and the sum are one goal over
+    // all that the closure takes along, a page long, which neither `search` nor `grind` proved; the match has a short one for each.
     match t.class {
         Some(i) => native + class_len(&w[size..], 4 * n, i),
         None => 2 * native,
@@ -125,10 +125,7 @@ fn kept(number: Option<usize>) -> usize
     requires { one_more number < 2 ^ 64 }
     ensures { result ≡ one_more number }
 {
-    match number {
-        Some(i) => i + 1,
-        None => 0,
-    }
+    number.map_or(0, |i| i + 1)
 }
 
 // Keeps where a row leads, at its place.

@@ -5,17 +5,17 @@ ghost use Rattle.base.specs.Reading.{gives, run};
 ghost use Rattle.scriptblock.specs.Script.{Objects, script};
 ghost use Rattle.meaning.specs.Call.{placed_from, first_repeat};
 ghost use Rattle.packages.specs.Package.{read_in};
-ghost use Rattle.packages.specs.Walk.{package_at, place_of, packages_at, Sites, AllRead};
+ghost use Rattle.packages.specs.Walk.{package_at, place_of, packages_at, AllRead};
 ghost use Rattle.scan.specs.Repeats.{ReadAt, is_class_of, has_class, has_public, is_before, is_repeat, repeats_in, repeat_block};
 
 use super::script::Script;
 use packages::block::Block;
 use packages::frame::{block_at, id_at, next_at};
+use packages::site::Packages;
 use zen::tables::Export;
 
-// Kept: corpus, place and count come apart, here and in all that goes over packages: of the first i packages, as this question asks of them, a struct would
-// be made anew, as `is_before(Packages { count: i, ..p }, id, hash, s)`; and the loop that goes from package to package stands in each of these functions since
-// an iterator of the repository's own would be told in its contract what `Sites` and `place_of` say.
+// Kept: the loop that goes from package to package is written out, here and wherever it is needed, since an iterator of the repository's own would be told in
+// its contract what `Sites` and `place_of` say.
 
 // Whether an export is a class with this hash.
 fn is_class_of(s: &Script, e: Export, hash: u64) -> bool
@@ -50,42 +50,43 @@ fn has_public(c: &[u8], here: usize, id: u64, hash: u64, s: &Script) -> bool
 }
 
 // Whether one of the first n packages does.
-fn is_before(c: &[u8], at: usize, n: usize, id: u64, hash: u64, s: &Script) -> bool
-    requires { Sites c.now at n × AllRead c.now at n }
-    ensures { (o : Objects) → run script 0 s.now.block.bytes.now ≡ gives o → result ≡ is_before s.now.limit o c.now at n id hash }
+fn is_before(p: &Packages, n: usize, id: u64, hash: u64, s: &Script) -> bool
+    requires { (n ≤ p.now.count) × AllRead p.now.corpus.now p.now.at n }
+    ensures { (o : Objects) → run script 0 s.now.block.bytes.now ≡ gives o → result ≡ is_before s.now.limit o p.now.corpus.now p.now.at n id hash }
 {
-    let mut here = at;
+    let mut here = p.at;
     for _ in 0..n {
-        if has_public(c, here, id, hash, s) {
+        if has_public(p.corpus, here, id, hash, s) {
             return true;
         }
-        here = next_at(c, here);
+        here = next_at(p.corpus, here);
     }
     false
 }
 
 // Whether export j of package i, with this id and block, is a class whose key an earlier one has.
-fn is_repeat(c: &[u8], at: usize, i: usize, id: u64, b: &Block, j: usize, s: &Script) -> bool
-    requires sites { Sites c.now at i × AllRead c.now at i }
+fn is_repeat(p: &Packages, i: usize, id: u64, b: &Block, j: usize, s: &Script) -> bool
+    requires read { (i ≤ p.now.count) × AllRead p.now.corpus.now p.now.at i }
     requires number { j < b.now.parts.count }
-    ensures { (o : Objects) → run script 0 s.now.block.bytes.now ≡ gives o → result ≡ is_repeat s.now.limit o c.now at i (read_in b.now.bytes.now).exports id j }
+    ensures { (o : Objects) → run script 0 s.now.block.bytes.now ≡ gives o
+        → result ≡ is_repeat s.now.limit o p.now.corpus.now p.now.at i (read_in b.now.bytes.now).exports id j }
 {
     let e = b.export(j);
     if !s.is_class(e) {
         return false;
     }
-    has_class(b, j, e.hash, s) || is_before(c, at, i, id, e.hash, s)
+    has_class(b, j, e.hash, s) || is_before(p, i, id, e.hash, s)
 }
 
 // Whether package i, which is at this place, has one.
-fn repeats_in(c: &[u8], at: usize, i: usize, here: usize, s: &Script) -> bool
-    requires { Sites c.now at (i + 1) × AllRead c.now at (i + 1) × (here ≡ place_of c.now at i) }
-    ensures { (o : Objects) → run script 0 s.now.block.bytes.now ≡ gives o → result ≡ repeats_in s.now.limit o c.now at i }
+fn repeats_in(p: &Packages, i: usize, here: usize, s: &Script) -> bool
+    requires { (i < p.now.count) × AllRead p.now.corpus.now p.now.at (i + 1) × (here ≡ place_of p.now.corpus.now p.now.at i) }
+    ensures { (o : Objects) → run script 0 s.now.block.bytes.now ≡ gives o → result ≡ repeats_in s.now.limit o p.now.corpus.now p.now.at i }
 {
-    let id = id_at(c, here);
-    let b = Block::of(block_at(c, here));
+    let id = id_at(p.corpus, here);
+    let b = Block::of(block_at(p.corpus, here));
     for j in 0..b.parts.count {
-        if is_repeat(c, at, i, id, &b, j, s) {
+        if is_repeat(p, i, id, &b, j, s) {
             return true;
         }
     }
@@ -93,17 +94,17 @@ fn repeats_in(c: &[u8], at: usize, i: usize, here: usize, s: &Script) -> bool
 }
 
 // The block of the first class whose key an earlier one has, if there is one.
-pub fn repeat_block(c: &[u8], at: usize, count: usize, s: &Script) -> Option<u32>
-    requires { Sites c.now at count × AllRead c.now at count × (count + 2 ≤ 2 ^ 32) }
+pub fn repeat_block(p: &Packages, s: &Script) -> Option<u32>
+    requires { AllRead p.now.corpus.now p.now.at p.now.count × (p.now.count + 2 ≤ 2 ^ 32) }
     ensures { (o : Objects) → run script 0 s.now.block.bytes.now ≡ gives o
-        → result ≡ nonzero (repeat_block (first_repeat [] (placed_from s.now.limit o 2 (packages_at c.now at count)))) }
+        → result ≡ nonzero (repeat_block (first_repeat [] (placed_from s.now.limit o 2 (packages_at p.now.corpus.now p.now.at p.now.count)))) }
 {
-    let mut here = at;
-    for i in 0..count {
-        if repeats_in(c, at, i, here, s) {
+    let mut here = p.at;
+    for i in 0..p.count {
+        if repeats_in(p, i, here, s) {
             return Some((i + 2) as u32);
         }
-        here = next_at(c, here);
+        here = next_at(p.corpus, here);
     }
     None
 }

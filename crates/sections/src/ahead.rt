@@ -4,7 +4,7 @@
 ghost use Rattle.std.specs.Prelude.{◌+◌, ◌*◌, ◌≤◌, ◌<◌, length};
 
 use super::source::Source;
-use base::number::le32;
+use base::number::le32_usize;
 use batch::notes::{NOTES, Notes};
 use resolve::marks::mark_at;
 use resolve::rows::{Led, led_at};
@@ -22,9 +22,9 @@ fn byte_at(b: &[u8], at: usize) -> u32 {
 fn see_class(src: &Source, at: usize) -> u32
     requires { at + 64 ≤ length src.now.work.now }
 {
-    let package = le32(src.work, at + 24) as usize;
-    let name = le32(src.work, at + 32) as usize;
-    let c = src.corpus;
+    let package = le32_usize(src.work, at + 24);
+    let name = le32_usize(src.work, at + 32);
+    let c = src.packages.corpus;
     byte_at(c, package + 16) ^ byte_at(c, package + 67) ^ byte_at(c, package + 12 + name)
 }
 
@@ -42,7 +42,7 @@ fn see_row(src: &Source, r: usize) -> u32
 {
     let w = src.work;
     let l = led_at(w, r);
-    let seen = byte_at(src.corpus, 18 * mark_at(w, r) + 36) ^ see_text(w, l);
+    let seen = byte_at(src.packages.corpus, 18 * mark_at(w, r) + 36) ^ see_text(w, l);
     let most = w.len() / 64;
     match l.class.checked_sub(1) {
         Some(i) if i < most && src.objects < most - i => {
@@ -70,14 +70,14 @@ fn group_end(from: usize, all: usize) -> usize
     from.saturating_add(GROUP).min(all)
 }
 
-// Looks at the next group of `all` rows, if few of those that were looked at are left to write from `row` on: which row to look at next.
-pub fn look_ahead(src: &Source, row: usize, next: usize, all: usize, notes: &mut Notes) -> usize
-    requires { 32 * all ≤ length src.now.work.now }
+// Looks at the next group of rows, if few of those that were looked at are left to write from `row` on: which row to look at next.
+pub fn look_ahead(src: &Source, row: usize, next: usize, notes: &mut Notes) -> usize
+    requires { 32 * src.now.rows ≤ length src.now.work.now }
 {
     if row < next && 16 < next - row {
         return next;
     }
-    let end = group_end(next, all);
+    let end = group_end(next, src.rows);
     notes.starts[NOTES - 1] = see_rows(src, next, end);
     end
 }

@@ -70,10 +70,12 @@ fn put_ref(out: &mut [u8], p: &Package, index: u64, kind: ClassKind) -> usize
 // The texts of a row: names, class, native class, reference.
 fn put_texts(out: &mut [u8], src: &Source, p: &Package, v: &Row, kind: ClassKind, l: Led) -> Texts
     requires class_kind { class_code kind ≡ kind_by p.now.block.parts v.now.class }
-    requires texts_room { TextsRoom src.now.corpus.now src.now.script.now src.now.objects src.now.limit src.now.work.now p.now.block.bytes.now p.now.block.parts v.now l
+    requires texts_room { TextsRoom src.now.packages.corpus.now src.now.script.now src.now.objects src.now.limit src.now.work.now p.now.block.bytes.now
+        p.now.block.parts v.now l
         out.old }
     ensures { (o : Objects) (xs : List Class) (lookups id i : ℕ)
-        → RowDue src.now.corpus.now src.now.script.now src.now.objects src.now.limit src.now.work.now p.now.block.bytes.now p.now.block.parts v.now l o xs lookups id i
+        → RowDue src.now.packages.corpus.now src.now.script.now src.now.objects src.now.limit src.now.work.now p.now.block.bytes.now p.now.block.parts v.now l
+        o xs lookups id i
         → length (row_texts (row_no (limits_of lookups src.now.limit) xs o id p.now.block.bytes.now i)) ≤ length out.old
         → TextsPut (row_no (limits_of lookups src.now.limit) xs o id p.now.block.bytes.now i) out.old out.new result }
 {
@@ -90,11 +92,12 @@ fn put_texts(out: &mut [u8], src: &Source, p: &Package, v: &Row, kind: ClassKind
 
 // A row of a package: v is the candidate, l where its class index leads.
 pub fn put_row(out: &mut [u8], src: &Source, p: &Package, v: &Row, l: Led) -> usize
-    requires { RowRoom src.now.corpus.now src.now.script.now src.now.objects src.now.limit src.now.work.now p.now.block.bytes.now p.now.block.parts v.now l out.old }
+    requires { RowRoom src.now.packages.corpus.now src.now.script.now src.now.objects src.now.limit src.now.work.now p.now.block.bytes.now p.now.block.parts
+        v.now l out.old }
     ensures { (o : Objects) (xs : List Class) (lookups id i : ℕ) → i < p.now.block.parts.count
         → candidate_number v.now.kind ≡ candidate_kind (read_in p.now.block.bytes.now) (export_no p.now.block.bytes.now i)
         → v.now ≡ row_in p.now.block.bytes.now p.now.block.parts v.now.kind i
-        → Target src.now.corpus.now src.now.script.now o src.now.objects xs lookups src.now.limit src.now.work.now
+        → Target src.now.packages.corpus.now src.now.script.now o src.now.objects xs lookups src.now.limit src.now.work.now
         (ref_in (package_in id p.now.block.bytes.now) (export_no p.now.block.bytes.now i).class) l
         → length (row_for (limits_of lookups src.now.limit) xs o id p.now.block.bytes.now i) ≤ length out.old
         → Wrote out.old (row_for (limits_of lookups src.now.limit) xs o id p.now.block.bytes.now i) out.new result }

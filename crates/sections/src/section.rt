@@ -8,7 +8,7 @@ ghost use Rattle.meaning.specs.Scan.{candidate_kind};
 ghost use Rattle.packages.specs.Kinds.{candidate_number};
 ghost use Rattle.packages.specs.Package.{package_in, read_in};
 ghost use Rattle.packages.specs.Row.{export_no};
-ghost use Rattle.packages.specs.Walk.{block_at, Site, Sites, AllRead};
+ghost use Rattle.packages.specs.Walk.{block_at, Site, AllRead};
 ghost use Rattle.resolve.specs.Marks.{first_step, marks_in, MarksIn};
 ghost use Rattle.resolve.specs.Rows.{limits_of};
 ghost use Rattle.sections.specs.Sections.{How, head_of, front_of, behind_of, RowsMarked, ExportRoom, ExportPut, EachRoom, EachPut, RowsRoom, RowsPut, SectionRoom, SectionPut, SectionsRoom, SectionsPut};
@@ -43,7 +43,7 @@ fn behind(n: usize, z: Section) -> Section
     }
 }
 
-// Kept: step, first and all are parameters: the first is worked out by `put_section`, the second by `put_sections`, so that a struct would be made anew for
+// Kept: step and first are parameters: `put_section` works out step, `put_sections` first, so that `Rows { step, first }` would be made anew for
 // each package.
 
 // The row of export i of a package, a candidate of that kind: row r is its.
@@ -58,31 +58,27 @@ fn put_export(
     requires inside { i < p.now.block.parts.count }
     requires kind_value { candidate_number kind ≡ candidate_kind (read_in p.now.block.bytes.now) (export_no p.now.block.bytes.now i) }
     requires by_index { (id : ℕ) × (h : How)
-        × ExportRoom src.now.corpus.now src.now.script.now src.now.objects src.now.work.now src.now.limit r id p.now.block.bytes.now i out.old h }
-    ensures { ExportPut src.now.corpus.now src.now.script.now src.now.objects src.now.work.now src.now.limit r p.now.block.bytes.now i out.old out.new result }
+        × ExportRoom src.now.packages.corpus.now src.now.script.now src.now.objects src.now.work.now src.now.limit r id p.now.block.bytes.now i out.old h }
+    ensures { ExportPut src.now.packages.corpus.now src.now.script.now src.now.objects src.now.work.now src.now.limit r p.now.block.bytes.now i out.old out.new
+        result }
 {
     let v = p.row(i, kind);
     let l = led_at(src.rest(), r);
     put_row(out, src, p, &v, l)
 }
 
-// The rows of a package, the first of which is row `first` of `all`, if it has any: its exports start in a step, and a mark tells whose row it is.
-fn put_each(
-    out: &mut [u8],
-    src: &Source,
-    p: &Package,
-    step: usize,
-    first: usize,
-    all: usize,
-) -> Section
+// The rows of a package, the first of which is row `first` of all, if it has any: its exports start in a step, and a mark tells whose row it is.
+fn put_each(out: &mut [u8], src: &Source, p: &Package, step: usize, first: usize) -> Section
     requires by_index { (id : ℕ) × (h : How)
-        × EachRoom src.now.corpus.now src.now.script.now src.now.objects src.now.work.now src.now.limit first id p.now.block.bytes.now out.old h }
-    requires rows_marked { RowsMarked src.now.objects src.now.work.now p.now.block.bytes.now step first all × (step + p.now.block.parts.count < 2 ^ 29) }
-    ensures { EachPut src.now.corpus.now src.now.script.now src.now.objects src.now.work.now src.now.limit first p.now.block.bytes.now out.old out.new result }
+        × EachRoom src.now.packages.corpus.now src.now.script.now src.now.objects src.now.work.now src.now.limit first id p.now.block.bytes.now out.old h }
+    requires rows_marked { RowsMarked src.now.objects src.now.work.now p.now.block.bytes.now step first src.now.rows
+        × (step + p.now.block.parts.count < 2 ^ 29) }
+    ensures { EachPut src.now.packages.corpus.now src.now.script.now src.now.objects src.now.work.now src.now.limit first p.now.block.bytes.now out.old out.new
+        result }
 {
     let end = 4 * (step + p.block.parts.count);
     let mut size: usize = 0;
-    for r in first..all {
+    for r in first..src.rows {
         let mark = mark_at(src.rest(), r);
         if end <= mark {
             return Section {
@@ -101,26 +97,21 @@ fn put_each(
     }
     Section {
         size,
-        rows: all - first,
+        rows: src.rows - first,
     }
 }
 
 // The rows of a package behind their count.
-fn put_rows(
-    out: &mut [u8],
-    src: &Source,
-    p: &Package,
-    step: usize,
-    first: usize,
-    all: usize,
-) -> Section
+fn put_rows(out: &mut [u8], src: &Source, p: &Package, step: usize, first: usize) -> Section
     requires few { p.now.block.parts.count < 2 ^ 32 }
     requires by_index { (id : ℕ) × (h : How)
-        × RowsRoom src.now.corpus.now src.now.script.now src.now.objects src.now.work.now src.now.limit first id p.now.block.bytes.now out.old h }
-    requires rows_marked { RowsMarked src.now.objects src.now.work.now p.now.block.bytes.now step first all × (step + p.now.block.parts.count < 2 ^ 29) }
-    ensures { RowsPut src.now.corpus.now src.now.script.now src.now.objects src.now.work.now src.now.limit first p.now.block.bytes.now out.old out.new result }
+        × RowsRoom src.now.packages.corpus.now src.now.script.now src.now.objects src.now.work.now src.now.limit first id p.now.block.bytes.now out.old h }
+    requires rows_marked { RowsMarked src.now.objects src.now.work.now p.now.block.bytes.now step first src.now.rows
+        × (step + p.now.block.parts.count < 2 ^ 29) }
+    ensures { RowsPut src.now.packages.corpus.now src.now.script.now src.now.objects src.now.work.now src.now.limit first p.now.block.bytes.now out.old out.new
+        result }
 {
-    let z = put_each(&mut out[4..], src, p, step, first, all);
+    let z = put_each(&mut out[4..], src, p, step, first);
     let k = put_be32(out, z.rows as u32);
     behind(k, z)
 }
@@ -136,56 +127,51 @@ fn put_head(out: &mut [u8], p: &Package, id: u64) -> usize
     n + put_be32(&mut out[n..], p.block.parts.count as u32)
 }
 
-// The section of the package at a place, whose first row is row `first` of `all`, if it has any.
+// The section of the package at a place, whose first row is row `first` of all, if it has any.
 fn put_section(
     out: &mut [u8],
     src: &Source,
     at: usize,
     first: usize,
-    all: usize,
     notes: &mut PackageNotes,
 ) -> Section
-    requires site { Site src.now.corpus.now at (block_at src.now.corpus.now at)
-        × (run_block package_block (block_at src.now.corpus.now at) ≡ gives (read_in (block_at src.now.corpus.now at))) }
+    requires site { Site src.now.packages.corpus.now at (block_at src.now.packages.corpus.now at)
+        × (run_block package_block (block_at src.now.packages.corpus.now at) ≡ gives (read_in (block_at src.now.packages.corpus.now at))) }
     requires section_room { (h : How)
-        × SectionRoom src.now.corpus.now src.now.script.now src.now.objects src.now.work.now src.now.limit first at out.old h }
-    requires rows_marked { RowsMarked src.now.objects src.now.work.now (block_at src.now.corpus.now at) (first_step src.now.corpus.now at) first all }
-    ensures is { SectionPut src.now.corpus.now src.now.script.now src.now.objects src.now.work.now src.now.limit first at out.old out.new result }
+        × SectionRoom src.now.packages.corpus.now src.now.script.now src.now.objects src.now.work.now src.now.limit first at out.old h }
+    requires rows_marked { RowsMarked src.now.objects src.now.work.now (block_at src.now.packages.corpus.now at) (first_step src.now.packages.corpus.now at)
+        first src.now.rows }
+    ensures is { SectionPut src.now.packages.corpus.now src.now.script.now src.now.objects src.now.work.now src.now.limit first at out.old out.new result }
 {
-    let b = Block::of(block_at(src.corpus, at));
+    let b = Block::of(block_at(src.packages.corpus, at));
     let p = Package::noted(b, notes);
-    let k = put_head(out, &p, id_at(src.corpus, at));
+    let k = put_head(out, &p, id_at(src.packages.corpus, at));
     let step = step_of(at, b.parts.exports);
-    let z = put_rows(&mut out[k..], src, &p, step, first, all);
+    let z = put_rows(&mut out[k..], src, &p, step, first);
     behind(k, z)
 }
 
-// The sections of so many packages from a place on, which have `all` rows: how many bytes they take.
-fn put_sections(
-    out: &mut [u8],
-    src: &Source,
-    from: usize,
-    count: usize,
-    all: usize,
-    notes: &mut PackageNotes,
-) -> usize
-    requires sites { Sites src.now.corpus.now from count × AllRead src.now.corpus.now from count }
+// The sections of the packages: how many bytes they take.
+fn put_sections(out: &mut [u8], src: &Source, notes: &mut PackageNotes) -> usize
+    requires read { AllRead src.now.packages.corpus.now src.now.packages.at src.now.packages.count }
     requires sections_room { (h : How)
-        × SectionsRoom src.now.corpus.now src.now.script.now src.now.objects src.now.work.now src.now.limit from count out.old h }
-    requires marks_in { MarksIn (marks_in src.now.corpus.now from count) (drop (48 * src.now.objects) src.now.work.now)
-        × (length (marks_in src.now.corpus.now from count) ≡ all) }
-    ensures { SectionsPut src.now.corpus.now src.now.script.now src.now.objects src.now.work.now src.now.limit from count out.old out.new result }
+        × SectionsRoom src.now.packages.corpus.now src.now.script.now src.now.objects src.now.work.now src.now.limit src.now.packages.at src.now.packages.count
+        out.old h }
+    requires marks_in { MarksIn (marks_in src.now.packages.corpus.now src.now.packages.at src.now.packages.count) (drop (48 * src.now.objects) src.now.work.now)
+        × (length (marks_in src.now.packages.corpus.now src.now.packages.at src.now.packages.count) ≡ src.now.rows) }
+    ensures { SectionsPut src.now.packages.corpus.now src.now.script.now src.now.objects src.now.work.now src.now.limit src.now.packages.at
+        src.now.packages.count out.old out.new result }
 {
     let mut size: usize = 0;
     let mut rows: usize = 0;
     let mut ahead: usize = 0;
-    let mut at = from;
-    for _ in 0..count {
-        ahead = look_ahead(src, rows, ahead, all, &mut notes.names);
-        let z = put_section(&mut out[size..], src, at, rows, all, notes);
+    let mut at = src.packages.at;
+    for _ in 0..src.packages.count {
+        ahead = look_ahead(src, rows, ahead, &mut notes.names);
+        let z = put_section(&mut out[size..], src, at, rows, notes);
         size += z.size;
         rows += z.rows;
-        at = next_at(src.corpus, at);
+        at = next_at(src.packages.corpus, at);
     }
     size
 }
@@ -200,24 +186,19 @@ fn put_front(out: &mut [u8], size: u32, count: u32)
     put_be32(&mut out[5..], count);
 }
 
-// The report of the packages from a place of the corpus on, which have so many rows.
-pub fn put_report(
-    out: &mut [u8],
-    src: &Source,
-    at: usize,
-    count: usize,
-    rows: usize,
-    notes: &mut PackageNotes,
-) -> usize
-    requires sites { Sites src.now.corpus.now at count × AllRead src.now.corpus.now at count × (count < 2 ^ 32) }
-    requires report_room { ReportRoom src.now.corpus.now src.now.script.now src.now.objects at count src.now.limit src.now.work.now out.old }
-    requires marks_in { MarksIn (marks_in src.now.corpus.now at count) (drop (48 * src.now.objects) src.now.work.now)
-        × (length (marks_in src.now.corpus.now at count) ≡ rows) }
-    ensures { (o : Objects) (lookups : ℕ) → Ready src.now.corpus.now src.now.script.now o src.now.objects at count lookups src.now.limit src.now.work.now
-        → length (report_at (limits_of lookups src.now.limit) o src.now.corpus.now at count) ≤ length out.old
-        → Wrote out.old (report_at (limits_of lookups src.now.limit) o src.now.corpus.now at count) out.new result }
+// The report of the packages.
+pub fn put_report(out: &mut [u8], src: &Source, notes: &mut PackageNotes) -> usize
+    requires read { AllRead src.now.packages.corpus.now src.now.packages.at src.now.packages.count × (src.now.packages.count < 2 ^ 32) }
+    requires report_room { ReportRoom src.now.packages.corpus.now src.now.script.now src.now.objects src.now.packages.at src.now.packages.count src.now.limit
+        src.now.work.now out.old }
+    requires marks_in { MarksIn (marks_in src.now.packages.corpus.now src.now.packages.at src.now.packages.count) (drop (48 * src.now.objects) src.now.work.now)
+        × (length (marks_in src.now.packages.corpus.now src.now.packages.at src.now.packages.count) ≡ src.now.rows) }
+    ensures { (o : Objects) (lookups : ℕ) → Ready src.now.packages.corpus.now src.now.script.now o src.now.objects src.now.packages.at src.now.packages.count
+        lookups src.now.limit src.now.work.now
+        → length (report_at (limits_of lookups src.now.limit) o src.now.packages.corpus.now src.now.packages.at src.now.packages.count) ≤ length out.old
+        → Wrote out.old (report_at (limits_of lookups src.now.limit) o src.now.packages.corpus.now src.now.packages.at src.now.packages.count) out.new result }
 {
-    let size = put_sections(&mut out[9..], src, at, count, rows, notes);
-    put_front(out, (size + 5) as u32, count as u32);
+    let size = put_sections(&mut out[9..], src, notes);
+    put_front(out, (size + 5) as u32, src.packages.count as u32);
     size + 9
 }

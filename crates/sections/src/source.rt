@@ -1,15 +1,18 @@
 // What a report is written from.
 ghost use Rattle.std.specs.Prelude.{◌≡◌, ◌*◌, ◌≤◌, length, take, drop};
 
-// Kept: clauses name these fields one by one, since the definitions are over lists: of a predicate over `Source` each law would say what its fields are. How
-// many rows there are in all goes beside it, as the marks say it.
-// The corpus, its script block, the resolved work buffer with so many script objects in front, and how many objects a path may have.
+use packages::site::Packages;
+
+// Kept: clauses name these fields one by one, since the definitions are over lists: of a predicate over `Source` each law would say what its fields are.
+// The packages of a corpus, its script block, the resolved work buffer with so many script objects in front and so many rows, and how many objects a path
+// may have.
 #[derive(Clone, Copy)]
 pub struct Source<'a> {
-    pub corpus: &'a [u8],
+    pub packages: Packages<'a>,
     pub script: &'a [u8],
     pub work: &'a [u8],
     pub objects: usize,
+    pub rows: usize,
     pub limit: usize,
 }
 

@@ -106,11 +106,17 @@ fn put_native(out: &mut [u8], src: &Source, l: Led) -> Told
 
 // The text of class i of the table behind the script objects.
 fn put_class(out: &mut [u8], src: &Source, i: usize) -> usize
-    requires { ClassRoom src.now.corpus.now src.now.objects i src.now.work.now out.old }
-    ensures { (xs : List Class) → ClassesIn src.now.corpus.now (4 * src.now.objects) xs (drop (48 * src.now.objects) src.now.work.now) → i < length xs
+    requires { ClassRoom src.now.packages.corpus.now src.now.objects i src.now.work.now out.old }
+    ensures { (xs : List Class) → ClassesIn src.now.packages.corpus.now (4 * src.now.objects) xs (drop (48 * src.now.objects) src.now.work.now) → i < length xs
         → Wrote out.old (text_bytes (class_no xs i).path) out.new result }
 {
-    let k = put_class_path(&mut out[4..], src.corpus, src.rest(), 4 * src.objects, i);
+    let k = put_class_path(
+        &mut out[4..],
+        src.packages.corpus,
+        src.rest(),
+        4 * src.objects,
+        i,
+    );
     put_length(out, k) + k
 }
 
@@ -148,9 +154,9 @@ pub struct Texts {
 
 // The texts of class and native class. Without a class of the table they are the same, and the path is worked out once.
 pub fn put_both(out: &mut [u8], src: &Source, l: Led) -> Texts
-    requires { BothRoom src.now.corpus.now src.now.script.now src.now.objects src.now.limit src.now.work.now l out.old }
+    requires { BothRoom src.now.packages.corpus.now src.now.script.now src.now.objects src.now.limit src.now.work.now l out.old }
     ensures { (o : Objects) (xs : List Class) (lookups : ℕ) (r : Ref)
-        → Target src.now.corpus.now src.now.script.now o src.now.objects xs lookups src.now.limit src.now.work.now r l
+        → Target src.now.packages.corpus.now src.now.script.now o src.now.objects xs lookups src.now.limit src.now.work.now r l
         → length (both_texts (limits_of lookups src.now.limit) xs o r) ≤ length out.old
         → BothPut (limits_of lookups src.now.limit) xs o r out.old out.new result }
 {

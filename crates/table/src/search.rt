@@ -5,13 +5,13 @@ ghost use Rattle.base.specs.OneMore.{one_more};
 ghost use Rattle.table.specs.Tree.{bucket, turn};
 ghost use Rattle.table.specs.Table.{Holds, Table, Ended};
 
-// Kept: lo and hi are two parameters: with a struct a call reads `look_up(w, n, stride, Key { lo: 0, hi: index })`, and `has_key(w, at, key: Key)` makes a
-// key for each record, `Key { lo: get64(w, at + 8), hi: get64(w, at + 16) } == key`, for `get64(w, at + 8) == lo && get64(w, at + 16) == hi`. One caller,
-// resolve's `class_at`, has such a struct already, and three have not.
-// Kept: so are w, n and stride: between two calls the caller writes its own columns of w, and would make the struct anew for each call.
+// Kept: lo and hi are two parameters: with a struct a call reads `look_up(w, n, stride, Key { lo: 0, hi: index })`. One caller, resolve's `class_at`, has such a
+// struct already, and three have not.
+// Kept: so are w, n and stride: where entries are added or linked w is written between two calls, so that a struct would be made anew for each. Of n and
+// stride alone a call would say `look_up(w, Shape { n, stride: 44 }, lo, hi)`, with a const parameter `look_up::<44>(w, n, lo, hi)`, for `look_up(w, n, 44, lo, hi)`.
 
 use super::entries::record_at;
-use super::words::{get32, get64};
+use base::number::{le32_usize, le64};
 
 // The bucket of a key, of n.
 fn bucket_of(n: usize, lo: u64, hi: u64) -> usize
@@ -27,7 +27,7 @@ fn has_key(w: &[u8], at: usize, lo: u64, hi: u64) -> bool
     requires { at + 24 ≤ length w.now }
     ensures { result ≡ (eqb (le_at 8 w.now (at + 8)) lo && eqb (le_at 8 w.now (at + 16)) hi) }
 {
-    get64(w, at + 8) == lo && get64(w, at + 16) == hi
+    le64(w, at + 8) == lo && le64(w, at + 16) == hi
 }
 
 // The side to go to after so many turns, 0 left, 1 right: the bits of hi come first, then those of lo.
@@ -50,7 +50,7 @@ fn entry_at(w: &[u8], place: usize) -> Option<usize>
     requires { place + 4 ≤ length w.now }
     ensures { one_more result ≡ le_at 4 w.now place }
 {
-    get32(w, place).checked_sub(1)
+    le32_usize(w, place).checked_sub(1)
 }
 
 // Where a search ends: the place of a link, and the entry that it leads to.

@@ -4,7 +4,9 @@ use Rattle.std.proofs.Common.{sym, ◌∙◌, ap, add-one, arith, lt-ltb, le-ltb
 use Rattle.std.proofs.lemmas.Bool.{eqb-false}
 use Rattle.std.specs.Int.Bits.{bit_and, bit_or, or_add_and}
 use Rattle.std.specs.List.{fold}
-use Rattle.std.proofs.Math.Bool.{and_assoc}
+use Rattle.std.specs.Bool.{MatchBool}
+use Rattle.std.specs.Str.{IsAscii, IsNotAscii}
+use Rattle.std.proofs.Math.Bool.{and-false, and_assoc}
 use Rattle.std.proofs.lemmas.Nat.{or_lt, and_le_r, and_le_l, and_block}
 use Rattle.std.proofs.lemmas.Nat.Bits.{and_high}
 use Rattle.base.specs.Never.{never}
@@ -54,6 +56,20 @@ pub fold-ascii : (s : List ℕ) (a : ℕ) → ltb (fold bit_or a s) 128 ≡ (ltb
 fold-ascii [] a = sym (and-true (ltb a 128))
 fold-ascii (x ∷ s) a = fold-ascii s (bit_or a x) ∙ rw (or_ascii a x) (and_assoc (ltb a 128) (ltb x 128) (all_ascii s))
 
+-- by the library's test
+ascii-yes : (s : List ℕ) → IsAscii s → all_ascii s ≡ true
+ascii-yes [] a = refl
+ascii-yes (c ∷ s) a = rw (lt-ltb c 128 (a 0)) (ascii-yes s (λ i. a (suc i)))
+
+ascii_no : (s : List ℕ) (i : ℕ) → 128 ≤ get_or s i 0 → all_ascii s ≡ false
+ascii_no [] i h = absurd (omega arith)
+ascii_no (c ∷ s) zero h = rw (le-ltb c 128 h)
+ascii_no (c ∷ s) (suc i) h = rw (ascii_no s i h, and-false (ltb c 128))
+
+pub ascii_told : (s : List ℕ) (b : Bool) → MatchBool b (IsAscii s) (IsNotAscii s) → b ≡ all_ascii s
+ascii_told s true a = sym (ascii-yes s a)
+ascii_told s false a = sym (ascii_no s a.0 a.1)
+
 -- ---- the test, eight bytes a turn
 
 -- the highest bit of each of n bytes
@@ -101,15 +117,6 @@ ascii_more k s i = ap all_ascii (take-add i k s) ∙ ascii-both (take i s) (take
 pub ascii-pair : (s : List ℕ) (i : ℕ) → all_ascii (take 16 (drop i s)) ≡ (all_ascii (take 8 (drop i s)) && all_ascii (take 8 (drop (i + 8) s)))
 ascii-pair s i = rw (← drop-drop 8 i s) (ascii_more 8 (drop i s) 8)
 
--- k bytes that are not
-pub ascii-not : (k : ℕ) (s : List ℕ) (i : ℕ) → all_ascii (take k (drop i s)) ≡ false → all_ascii s ≡ false
-ascii-not k s i f =
-    rw (← take-append-drop i s, ascii-both (take i s) (drop i s), ← take-append-drop k (drop i s), ascii-both (take k (drop i s)) (drop k (drop i s)), f) (go (all_ascii (take i s)))
-  where
-    go : (b : Bool) → (b && false) ≡ false
-    go true = refl
-    go false = refl
-
 -- the last k, some of which may be among those before
 pub ascii_cover : (k : ℕ) (s : List ℕ) (i last : ℕ) → last + k ≡ length s → last ≤ i → (all_ascii (take i s) && all_ascii (take k (drop last s))) ≡ all_ascii s
 ascii_cover k s i last e h =
@@ -127,10 +134,6 @@ ascii_cover k s i last e h =
     go true true d = refl
     go true false d = refl
     go false b d = refl
-
--- where those before are
-pub ascii_end : (k : ℕ) (s : List ℕ) (i last : ℕ) → last + k ≡ length s → last ≤ i → all_ascii (take i s) ≡ true → all_ascii (take k (drop last s)) ≡ all_ascii s
-ascii_end k s i last e h f = rw f at (ascii_cover k s i last e h)
 
 -- ---- what is written
 

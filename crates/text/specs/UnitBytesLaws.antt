@@ -1,6 +1,8 @@
 -- Laws of the bytes of units, in parts. Assumes nothing.
-use Rattle.std.specs.Prelude.{◌≡◌, refl, List, [], ◌∷◌, ◌++◌, ℕ, zero, suc, ◌*◌, length, take, drop}
-use Rattle.std.proofs.Common.{arith}
+use Rattle.std.specs.Prelude.{◌≡◌, refl, List, [], ◌∷◌, ◌++◌, ℕ, zero, suc, ◌+◌, ◌*◌, ◌/◌, ◌%◌, ◌≤◌, length, take, drop, set}
+use Rattle.std.proofs.Common.{append_assoc, arith}
+use Rattle.base.specs.Output.{Wrote}
+use Rattle.base.specs.OutputLaws.{wrote_as, wrote-byte, wrote_count}
 use Rattle.text.specs.Utf16.{unit_bytes}
 
 pub twice : (n : ℕ) → 2 * suc n ≡ suc (suc (2 * n))
@@ -23,3 +25,10 @@ pub unit_bytes-drop : (n : ℕ) (us : List ℕ) → unit_bytes (drop n us) ≡ d
 unit_bytes-drop zero us = refl
 unit_bytes-drop (suc n) [] = rw twice
 unit_bytes-drop (suc n) (u ∷ us) = rw (twice, unit_bytes-drop n us)
+
+-- one unit more behind what was written
+pub wrote-one : {s x o p : List ℕ} (i u : ℕ) → Wrote s x o (2 * i) → 2 * i + 2 ≤ length s → p ≡ set (set o (2 * i) (u % 256)) (2 * i + 1) (u / 256)
+    → Wrote s (x ++ u % 256 ∷ u / 256 ∷ []) p (2 * (i + 1))
+wrote-one {x = x} i u w h e =
+    rw e
+    (wrote_count (wrote_as (wrote-byte (wrote-byte w (omega arith) (u % 256)) (omega arith) (u / 256)) (append_assoc x (u % 256 ∷ []) (u / 256 ∷ []))) (omega arith))

@@ -113,14 +113,6 @@ pub fn put_suffix(out: &mut [u8], number: u32) -> usize
     1 + put_decimal(&mut out[1..], u64::from(number - 1))
 }
 
-// How many bytes of UTF-8 the rendered name takes.
-pub fn name_len(text: Text, number: u32) -> usize
-    requires { length text.part.bytes.now < 2 ^ 32 }
-    ensures { (result ≡ length (utf8 (rendered_in text.entry.part number))) × (result ≤ 4 * length text.entry.part.bytes.now + 21) }
-{
-    base_len(text) + suffix_len(number)
-}
-
 // The rendered name.
 pub fn put_name(out: &mut [u8], text: Text, number: u32) -> usize
     requires { length (utf8 (rendered_in text.part number)) ≤ length out.old }

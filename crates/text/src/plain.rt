@@ -12,7 +12,7 @@ use super::name;
 use super::name::{put_suffix, suffix_len};
 use super::text::{Part, Text};
 use base::number::le64;
-use base::output::put_be32;
+use base::output::{put_be32, put_bytes};
 
 // Whether the eight bytes from a place on are ASCII: none of them has its highest bit set.
 fn is_word(part: &[u8], i: usize) -> bool
@@ -49,10 +49,9 @@ fn is_ends(part: &[u8]) -> bool
     is_pair(part, 0) & is_pair(part, n - 16)
 }
 
-// Whether bytes are all ASCII, sixteen a turn; the last sixteen may have some of those before them. Lengths up to 32 have no turns, since a
-// turn more or less is a branch that can't be foreseen.
-// Kept: by hand, of `is_word`, beside the library's `is_ascii`: it takes 6.3 ns for 12.3 at 1 to 7 bytes, 2.7 for 4.2 at 12, and 4.3 for 5.5 at 5 to 30,
-// though 6.8 for 3.8 at 33 to 60.
+// Whether bytes are all ASCII.
+// Kept: up to 32 bytes by hand, beside the library's `is_ascii`, which has loops for them: it takes 12.3 ns at 1 to 7 bytes where this takes 6.3, 4.2 at 12
+// where this takes 2.7, and 5.5 at 5 to 30 where this takes 4.3.
 pub fn is_plain(part: &[u8]) -> bool
     ensures { result ≡ all_ascii part.now }
 {
@@ -63,12 +62,7 @@ pub fn is_plain(part: &[u8]) -> bool
     if n <= 32 {
         return is_ends(part);
     }
-    for i in 0..(n - 1) / 16 {
-        if !is_pair(part, 16 * i) {
-            return false;
-        }
-    }
-    is_pair(part, n - 16)
+    part.is_ascii()
 }
 
 // The eight bytes of src from a place on, to the same place, as one word.
@@ -120,7 +114,7 @@ fn put_ends(out: &mut [u8], part: &[u8])
     put_sixteen(out, part, n - 16);
 }
 
-// Bytes, and whether they are all ASCII: sixteen a turn; the last sixteen may have some of those before them.
+// Bytes, and whether they are all ASCII: up to 32 by hand, as in `is_plain`.
 pub fn put_plain(out: &mut [u8], part: &[u8]) -> bool
     requires { length part.now ≤ length out.old }
     ensures { (result ≡ all_ascii part.now) × Wrote out.old part.now out.new (length part.now) }
@@ -133,13 +127,8 @@ pub fn put_plain(out: &mut [u8], part: &[u8]) -> bool
         put_ends(out, part);
         return is_ends(part);
     }
-    let mut plain = true;
-    for i in 0..(n - 1) / 16 {
-        put_sixteen(out, part, 16 * i);
-        plain &= is_pair(part, 16 * i);
-    }
-    put_sixteen(out, part, n - 16);
-    plain & is_pair(part, n - 16)
+    put_bytes(out, part);
+    part.is_ascii()
 }
 
 // Kept: that a text has less than 2^32 bytes is a `requires` of the few functions that count or hash it: `Text` is public, and as a ghost field of it this
@@ -181,9 +170,6 @@ pub fn put_base(out: &mut [u8], text: Text) -> usize
     name::put_base(out, text)
 }
 
-// Kept: `name_len` and `put_name_text` here and in `name`: one of each would be handed the `base_len` or `put_name` to call, as
-// `name_len_by(base_len, text, number)`, for a line or two.
-
 // How many bytes of UTF-8 the rendered name takes.
 pub fn name_len(text: Text, number: u32) -> usize
     requires { length text.part.bytes.now < 2 ^ 32 }
@@ -206,6 +192,8 @@ pub fn put_name(out: &mut [u8], text: Text, number: u32) -> usize
 }
 
 // The rendered name as a text: its length in 4 bytes, then its bytes.
+// Kept: `put_name_text` here and in `name`, which only this one calls, for wide text: so `name::put_name` has its two callers. One function for both would
+// be handed the `put_name` to call, as `put_text_by(put_name, out, text, number)`, for two lines.
 pub fn put_name_text(out: &mut [u8], text: Text, number: u32) -> usize
     requires { (length (text_bytes (rendered_in text.part number)) ≤ length out.old) × (length (utf8 (rendered_in text.part number)) < 2 ^ 32) }
     ensures { Wrote out.old (text_bytes (rendered_in text.entry.part number)) out.new result }

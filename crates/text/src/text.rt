@@ -5,8 +5,8 @@ ghost use Rattle.text.specs.Utf16.{is_well};
 ghost use Rattle.text.specs.Name.{decoded};
 
 // A part of a block as it is stored: bytes of one-byte text, or of wide text, whose units have 16 bits.
-// Kept: bytes and a flag, as C and the blocks give them. Most code wants the bytes of either, `part.bytes`, which of an enum would be
-// `match part { Part::Narrow(b) | Part::Wide(b) => b }`, and a variant can't have the ghost field.
+// Kept: bytes and a flag, as C and the headers of names give them: of an enum the fact that its bytes are bytes would stand on a struct inside each variant,
+// `Part::Wide(Stored { bytes })`, since a variant can't have a ghost field.
 #[derive(Clone, Copy)]
 pub struct Part<'a> {
     pub bytes: &'a [u8],

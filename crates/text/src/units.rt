@@ -1,5 +1,6 @@
-// A part of a block as units: the bytes of one-byte text, the 16-bit units of wide text.
-ghost use Rattle.std.specs.Prelude.{◌≡◌, ◌<◌, length, get_or};
+// A part of a block as units: the bytes of one-byte text, the 16-bit units of wide text; and a unit written.
+ghost use Rattle.std.specs.Prelude.{◌≡◌, ◌+◌, ◌*◌, ◌/◌, ◌%◌, ◌≤◌, ◌<◌, length, get_or};
+ghost use Rattle.std.proofs.Math.ListN.{set};
 ghost use Rattle.text.specs.Units.{units_in};
 
 use super::text::Part;
@@ -26,4 +27,14 @@ impl<'a> Part<'a> {
         }
         u32::from(self.bytes[i])
     }
+}
+
+// Writes a unit as unit i of a buffer, in UTF-16LE: its low byte and its high one.
+pub fn put_unit(out: &mut [u8], i: usize, u: u16)
+    requires { 2 * i + 2 ≤ length out.old }
+    ensures { out.new ≡ set (set out.old (2 * i) (u % 256)) (2 * i + 1) (u / 256) }
+{
+    let [low, high] = u.to_le_bytes();
+    out[2 * i] = low;
+    out[2 * i + 1] = high;
 }

@@ -15,7 +15,9 @@ pub struct Scalar {
     pub units: usize,
 }
 
-// The scalar value that starts with unit i of a part; none for a surrogate with no partner.
+// The scalar value that starts with unit i of a part; none for a surrogate with no partner. Written out where it is called: else the loops that go from one
+// to the next look twice at how many units it takes.
+#[inline(always)]
 pub fn scalar_at(part: Part, i: usize) -> Option<Scalar>
     requires { i < length (units_in part) }
     ensures { result ≡ scalar_of (drop i (units_in part.entry)) }

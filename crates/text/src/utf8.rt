@@ -3,8 +3,9 @@ ghost use Rattle.std.specs.Prelude.{◌≡◌, ◌≤◌, ◌<◌, length};
 ghost use Rattle.base.specs.Output.{Wrote};
 ghost use Rattle.text.specs.Utf8.{utf8_one};
 
-// A scalar value.
+// A scalar value. Written out where it is called, as `scalar_at` is.
 // Kept: a u32 and no `char`, which asks more: no surrogate is one. `char::from_u32` would also answer an Option of what the caller knows to be there.
+#[inline(always)]
 pub fn put_utf8(out: &mut [u8], c: u32) -> usize
     requires { (c < 0x110000) × (length (utf8_one c) ≤ length out.old) }
     ensures { Wrote out.old (utf8_one c) out.new result }

@@ -10,7 +10,8 @@ ghost use Rattle.textapi.specs.Answers.{fine, id_answer, name_answer, name_after
 use ids::id::name_id;
 use lower::search::lower_in;
 use rules::rules::{lower_pair, lower_quick};
-use text::name::{name_len, put_name};
+use text::name::put_name;
+use text::plain::name_len;
 use text::text::{Part, Text};
 use text::utf16::is_text;
 

@@ -29,26 +29,22 @@ fn finish(c: &Corpus, n: usize, t: Tally, out: &mut [u8]) -> Result<usize, Refus
     ensures { Answered c.now.bytes.now out.old out.new (answer_number result) }
 {
     if out.len() < 25 + c.frame.count {
-        return Err(Refused {
-            why: Refusal::ReportRoom,
-            block: 0,
-        });
+        return Err(Refusal::ReportRoom.at(0));
     }
-    Ok(put_output(out, c.bytes, c.packages(), c.frame.count, n, t))
+    Ok(put_output(out, &c.packages(), n, t))
 }
 
 // Kept: corpus and script are two parameters, and that one is the other's is a `requires`, as in report: `compare(&Opened { c, s: &s }, t, out)`.
+// Kept: these functions take the steps of report's in the same order: one for both would be handed what to do with the linked objects, where 25 is asked and at
+// the end, and say in its contract what three closures do to two buffers.
 
 // 24 by comparing each class with all before it, and the rest.
 fn compare(c: &Corpus, s: &Script, t: Tally, out: &mut [u8]) -> Result<usize, Refused>
     requires { Packages c.now.bytes.now c.now.frame × (s.now.block.bytes.now ≡ c.now.script.now) × (s.now.limit ≡ 65) × Tallied c.now.script.now t }
     ensures { Answered c.now.bytes.now out.old out.new (answer_number result) }
 {
-    if let Some(block) = repeat_block(c.bytes, c.packages(), c.frame.count, s) {
-        return Err(Refused {
-            why: Refusal::RepeatedClass,
-            block,
-        });
+    if let Some(block) = repeat_block(&c.packages(), s) {
+        return Err(Refusal::RepeatedClass.at(block));
     }
     finish(c, s.block.layout.count, t, out)
 }
@@ -57,8 +53,8 @@ fn compare(c: &Corpus, s: &Script, t: Tally, out: &mut [u8]) -> Result<usize, Re
 fn without_table(c: &Corpus, out: &mut [u8]) -> Result<usize, Refused>
     ensures { Answered c.now.bytes.now out.old out.new (answer_number result) }
 {
-    let block = ScriptBlock::open(c.script).map_err(|why| Refused { why, block: 1 })?;
-    check_packages(c.bytes, c.packages(), c.frame.count)?;
+    let block = ScriptBlock::open(c.script).map_err(|why| why.at(1))?;
+    check_packages(&c.packages())?;
     let mut notes = Notes::new();
     let names = block.names(&mut notes);
     let s = Script {
@@ -88,19 +84,9 @@ fn with_objects(
         count: s.block.layout.count,
         limit: OBJECTS,
     };
-    let k = scan_packages(
-        c.bytes,
-        c.packages(),
-        c.frame.count,
-        &objects,
-        w,
-        &mut notes,
-    )?;
+    let k = scan_packages(&c.packages(), &objects, w, &mut notes)?;
     match k.state {
-        Entering::Repeated(block) => Err(Refused {
-            why: Refusal::RepeatedClass,
-            block,
-        }),
+        Entering::Repeated(block) => Err(Refusal::RepeatedClass.at(block)),
         Entering::Open => finish(c, s.block.layout.count, t, out),
         Entering::Full => compare(c, s, t, out),
     }
@@ -113,7 +99,7 @@ fn with_table(c: &Corpus, layout: Layout, w: &mut [u8], out: &mut [u8]) -> Resul
 {
     let mut notes = Notes::new();
     let names = NotedNames::of(c.script, layout.names, &mut notes);
-    let block = enter_script(&names, layout, w).map_err(|why| Refused { why, block: 1 })?;
+    let block = enter_script(&names, layout, w).map_err(|why| why.at(1))?;
     let size = 48 * layout.count;
     let t = count_linked(&block, &w[..size], OBJECTS);
     let s = Script {
@@ -129,7 +115,7 @@ fn answer(bytes: &[u8], w: &mut [u8], out: &mut [u8]) -> Result<usize, Refused>
     ensures { Answered bytes.now out.old out.new (answer_number result) }
 {
     let c = Corpus::framed(bytes)?;
-    let layout = open_script(c.script).map_err(|why| Refused { why, block: 1 })?;
+    let layout = open_script(c.script).map_err(|why| why.at(1))?;
     if w.len() / 64 < layout.count {
         return without_table(&c, out);
     }

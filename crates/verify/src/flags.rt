@@ -5,13 +5,14 @@ ghost use Rattle.base.specs.Output.{Wrote};
 ghost use Rattle.zen.specs.Zen.{package_name};
 ghost use Rattle.meaning.specs.Verify.{package_flag};
 ghost use Rattle.packages.specs.Package.{read_in};
-ghost use Rattle.packages.specs.Walk.{package_at, packages_at, Sites, AllRead};
+ghost use Rattle.packages.specs.Walk.{package_at, packages_at, AllRead};
 ghost use Rattle.scan.specs.Repeats.{ReadAt};
 
 use batch::places::name_start;
 use batch::reader::u30_le;
 use packages::block::Block;
 use packages::frame::{block_at, id_at, next_at};
+use packages::site::Packages;
 use zen::id::place_id;
 
 // The id of an accepted package's rendered name, which is found by passing over the names before it: it is the only name that is asked for.
@@ -31,15 +32,15 @@ fn flag_at(c: &[u8], at: usize) -> u8
     u8::from(home_id(&Block::of(block_at(c, at))) == id_at(c, at))
 }
 
-// The flags of so many packages from a place on, in corpus order.
-pub fn put_flags(out: &mut [u8], c: &[u8], from: usize, count: usize) -> usize
-    requires { Sites c.now from count × AllRead c.now from count × (count ≤ length out.old) }
-    ensures { Wrote out.old (map package_flag (packages_at c.now from count)) out.new result }
+// The flags of packages, in corpus order.
+pub fn put_flags(out: &mut [u8], p: &Packages) -> usize
+    requires { AllRead p.now.corpus.now p.now.at p.now.count × (p.now.count ≤ length out.old) }
+    ensures { Wrote out.old (map package_flag (packages_at p.now.corpus.now p.now.at p.now.count)) out.new result }
 {
-    let mut at = from;
-    for i in 0..count {
-        out[i] = flag_at(c, at);
-        at = next_at(c, at);
+    let mut at = p.at;
+    for i in 0..p.count {
+        out[i] = flag_at(p.corpus, at);
+        at = next_at(p.corpus, at);
     }
-    count
+    p.count
 }

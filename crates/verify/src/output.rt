@@ -3,12 +3,13 @@ ghost use Rattle.std.specs.Prelude.{map, ◌++◌, ◌+◌, ◌^◌, ◌≤◌, 
 ghost use Rattle.base.specs.Number.{be_bytes};
 ghost use Rattle.base.specs.Output.{Wrote};
 ghost use Rattle.meaning.specs.Verify.{package_flag, output_with};
-ghost use Rattle.packages.specs.Walk.{packages_at, Sites, AllRead};
+ghost use Rattle.packages.specs.Walk.{packages_at, AllRead};
 ghost use Rattle.verify.specs.Tallies.{counts_by, count_bytes, front_of};
 
 use super::counts::Tally;
 use super::flags::put_flags;
 use base::output::{put_be32, put_byte};
+use packages::site::Packages;
 
 // Kept: that no more match than are resolved is a `requires`, and no ghost field of Tally: the definitions make tallies (`tallied`, `tally_of`), and would
 // prove it of each. And the objects stand beside it: they are the layout's, and not counted.
@@ -42,19 +43,12 @@ fn put_front(out: &mut [u8], objects: u32, t: Tally, count: u32)
     put_be32(&mut out[21..], count);
 }
 
-// The output for so many packages from a place of the corpus on.
-pub fn put_output(
-    out: &mut [u8],
-    c: &[u8],
-    at: usize,
-    count: usize,
-    objects: usize,
-    t: Tally,
-) -> usize
-    requires sites { Sites c.now at count × AllRead c.now at count × (25 + count ≤ length out.old) }
-    requires objects_bound { (objects < 2 ^ 32) × (t.matches ≤ t.resolved) × (count + 21 < 2 ^ 32) }
-    ensures { Wrote out.old (output_with (counts_by objects t) (map package_flag (packages_at c.now at count))) out.new result }
+// The output for packages.
+pub fn put_output(out: &mut [u8], p: &Packages, objects: usize, t: Tally) -> usize
+    requires read { AllRead p.now.corpus.now p.now.at p.now.count × (25 + p.now.count ≤ length out.old) }
+    requires objects_bound { (objects < 2 ^ 32) × (t.matches ≤ t.resolved) × (p.now.count + 21 < 2 ^ 32) }
+    ensures { Wrote out.old (output_with (counts_by objects t) (map package_flag (packages_at p.now.corpus.now p.now.at p.now.count))) out.new result }
 {
-    put_front(out, objects as u32, t, count as u32);
-    25 + put_flags(&mut out[25..], c, at, count)
+    put_front(out, objects as u32, t, p.count as u32);
+    25 + put_flags(&mut out[25..], p)
 }

@@ -7,6 +7,7 @@ ghost use Rattle.walk.specs.OpenSteps.{Begun};
 
 use base::refusal::Refused;
 use packages::frame::{Frame, read_frame};
+use packages::site::Packages;
 
 // Its bytes, where its parts are, and its script block.
 #[derive(Clone, Copy)]
@@ -22,7 +23,7 @@ impl<'a> Corpus<'a> {
     pub fn framed(bytes: &'a [u8]) -> Result<Corpus<'a>, Refused>
         ensures { MatchResult result (λ c. c.bytes ≡ bytes.entry) (λ r. (framed_as (framed bytes.now) ≡ Err (number r.why)) × (r.block ≡ 0)) }
     {
-        let frame = read_frame(bytes).map_err(|why| Refused { why, block: 0 })?;
+        let frame = read_frame(bytes).map_err(|why| why.at(0))?;
         let end = frame.end;
         let script = &bytes[9..end];
         Ok(Corpus {
@@ -32,10 +33,14 @@ impl<'a> Corpus<'a> {
         })
     }
 
-    // Where its packages start.
-    pub fn packages(&self) -> usize
-        ensures { result ≡ self.now.frame.«end» + 4 }
+    // Its packages: the first stands behind their count.
+    pub fn packages(&self) -> Packages<'a>
+        ensures { (result.corpus ≡ self.now.bytes) × (result.at ≡ self.now.frame.«end» + 4) × (result.count ≡ self.now.frame.count) }
     {
-        self.frame.end + 4
+        Packages {
+            corpus: self.bytes,
+            at: self.frame.end + 4,
+            count: self.frame.count,
+        }
     }
 }

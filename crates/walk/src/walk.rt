@@ -12,7 +12,7 @@ ghost use Rattle.packages.specs.Framing.{parts_at};
 ghost use Rattle.packages.specs.Package.{read_in, package_in};
 ghost use Rattle.packages.specs.RefBytes.{ref_bytes};
 ghost use Rattle.packages.specs.Row.{export_no, names_size, RowHolds};
-ghost use Rattle.packages.specs.Walk.{Sites, AllRead};
+ghost use Rattle.packages.specs.Walk.{AllRead};
 ghost use Rattle.resolve.specs.Classes.{Classes};
 ghost use Rattle.resolve.specs.Marks.{export_marks, marks_from, marks_of, marks_in};
 ghost use Rattle.walk.specs.Found.{Found, head_size, with_export, with_exports, with_package, found_in, Linked, State};
@@ -27,14 +27,17 @@ use packages::block::{Block, Package, PackageNotes};
 use packages::frame::{block_at, id_at, next_at};
 use packages::package::parts_of;
 use packages::rows::{Row, names_len};
+use packages::site::Packages;
 use resolve::classes::{enter_class, is_class};
 use resolve::marks::{mark_of, step_of};
 use resolve::rows::put_words;
 use table::entries::clear;
 use zen::zen::{Layout, check_package};
 
-// Kept: no Result: where nothing more is entered the walk goes on, since every block is still checked, so that `Result<Census, Short>` would be carried from
-// package to package and taken apart at each, as `Ok(l) => match t { Ok(t) => scan_package(b, l, s, w, notes, v, t), short => short }`.
+// Kept: no `Result<Census, Short>`: where nothing more is entered the walk goes on, since every block is still checked and may be refused, so that `scan_block`
+// and `scan_packages` would answer a `Result<Result<Census, Short>, Refused>`, and `Ok(l) if t.is_open() => Ok(scan_package(b, l, s, w, notes, v, t)), Ok(_) => Ok(t)`
+// be `Ok(l) => Ok(match t { Ok(t) => scan_package(b, l, s, w, notes, v, t), short => short })`; bounds that hold in any state (`Small` of `scan_block`, `few` of
+// `scan_packages`) would be said of a census inside both.
 // Whether all that was found is entered (Open). Else nothing more is: there is no room (Full), or a class's key stands twice (Repeated, with its block).
 #[derive(Clone, Copy, PartialEq, Eq)]
 pub enum Entering {
@@ -272,10 +275,7 @@ fn scan_block(
     ensures marks { (t' : Census) (l : List ℕ) → result ≡ Ok t' → Marked s.now.count l t w.old → Marked s.now.count (l ++ marks_of v.at b.now) t' w.new }
 {
     match check_package(b) {
-        Err(why) => Err(Refused {
-            why,
-            block: v.block,
-        }),
+        Err(why) => Err(why.at(v.block)),
         Ok(l) if t.is_open() => Ok(scan_package(b, l, s, w, notes, v, t)),
         Ok(_) => Ok(t),
     }
@@ -293,33 +293,31 @@ fn visit_at(c: &[u8], at: usize, i: usize) -> Visit
     }
 }
 
-// Checks the packages from a place of the corpus on, and enters what they hold: w has the linked script objects in front.
+// Checks packages, and enters what they hold: w has the linked script objects in front.
 pub fn scan_packages(
-    c: &[u8],
-    at: usize,
-    count: usize,
+    p: &Packages,
     s: &ScriptObjects,
     w: &mut [u8],
     notes: &mut PackageNotes,
 ) -> Result<Census, Refused>
-    requires sites { Sites c.now at count × (count + 2 ≤ 2 ^ 32) × (length c.now < 2 ^ 32 + 4) }
+    requires few { (p.now.count + 2 ≤ 2 ^ 32) × (length p.now.corpus.now < 2 ^ 32 + 4) }
     requires linked { Linked s.now.block.now s.now.count w.old × (length s.now.block.now < 2 ^ 32) }
-    ensures refused { (r : Refused) → result ≡ Err r → read_from 2 (parts_at c.now at count) ≡ refused_in (number r.why) r.block }
-    ensures all { (t : Census) → result ≡ Ok t → AllRead c.now at count }
+    ensures refused { (r : Refused) → result ≡ Err r → read_from 2 (parts_at p.now.corpus.now p.now.at p.now.count) ≡ refused_in (number r.why) r.block }
+    ensures all { (t : Census) → result ≡ Ok t → AllRead p.now.corpus.now p.now.at p.now.count }
     ensures state { (t : Census) (o : Objects) → result ≡ Ok t → ObjectsIn s.now.block.now o (take (48 * s.now.count) w.old)
-        → State c.now s.now.block.now o s.now.count (found_in s.now.limit o c.now at count) t w.new }
+        → State p.now.corpus.now s.now.block.now o s.now.count (found_in s.now.limit o p.now.corpus.now p.now.at p.now.count) t w.new }
     ensures size { length w.new ≡ length w.old }
     ensures few { (t : Census) → result ≡ Ok t → (t.rows < 2 ^ 32) × (t.size < 2 ^ 60) }
-    ensures marks { (t : Census) → result ≡ Ok t → Marked s.now.count (marks_in c.now at count) t w.new }
+    ensures marks { (t : Census) → result ≡ Ok t → Marked s.now.count (marks_in p.now.corpus.now p.now.at p.now.count) t w.new }
 {
     let size = 48 * s.count;
     clear(&mut w[size..], 4 * s.count);
     let mut t = opened(0, 0, 9);
-    let mut place = at;
-    for i in 0..count {
-        let v = visit_at(c, place, i);
-        t = scan_block(block_at(c, place), s, w, notes, v, t)?;
-        place = next_at(c, place);
+    let mut place = p.at;
+    for i in 0..p.count {
+        let v = visit_at(p.corpus, place, i);
+        t = scan_block(block_at(p.corpus, place), s, w, notes, v, t)?;
+        place = next_at(p.corpus, place);
     }
     Ok(t)
 }

@@ -16,7 +16,6 @@ use super::zen::{Layout, NameList, check_package};
 use base::refusal::Refusal;
 use batch::notes::{NotedNames, Notes};
 use batch::places::{Name, Place};
-use batch::reader;
 
 // A block that passed the check, and where its parts are.
 #[derive(Clone, Copy)]
@@ -62,7 +61,7 @@ impl<'a> Package<'a> {
         requires { i < length (hashes_of (run_block package_block self.block.now)) }
         ensures { result ≡ get_or (hashes_of (run_block package_block self.entry.block.now)) i 0 }
     {
-        reader::u64_le(self.header(), self.layout.summary.hashes + 8 * i)
+        base::number::le64(self.header(), self.layout.summary.hashes + 8 * i)
     }
 
     // The export of number i.

@@ -8,15 +8,15 @@ ghost use Rattle.zen.specs.declared.zen.Layout.{Layout};
 
 use super::summary::summary_in;
 use super::zen::Layout;
+use base::number::le32_usize;
 use batch::names::Names;
-use batch::reader;
 
 // The parts of a batch.
 fn batch_in(s: &[u8], at: usize) -> Names
     requires { BatchAt s.now at }
     ensures { result ≡ names_at s.now at }
 {
-    let count = reader::u32_le(s, at);
+    let count = le32_usize(s, at);
     if count == 0 {
         let next = at + 4;
         return Names {
@@ -32,7 +32,7 @@ fn batch_in(s: &[u8], at: usize) -> Names
         count,
         headers,
         strings,
-        end: strings + reader::u32_le(s, at + 4),
+        end: strings + le32_usize(s, at + 4),
     }
 }
 
@@ -56,6 +56,6 @@ pub fn layout_of(b: &[u8]) -> Layout
     requires { (l : Layout) × (answer (run_block package_block b.now) ≡ Ok l) }
     ensures { answer (run_block package_block b.now) ≡ Ok result }
 {
-    let size = reader::u32_le(b, 4);
+    let size = le32_usize(b, 4);
     layout_in(&b[..size])
 }

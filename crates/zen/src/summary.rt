@@ -6,6 +6,7 @@ ghost use Rattle.batch.specs.BatchAnswers.{checked};
 ghost use Rattle.zen.specs.Zen.{offset, summary, ordered, summary_at};
 ghost use Rattle.zen.specs.Answers.{summed};
 
+use base::number::{le32, le32_usize};
 use base::refusal::Refusal;
 use base::signed::le_size32;
 use batch::reader;
@@ -46,14 +47,14 @@ pub fn summary_in(s: &[u8]) -> Summary
 {
     Summary {
         index: reader::u30_le(s, 8),
-        number: base::number::le32(s, 12),
-        hashes: reader::u32_le(s, 24),
-        imports: reader::u32_le(s, 28),
-        exports: reader::u32_le(s, 32),
-        bundles: reader::u32_le(s, 36),
-        headers: reader::u32_le(s, 40),
-        entries: reader::u32_le(s, 44),
-        imported: reader::u32_le(s, 48),
+        number: le32(s, 12),
+        hashes: le32_usize(s, 24),
+        imports: le32_usize(s, 28),
+        exports: le32_usize(s, 32),
+        bundles: le32_usize(s, 36),
+        headers: le32_usize(s, 40),
+        entries: le32_usize(s, 44),
+        imported: le32_usize(s, 48),
     }
 }
 

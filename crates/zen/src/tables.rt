@@ -8,6 +8,7 @@ ghost use Rattle.zen.specs.Zen.{bulk, export_at, named, tables};
 ghost use Rattle.zen.specs.Answers.{Order};
 
 use super::summary::Summary;
+use base::number::{le32, le64};
 use base::refusal::Refusal;
 use base::signed::le_size64;
 use batch::reader;
@@ -50,11 +51,11 @@ pub fn export_in(s: &[u8], at: usize) -> Export
 {
     Export {
         index: reader::u30_le(s, at + 16),
-        number: base::number::le32(s, at + 20),
-        outer: reader::u64_le(s, at + 24),
-        class: reader::u64_le(s, at + 32),
-        parent: reader::u64_le(s, at + 40),
-        hash: reader::u64_le(s, at + 56),
+        number: le32(s, at + 20),
+        outer: le64(s, at + 24),
+        class: le64(s, at + 32),
+        parent: le64(s, at + 40),
+        hash: le64(s, at + 56),
     }
 }
 

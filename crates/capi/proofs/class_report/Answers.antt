@@ -1,12 +1,12 @@
 -- `capi::class_report` meets its contract: 29 first, then the call within its limits.
-use Rattle.capi.proofs.Range.{few-objects, called_in, called_out}
+use mathlib.Core.Path.{refl}
+use Rattle.capi.proofs.Range.{called_in, called_out}
 use Rattle.capi.proofs.class_report.Goals as goal
 
-pub invariant_of-m : goal.invariant_of-m
-invariant_of-m c = record { few = search few-objects }
-
-pub returns-then-in_range : goal.returns-then-in_range
-returns-then-in_range c = search called_in
+pub returns-in_default : goal.returns-in_default
+returns-in_default c = called_out c.in_default.ensures (rw (c.at.ensures.0, c.at.ensures.1) at c.number.ensures) refl
 
 pub returns : goal.returns
-returns c = search called_out
+returns c =
+    let (passed, lookups, objects) = c.in-Some.ensures in
+    called_in passed (rw (lookups, objects) at c.class_report.ensures.number) (rw (lookups, objects) at c.class_report.ensures.report)

@@ -39,8 +39,8 @@ returns-then-end-version c = let a = c.args in short a.s.now a.at a.count (omega
 pub returns-then-end-next : goal.returns-then-end-next
 returns-then-end-next c = search short
 
-pub returns-then-u64_le-ne3244556288 : goal.returns-then-u64_le-ne3244556288
-returns-then-u64_le-ne3244556288 c = search version
+pub returns-then-le64-ne3244556288 : goal.returns-then-le64-ne3244556288
+returns-then-le64-ne3244556288 c = search version
 
 pub returns : goal.returns
 returns c = search whole

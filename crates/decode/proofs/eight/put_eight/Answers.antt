@@ -1,6 +1,7 @@
 -- `eight::put_eight` meets its contract. The loop's invariant: i bytes are written, each as a unit. Assumes nothing.
-use Rattle.std.proofs.Common.{◌≡◌, sym, ◌∙◌, ◌+◌, ◌*◌, ◌<◌, length, drop, get_or, arith, length-drop, get_or-drop}
-use Rattle.base.specs.OutputLaws.{wrote_none, wrote_as, wrote-rest, wrote-length, wrote_count}
+use Rattle.std.proofs.Common.{◌≡◌, sym, ◌∙◌, ◌<◌, length, drop, get_or, arith, length-drop, get_or-drop}
+use Rattle.base.specs.OutputLaws.{wrote_none, wrote_as, wrote-length}
+use Rattle.text.specs.UnitBytesLaws.{wrote-one}
 use Rattle.decode.proofs.EightLaws.{units-next}
 use Rattle.decode.proofs.eight.put_eight.Goals as goal
 
@@ -13,6 +14,5 @@ loop-i-preserved c =
     let l = c.loop-i in
     let there : l.i < length (drop a.at a.s.now) = simp length-drop (omega arith) in
     let byte : c.from.result ≡ get_or (drop a.at a.s.now) l.i 0 = c.from.ensures ∙ sym (get_or-drop a.at a.s.now l.i 0) in
-    let w = wrote_as (wrote-rest l.invariant.2 c.put_unit.ensures) (units-next (drop a.at a.s.now) l.i c.from.result there byte) in
-    let e : 2 * l.i + 2 ≡ 2 * (l.i + 1) = omega arith in
-    (omega arith, wrote-length w, wrote_count w e)
+    let w = wrote_as (wrote-one l.i c.from.result l.invariant.2 (omega arith) c.put_unit.ensures) (units-next (drop a.at a.s.now) l.i c.from.result there byte) in
+    (omega arith, wrote-length w, w)

@@ -1,6 +1,7 @@
 -- `run::put_run` meets its contract: each first byte makes the next one a first byte too. Assumes nothing.
 use Rattle.std.proofs.Common.{refl, ◌+◌, ◌*◌, arith}
-use Rattle.base.specs.OutputLaws.{wrote_as, wrote-rest}
+use Rattle.base.specs.OutputLaws.{wrote_none, wrote_as}
+use Rattle.text.specs.UnitBytesLaws.{wrote-one}
 use Rattle.decode.specs.Run.{four_units}
 use Rattle.decode.proofs.RunLaws.{four-leads, well-then}
 use Rattle.decode.proofs.run.put_run.Goals as goal
@@ -39,5 +40,7 @@ value_at-requires-4 g c =
 pub returns : goal.returns
 unfolding four_units
 returns g c =
-    let v = wrote-rest (wrote-rest (wrote-rest c.put_unit.ensures c.put_unit-2.ensures) c.put_unit-3.ensures) c.put_unit-4.ensures in
-    wrote_as v (rw (c.value_at.ensures.0, c.value_at-2.ensures.0, c.value_at-3.ensures.0, c.value_at-4.ensures.0, c.SIZE-size.ensures))
+    let a = wrote-one 0 _ (wrote_none c.args.out.now) (omega arith) c.put_unit.ensures in
+    let b = wrote-one 1 _ a (omega arith) c.put_unit-2.ensures in
+    let d = wrote-one 3 _ (wrote-one 2 _ b (omega arith) c.put_unit-3.ensures) (omega arith) c.put_unit-4.ensures in
+    wrote_as d (rw (c.value_at.ensures.0, c.value_at-2.ensures.0, c.value_at-3.ensures.0, c.value_at-4.ensures.0, c.SIZE-size.ensures))

@@ -7,10 +7,10 @@ use Rattle.header.proofs.check.check.Goals as goal
 pub check_tables-requires : goal.check_tables-requires
 check_tables-requires c =
     let front = c.if-n-lt17.false in
-    texts-begun c.args.s.now front c.size_at-2.result c.size_at-2.ensures.0 c.size_at-2.ensures.1
-    (omega (arith, c.if-n-size_at.false, c.size_at.ensures.0)) c.if-s-ne1.false (sym c.sized_texts.ensures ∙ c.in_ok-texts.was)
+    texts-begun c.args.s.now front c.be32_usize-2.result c.be32_usize-2.ensures.is c.be32_usize-2.ensures.fits
+    (omega (arith, c.if-n-be32_usize.false, c.be32_usize.ensures.is)) c.if-s-ne1.false (sym c.sized_texts.ensures ∙ c.in_ok-texts.was)
 
 pub returns-in_err-texts : goal.returns-in_err-texts
 returns-in_err-texts c =
     rw c.from_residual.ensures
-    (texts-bad c.args.s.now c.if-n-lt17.false c.size_at-2.result c.size_at-2.ensures.0 (sym c.sized_texts.ensures ∙ c.in_err-texts.was))
+    (texts-bad c.args.s.now c.if-n-lt17.false c.be32_usize-2.result c.be32_usize-2.ensures.is (sym c.sized_texts.ensures ∙ c.in_err-texts.was))

@@ -6,8 +6,8 @@ use Rattle.header.proofs.Slices.{exports-in}
 use Rattle.header.proofs.Stages.{exports-room, name_out, small, size-out, said-whole}
 use Rattle.header.proofs.check.check_whole.Goals as goal
 
-pub returns-then-p-size_at : goal.returns-then-p-size_at
-returns-then-p-size_at c = search name_out
+pub returns-then-p-be32_usize : goal.returns-then-p-be32_usize
+returns-then-p-be32_usize c = search name_out
 
 pub regions_of-g-requires : goal.regions_of-g-requires
 regions_of-g-requires c = search small
@@ -27,6 +27,6 @@ slice_bounds-exports-end c = exports-room c.args.s.now c.args.p c.requires
 pub returns : goal.returns
 returns c =
     rw c.then_some.ensures
-    (said-whole c.args.s.now c.args.p c.requires c.regions_of-g.result c.regions_of-g.ensures c.if-g-gt-LONGEST_HEADER.false c.size_at.result
-    c.size_at.ensures.0 c.if-p-size_at.false c.check_exports.result
+    (said-whole c.args.s.now c.args.p c.requires c.regions_of-g.result c.regions_of-g.ensures c.if-g-gt-LONGEST_HEADER.false c.be32_usize.result
+    c.be32_usize.ensures.is c.if-p-be32_usize.false c.check_exports.result
     (c.check_exports.ensures ∙ ap (named c.args.p.texts) (exports-in c.args.s.now c.args.p.exports c.args.p.entries (exports-room c.args.s.now c.args.p c.requires))))

@@ -23,7 +23,7 @@ text-is s at n e = rw (part-is s (at + 4), e)
 -- what the string's size says
 told : (c : After-put_string-p) → let p = c.put_string-p.result in Said (utf8_at c.args.s.now c.args.at) (string_units p.size p.latin) p.latin
 told c =
-    let e = text-is c.args.s.now c.args.at _ c.size_at-size.ensures.0 in
+    let e = text-is c.args.s.now c.args.at _ c.be32_usize-size.ensures.is in
     string_said (utf8_at c.args.s.now c.args.at) _ _ c.requires.2 (rw e at c.put_string-p.ensures.0.size) (rw e at c.put_string-p.ensures.1)
 
 pub head-requires : goal.head-requires
@@ -31,7 +31,7 @@ head-requires c = omega (arith, (told (goal.at.head-requires c).After-put_string
 
 pub returns : goal.returns
 returns c =
-    let e = text-is c.args.s.now c.args.at _ c.size_at-size.ensures.0 in
+    let e = text-is c.args.s.now c.args.at _ c.be32_usize-size.ensures.is in
     let w = rw e at c.put_string-p.ensures.0 in
     let t = text_at c.args.s.now c.args.at in
     let is : c.copy_from_slice.new.self ≡ head_bytes t =

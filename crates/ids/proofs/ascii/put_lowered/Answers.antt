@@ -8,8 +8,8 @@ use lib.Seq.{take_all}
 use Rattle.lower.specs.Ascii.{lower_ascii}
 use Rattle.base.specs.OutputLaws.{wrote_none, wrote-paste, wrote_as, wrote_count}
 use Rattle.text.specs.Units.{units_of}
-use Rattle.ids.proofs.AsciiUnits.{fours_ascii}
-use Rattle.ids.proofs.WideUnits.{mapped-length, bits-ascii}
+use Rattle.ids.proofs.AsciiUnits.{ascii_bits, fours_ascii}
+use Rattle.ids.proofs.WideUnits.{mapped-length}
 use Rattle.ids.proofs.ascii.put_lowered.Goals as goal
 
 pub returns-then-n-le8 : goal.returns-then-n-le8
@@ -24,11 +24,11 @@ returns-then-n-le8 c =
     let q = c.put_four.ensures in
     let v = wrote-paste vs 0 4 (wrote_none c.args.units.now) (omega arith) (omega arith) (omega arith) (omega arith) in
     let w = wrote-paste vs (n - 4) 4 v h (omega arith) (omega arith) (omega arith) in (
-      λ k. fours_ascii us n c.count-n.ensures (omega arith) (omega arith) (rw (p.0, q.0) at k),
+      rw (p.0, q.0) (fours_ascii us n c.count-n.ensures (omega arith) (omega arith)),
       rw (q.1, p.1) (wrote_count (wrote_as w (take_all (n - 4 + 4) vs (omega arith))) (omega arith)),
     )
 
 pub returns : goal.returns
 returns c =
     let p = c.put_all.ensures in
-    (λ k. (bits-ascii 0 (units_of true c.args.text.bytes.now) (rw p.0 at k)).1, p.1)
+    (rw p.0 (ascii_bits (units_of true c.args.text.bytes.now)), p.1)

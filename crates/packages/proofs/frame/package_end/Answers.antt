@@ -11,10 +11,10 @@ returns-then-left-lt12 c = ap nonzero (end_short c.args.c.now c.args.at (omega a
 
 pub returns-then-left-size : goal.returns-then-left-size
 returns-then-left-size c =
-    let n = c.size_at-size in
-    ap nonzero (end_long c.args.c.now c.args.at n.result n.ensures c.requires (omega arith) (omega arith))
+    let n = c.be32_usize-size in
+    ap nonzero (end_long c.args.c.now c.args.at n.result n.ensures.is c.requires (omega arith) (omega arith))
 
 pub returns : goal.returns
 returns c =
-    let n = c.size_at-size in
-    some-is _ (omega arith) ∙ ap nonzero (end_there c.args.c.now c.args.at n.result n.ensures c.requires (omega arith) (omega arith))
+    let n = c.be32_usize-size in
+    some-is _ (omega arith) ∙ ap nonzero (end_there c.args.c.now c.args.at n.result n.ensures.is c.requires (omega arith) (omega arith))

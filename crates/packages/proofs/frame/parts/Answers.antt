@@ -43,14 +43,14 @@ returns-then-n-end-lt4 c = search counted
 
 pub returns-then-eq : goal.returns-then-eq
 returns-then-eq c =
-    let n = c.size_at-size in
-    let k = c.size_at-count in
+    let n = c.be32_usize-size in
+    let k = c.be32_usize-count in
     let q = rw c.packages_end.ensures at (sym c.eq.ensures ∙ c.if-eq.true) in
-    whole _ _ n.ensures (omega arith) (omega arith) (omega arith) _ k.ensures (same-number _ _ q)
+    whole _ _ n.ensures.is (omega arith) (omega arith) (omega arith) _ k.ensures.is (same-number _ _ q)
 
 pub returns : goal.returns
 returns c =
-    let n = c.size_at-size in
-    let k = c.size_at-count in
+    let n = c.be32_usize-size in
+    let k = c.be32_usize-count in
     let q = rw c.packages_end.ensures at (sym c.eq.ensures ∙ c.if-eq.false) in
-    broken _ _ n.ensures (omega arith) (omega arith) (omega arith) _ k.ensures (other-number _ _ q (omega arith))
+    broken _ _ n.ensures.is (omega arith) (omega arith) (omega arith) _ k.ensures.is (other-number _ _ q (omega arith))

@@ -25,8 +25,8 @@ module _ (s : List ℕ) (first : ℕ) (e : first ≡ be_at 4 s 0) (h : 5 ≤ len
 pub returns-then-n-lt5 : goal.returns-then-n-lt5
 returns-then-n-lt5 c = search frame-short
 
-pub returns-then-n-size_at : goal.returns-then-n-size_at
-returns-then-n-size_at c = search wrong
+pub returns-then-n-be32_usize : goal.returns-then-n-be32_usize
+returns-then-n-be32_usize c = search wrong
 
 pub returns-then-c-ne1 : goal.returns-then-c-ne1
 returns-then-c-ne1 c = search version

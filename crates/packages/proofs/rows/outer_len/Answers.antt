@@ -1,5 +1,5 @@
 -- `packages::rows::outer_len` meets its contract. Assumes nothing.
 use Rattle.packages.proofs.rows.outer_len.Goals as goal
 
-pub place_len-requires : goal.place_len-requires
-place_len-requires c = c.requires.outer _ c.in-Some.is
+pub map_or-requires : goal.map_or-requires
+map_or-requires c = λ x q _ _ _ _ _ _. c.requires.outer x q

@@ -1,9 +1,8 @@
 -- `report::call::finish` meets its contract. Assumes nothing.
 use native.Mathlib.Omega.{arith}
-use mathlib.Core.Path.{refl}
 use Rattle.resolve.specs.MarkLaws.{marks_then}
 use Rattle.resolve.specs.Marks.{MarksKept}
-use Rattle.walk.specs.OpenLaws.{begun-sites, begun-few}
+use Rattle.walk.specs.OpenLaws.{begun-few}
 use Rattle.report.proofs.Finished.{gathered-classes, gathered-kept, gathered-linked, gathered-marks, Summed, finish-beyond, finish-outside, finish_roomy, finish-room, finish-report}
 use Rattle.report.proofs.call.finish.Goals.{After-resolve_all, then-size-gt-MOST-via-then-size-gt-MOST, then-size-gt-MOST-via-else-size-gt-MOST+then-report-size}
 use Rattle.report.proofs.call.finish.Goals as goal
@@ -38,8 +37,8 @@ pub returns-then-size-gt-MOST : goal.returns-then-size-gt-MOST
 returns-then-size-gt-MOST c =
     let z = summed (goal.at.returns-then-size-gt-MOST c).After-resolve_all in
     elim c.then-size-gt-MOST.branch [
-      | then-size-gt-MOST-via-then-size-gt-MOST w ↦ finish-beyond z w.if-size-gt-MOST.true refl
-      | then-size-gt-MOST-via-else-size-gt-MOST+then-report-size w ↦ finish-outside z w.if-report-size.true refl
+      | then-size-gt-MOST-via-then-size-gt-MOST w ↦ finish-beyond z w.if-size-gt-MOST.true (rw (c.at.ensures.0, c.at.ensures.1))
+      | then-size-gt-MOST-via-else-size-gt-MOST+then-report-size w ↦ finish-outside z w.if-report-size.true (rw (c.at.ensures.0, c.at.ensures.1))
     ]
 
 pub pool_texts-requires : goal.pool_texts-requires
@@ -50,13 +49,13 @@ pub put_report-requires : goal.put_report-requires
 put_report-requires c =
     let z = summed (goal.at.put_report-requires c).After-resolve_all in
     let kept = marks_then (marked (goal.at.put_report-requires c).After-resolve_all) c.pool_texts.ensures.marks in
-    rw c.packages.ensures (record {
-      sites = (begun-sites z.begun, z.packages, omega (arith, (begun-few z.begun).0));
+    rw (c.packages.ensures.0, c.packages.ensures.1, c.packages.ensures.2) (record {
+      read = (z.packages, omega (arith, (begun-few c.args.c.now.begun).0));
       report_room = finish-room z c.pool_texts.ensures.is _ c.if-size-gt-MOST.false c.if-report-size.false;
       marks_in = gathered-marks z.gathered kept;
     })
 
 pub returns : goal.returns
 returns c =
-    let put = rw c.packages.ensures at c.put_report.ensures in
+    let put = rw (c.packages.ensures.0, c.packages.ensures.1, c.packages.ensures.2) at c.put_report.ensures in
     finish-report (summed (goal.at.returns c).After-resolve_all) c.pool_texts.ensures.is c.if-size-gt-MOST.false c.if-report-size.false put

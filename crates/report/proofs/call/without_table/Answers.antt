@@ -10,7 +10,7 @@ use Rattle.scriptblock.specs.ScriptAnswers.{script_answer}
 use Rattle.scriptblock.proofs.ScriptFacts.{script-facts}
 use Rattle.scan.specs.BlockLaws.{blocks-refused}
 use Rattle.resolve.specs.Rows.{limits_of}
-use Rattle.walk.specs.OpenLaws.{begun-sites, begun-few, opened-script, opened_package}
+use Rattle.walk.specs.OpenLaws.{begun-few, opened-script, opened_package}
 use Rattle.report.specs.CallLaws.{work-few, refused-opened}
 use Rattle.report.proofs.call.without_table.Goals.{In_err-block, In_ok-block}
 use Rattle.report.proofs.call.without_table.Goals as goal
@@ -34,20 +34,20 @@ returns-in_err-block c = λ l lookups work room q h.
     rw (p.1, p.2) (refused-opened opens (rw b))
 
 pub check_packages-requires : goal.check_packages-requires
-check_packages-requires c = let b = c.args.c.now.begun in rw c.packages.ensures (begun-sites b, (begun-few b).0)
+check_packages-requires c = rw c.packages.ensures.2 (begun-few c.args.c.now.begun).0
 
 pub returns-in_err-check_packages : goal.returns-in_err-check_packages
 returns-in_err-check_packages c = λ l lookups work room q h.
     let r = c.from_residual-in_err-check_packages in
     let p = err_from_is_err_and r.result r.ensures.1 in
     let (o, x) = script-facts _ _ (script-at (goal.at.returns-in_err-check_packages c).In_ok-block) in
-    let e = rw c.packages.ensures at c.in_err-check_packages.ensures.is in
+    let e = rw (c.packages.ensures.0, c.packages.ensures.1, c.packages.ensures.2) at c.in_err-check_packages.ensures.is in
     let opens = opened_package (limits_of lookups c.args.limit) _ c.args.c.now.begun x.is (blocks-refused _ (sym e)) in
     rw (p.1, p.2) (refused-opened opens refl)
 
 pub refuse_short-requires : goal.refuse_short-requires
 refuse_short-requires c =
-    let a = rw c.packages.ensures at c.in_ok-check_packages.ensures.all in
+    let a = rw (c.packages.ensures.0, c.packages.ensures.1, c.packages.ensures.2) at c.in_ok-check_packages.ensures.all in
     (a, ap (λ x. x.now) (script-is (goal.at.refuse_short-requires c).In_ok-block))
 
 pub returns : goal.returns

@@ -43,7 +43,7 @@ pub loop-i-init : goal.loop-i-init
 loop-i-init c = (sym (place_none _ _), search rules, all_none)
 
 pub block_at-requires : goal.block_at-requires
-block_at-requires c = site-here c.requires.0 c.loop-i.invariant.0 (search rules)
+block_at-requires c = site-here c.args.p.now.sites c.loop-i.invariant.0 (search rules)
 
 pub returns-in_err-map_err-clause-is : goal.returns-in_err-map_err-clause-is
 returns-in_err-map_err-clause-is c =
@@ -53,7 +53,7 @@ returns-in_err-map_err-clause-is c =
     rw (p.1, p.2, b) (stopped _ _ l.i _ l.invariant.0 l.invariant.2 _ c.block_at.ensures _ refl _ e _ (search rules))
 
 pub next_at-here-requires : goal.next_at-here-requires
-next_at-here-requires c = site-here c.requires.0 c.loop-i.invariant.0 (search rules)
+next_at-here-requires c = site-here c.args.p.now.sites c.loop-i.invariant.0 (search rules)
 
 pub loop-i-preserved : goal.loop-i-preserved
 loop-i-preserved c =
@@ -66,5 +66,5 @@ loop-i-preserved c =
 pub returns : goal.returns
 returns c =
     let l = c.loop-i in
-    let a = all-less c.args.count (search rules) l.invariant.2 in
+    let a = all-less c.args.p.now.count (search rules) l.invariant.2 in
     record { is = blocks-all _ _ _ a; all = a }

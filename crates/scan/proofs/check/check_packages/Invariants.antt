@@ -5,4 +5,4 @@ use Rattle.packages.specs.Walk.{place_of, AllRead}
 use Rattle.scan.proofs.check.check_packages.Given as goal
 
 abbrev pub invariant-loop-i : goal.invariant-loop-i
-invariant-loop-i l = (l.here ≡ place_of l.c l.at l.i) × (l.i ≤ l.count) × AllRead l.c l.at l.i
+invariant-loop-i l = (l.here ≡ place_of l.p.corpus.now l.p.at l.i) × (l.i ≤ l.p.count) × AllRead l.p.corpus.now l.p.at l.i

@@ -10,4 +10,4 @@ use Rattle.scan.proofs.repeats.is_before.Given as goal
 
 abbrev pub invariant-loop : goal.invariant-loop
 invariant-loop l =
-    (l.here ≡ place_of l.c l.at l.counter) × (l.counter ≤ l.n) × ((o : Objects) → run script 0 l.s.block.bytes.now ≡ gives o → is_before l.s.limit o l.c l.at l.counter l.id l.hash ≡ false)
+    (l.here ≡ place_of l.p.corpus.now l.p.at l.counter) × (l.counter ≤ l.n) × ((o : Objects) → run script 0 l.s.block.bytes.now ≡ gives o → is_before l.s.limit o l.p.corpus.now l.p.at l.counter l.id l.hash ≡ false)

@@ -6,7 +6,7 @@ use borrow.Author.Rules.{rules}
 use Rattle.base.specs.OneMore.{nonzero}
 use Rattle.base.proofs.Nonzero.{some-is}
 use Rattle.packages.specs.WalkLaws.{place_none, all-less}
-use Rattle.scan.specs.PlaceLaws.{next_here, sites-less, site-here}
+use Rattle.scan.specs.PlaceLaws.{next_here, site-here}
 use Rattle.scan.specs.RepeatLaws.{below_none, below_more, below_end, repeat_none, repeat_first}
 use Rattle.scan.proofs.repeats.repeat_block.Goals as goal
 
@@ -15,8 +15,7 @@ loop-i-init c = (sym (place_none _ _), search rules, λ o q. below_none _)
 
 pub repeats_in-requires : goal.repeats_in-requires
 repeats_in-requires c =
-    let p = c.requires in
-    (sites-less p.0 _ (omega arith), all-less _ (omega arith) p.1, c.loop-i.invariant.0)
+    (omega arith, all-less _ (omega arith) c.requires.0, c.loop-i.invariant.0)
 
 pub returns-then-repeats_in : goal.returns-then-repeats_in
 returns-then-repeats_in c = λ o q.
@@ -24,7 +23,7 @@ returns-then-repeats_in c = λ o q.
     some-is (l.i + 2) (omega arith) ∙ ap nonzero (repeat_first _ o _ _ l.i _ (search rules) (l.invariant.2 o q) (sym (c.repeats_in.ensures o q) ∙ c.if-repeats_in.true))
 
 pub next_at-here-requires : goal.next_at-here-requires
-next_at-here-requires c = site-here c.requires.0 c.loop-i.invariant.0 (search rules)
+next_at-here-requires c = site-here c.args.p.now.sites c.loop-i.invariant.0 (search rules)
 
 pub loop-i-preserved : goal.loop-i-preserved
 loop-i-preserved c =

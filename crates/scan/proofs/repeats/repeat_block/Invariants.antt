@@ -10,4 +10,4 @@ use Rattle.scan.proofs.repeats.repeat_block.Given as goal
 
 abbrev pub invariant-loop-i : goal.invariant-loop-i
 invariant-loop-i l =
-    (l.here ≡ place_of l.c l.at l.i) × (l.i ≤ l.count) × ((o : Objects) → run script 0 l.s.block.bytes.now ≡ gives o → below l.i (repeats_in l.s.limit o l.c l.at) ≡ false)
+    (l.here ≡ place_of l.p.corpus.now l.p.at l.i) × (l.i ≤ l.p.count) × ((o : Objects) → run script 0 l.s.block.bytes.now ≡ gives o → below l.i (repeats_in l.s.limit o l.p.corpus.now l.p.at) ≡ false)

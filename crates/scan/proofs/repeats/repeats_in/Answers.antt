@@ -22,23 +22,23 @@ unfolding repeats_in
 whole limit o c at i here id b p h e q k = rw (export_count_lem k, q, e, h)
 
 pub id_at-id-requires : goal.id_at-id-requires
-id_at-id-requires c = let p = c.requires in (site-here p.0 p.2 (omega arith)).0
+id_at-id-requires c = let r = c.requires in (site-here c.args.p.now.sites r.2 r.0).0
 
 pub block_at-requires : goal.block_at-requires
-block_at-requires c = let p = c.requires in site-here p.0 p.2 (omega arith)
+block_at-requires c = let r = c.requires in site-here c.args.p.now.sites r.2 r.0
 
 pub of-b-requires : goal.of-b-requires
 of-b-requires c =
-    let p = c.requires in
-    rw c.block_at.ensures (read_here p.0 p.2 (omega arith) p.1).is
+    let r = c.requires in
+    rw c.block_at.ensures (read_here (sites-less c.args.p.now.sites _ (omega arith)) r.2 (omega arith) r.1).is
 
 pub loop-j-init : goal.loop-j-init
 loop-j-init c = (search rules, λ o q. below_none _)
 
 pub is_repeat-requires : goal.is_repeat-requires
 is_repeat-requires c =
-    let p = c.requires in
-    record { sites = (sites-less p.0 _ (omega arith), all-less _ (omega arith) p.1); number = search rules }
+    let r = c.requires in
+    record { read = (omega arith, all-less _ (omega arith) r.1); number = search rules }
 
 pub returns-then-is_repeat : goal.returns-then-is_repeat
 returns-then-is_repeat c = λ o q.

@@ -10,4 +10,4 @@ use Rattle.scan.proofs.repeats.repeats_in.Given as goal
 
 abbrev pub invariant-loop-j : goal.invariant-loop-j
 invariant-loop-j l =
-    (l.j ≤ l.b.parts.count) × ((o : Objects) → run script 0 l.s.block.bytes.now ≡ gives o → below l.j (is_repeat l.s.limit o l.c l.at l.i (read_in l.b.bytes.now).exports l.id) ≡ false)
+    (l.j ≤ l.b.parts.count) × ((o : Objects) → run script 0 l.s.block.bytes.now ≡ gives o → below l.j (is_repeat l.s.limit o l.p.corpus.now l.p.at l.i (read_in l.b.bytes.now).exports l.id) ≡ false)

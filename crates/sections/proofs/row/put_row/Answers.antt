@@ -57,7 +57,7 @@ put_front-requires c =
 pub returns : goal.returns
 returns c = λ o xs lookups id i inside kind is target room.
     let a = c.args in
-    let d : RowDue a.src.now.corpus.now a.src.now.script.now a.src.now.objects a.src.now.limit a.src.now.work.now a.p.now.block.bytes.now a.p.now.block.parts a.v.now a.l o xs lookups id i = record { inside = inside; kind_is = kind; row_is = is; target = target } in
+    let d : RowDue a.src.now.packages.corpus.now a.src.now.script.now a.src.now.objects a.src.now.limit a.src.now.work.now a.p.now.block.bytes.now a.p.now.block.parts a.v.now a.l o xs lookups id i = record { inside = inside; kind_is = kind; row_is = is; target = target } in
     let f = texts_fit_lem a.src.now.limit xs o lookups id a.p.now.block.bytes.now i a.out.now room in
     row_wrote c.args.p.now.block.accepted d a.out.now c.kind_of-kind.ensures f.0 (c.put_texts-t.ensures o xs lookups id i d f.1) c.put_front.ensures
 
@@ -65,7 +65,7 @@ pub overflow_add-result : goal.overflow_add-result
 overflow_add-result c =
     let r = c.requires in
     let a = c.args in
-    let d : RowDue a.src.now.corpus.now a.src.now.script.now a.src.now.objects a.src.now.limit a.src.now.work.now a.p.now.block.bytes.now a.p.now.block.parts a.v.now a.l r.read r.classes r.lookups r.id r.number =
+    let d : RowDue a.src.now.packages.corpus.now a.src.now.script.now a.src.now.objects a.src.now.limit a.src.now.work.now a.p.now.block.bytes.now a.p.now.block.parts a.v.now a.l r.read r.classes r.lookups r.id r.number =
     record { inside = r.inside; kind_is = r.kind_is; row_is = r.row_is; target = r.target } in
     let f = texts_fit_lem a.src.now.limit r.classes r.read r.lookups r.id a.p.now.block.bytes.now r.number a.out.now r.room in
     let w = row_wrote c.args.p.now.block.accepted d a.out.now c.kind_of-kind.ensures f.0 (c.put_texts-t.ensures r.read r.classes r.lookups r.id r.number d f.1) c.put_front.ensures in

@@ -117,8 +117,8 @@ overflow_sub-mark c = (found (goal.at.overflow_sub-mark c).Else-end-mark).low
 at-row : (c : Else-end-mark) → c.loop-r.r - c.args.first < length (candidates (read_in c.args.p.now.block.bytes.now))
 at-row c = left (c.loop-r.r - c.args.first) (behind c.args.first c.loop-r.r c.loop-r.auto.r) c.args.p.now.block.accepted c.requires.rows_marked.0 (rw c.rest.ensures at c.mark_at-mark.ensures.0) c.if-end-mark.false c.loop-r-test.true
 
-lent : (c : Else-end-mark) (id : ℕ) (h : How) → EachRoom c.args.src.now.corpus.now c.args.src.now.script.now c.args.src.now.objects c.args.src.now.work.now c.args.src.now.limit c.args.first id c.args.p.now.block.bytes.now c.args.out.now h
-    → ExportRoom c.args.src.now.corpus.now c.args.src.now.script.now c.args.src.now.objects c.args.src.now.work.now c.args.src.now.limit c.loop-r.r id c.args.p.now.block.bytes.now
+lent : (c : Else-end-mark) (id : ℕ) (h : How) → EachRoom c.args.src.now.packages.corpus.now c.args.src.now.script.now c.args.src.now.objects c.args.src.now.work.now c.args.src.now.limit c.args.first id c.args.p.now.block.bytes.now c.args.out.now h
+    → ExportRoom c.args.src.now.packages.corpus.now c.args.src.now.script.now c.args.src.now.objects c.args.src.now.work.now c.args.src.now.limit c.loop-r.r id c.args.p.now.block.bytes.now
     (c.mark_at-mark.result / 4 - c.args.step) (take (length c.loop-r.out - c.loop-r.size) (drop c.loop-r.size c.loop-r.out)) h
 lent c id h a =
     let l = c.loop-r in
@@ -163,6 +163,6 @@ returns c = λ id h a.
     let l = c.loop-r in
     let b = c.args.p.now.block.bytes.now in
     let i = rows_inside c.requires.rows_marked.0 in
-    let k : l.r ≡ c.args.all = omega (arith, c.loop-r-test.false) in
+    let k : l.r ≡ c.args.src.now.rows = omega (arith, c.loop-r-test.false) in
     let e : l.r - c.args.first ≡ length (candidates (read_in b)) = omega (arith, l.invariant.0) in
     rw (← k) (filled-all (export_refs (package_in id b)) (export_row c.args.src.now.limit h (package_in id b)) (candidates (read_in b)) (l.r - c.args.first) e (l.invariant.1 id h a))

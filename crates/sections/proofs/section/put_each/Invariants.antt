@@ -16,5 +16,5 @@ Upto objects id b h k old new z =
 abbrev pub invariant-loop-r : goal.invariant-loop-r
 invariant-loop-r l =
     (l.r - l.first ≤ length (candidates (read_in l.p.block.bytes.now)))
-    × ((id : ℕ) (h : How) → EachRoom l.src.corpus.now l.src.script.now l.src.objects l.src.work.now l.src.limit l.first id l.p.block.bytes.now l.initial.out h
+    × ((id : ℕ) (h : How) → EachRoom l.src.packages.corpus.now l.src.script.now l.src.objects l.src.work.now l.src.limit l.first id l.p.block.bytes.now l.initial.out h
     → Upto l.src.limit id l.p.block.bytes.now h (l.r - l.first) l.initial.out l.out (record { size = l.size; rows = l.r - l.first }))

@@ -70,25 +70,25 @@ short : (c : After-put_sections-size) → c.put_sections-size.result + 5 < 2 ^ 3
 short c =
     let a = c.args in
     let r = c.requires.report_room in
-    let h = how a.src.now.corpus.now a.at a.count r.lookups a.src.now.limit r.read in
-    let v = c.put_sections-size.ensures h (room a.src.now.corpus.now a.at a.count r.lookups a.src.now.limit r.read a.out.now r.ready r.room) in
-    omega (arith, v.size, r.small, size a.src.now.corpus.now a.at a.count r.lookups a.src.now.limit r.read)
+    let h = how a.src.now.packages.corpus.now a.src.now.packages.at a.src.now.packages.count r.lookups a.src.now.limit r.read in
+    let v = c.put_sections-size.ensures h (room a.src.now.packages.corpus.now a.src.now.packages.at a.src.now.packages.count r.lookups a.src.now.limit r.read a.out.now r.ready r.room) in
+    omega (arith, v.size, r.small, size a.src.now.packages.corpus.now a.src.now.packages.at a.src.now.packages.count r.lookups a.src.now.limit r.read)
 
 pub slice_bounds-put_sections-count : goal.slice_bounds-put_sections-count
-slice_bounds-put_sections-count c = omega (arith, c.requires.report_room.room, size c.args.src.now.corpus.now c.args.at c.args.count c.requires.report_room.lookups c.args.src.now.limit c.requires.report_room.read)
+slice_bounds-put_sections-count c = omega (arith, c.requires.report_room.room, size c.args.src.now.packages.corpus.now c.args.src.now.packages.at c.args.src.now.packages.count c.requires.report_room.lookups c.args.src.now.limit c.requires.report_room.read)
 
 pub slice_bounds-put_sections-start : goal.slice_bounds-put_sections-start
-slice_bounds-put_sections-start c = omega (arith, c.requires.report_room.room, size c.args.src.now.corpus.now c.args.at c.args.count c.requires.report_room.lookups c.args.src.now.limit c.requires.report_room.read)
+slice_bounds-put_sections-start c = omega (arith, c.requires.report_room.room, size c.args.src.now.packages.corpus.now c.args.src.now.packages.at c.args.src.now.packages.count c.requires.report_room.lookups c.args.src.now.limit c.requires.report_room.read)
 
 pub put_sections-size-requires : goal.put_sections-size-requires
 put_sections-size-requires c =
     let a = c.args in
     let r = c.requires.report_room in
     record {
-      sites = (c.requires.sites.0, c.requires.sites.1);
+      read = c.requires.read.0;
       sections_room = (
-        how a.src.now.corpus.now a.at a.count r.lookups a.src.now.limit r.read,
-        room a.src.now.corpus.now a.at a.count r.lookups a.src.now.limit r.read a.out.now r.ready r.room,
+        how a.src.now.packages.corpus.now a.src.now.packages.at a.src.now.packages.count r.lookups a.src.now.limit r.read,
+        room a.src.now.packages.corpus.now a.src.now.packages.at a.src.now.packages.count r.lookups a.src.now.limit r.read a.out.now r.ready r.room,
       );
       marks_in = c.requires.marks_in;
     }
@@ -102,7 +102,7 @@ overflow_cast-size c = omega (arith, short (goal.at.overflow_cast-size c).After-
 pub put_front-requires : goal.put_front-requires
 put_front-requires c =
     let out = c.args.out.now in
-    rw (length-append (take 9 out), length-take-le 9 out (omega (arith, c.requires.report_room.room, size c.args.src.now.corpus.now c.args.at c.args.count c.requires.report_room.lookups c.args.src.now.limit c.requires.report_room.read))) (omega arith)
+    rw (length-append (take 9 out), length-take-le 9 out (omega (arith, c.requires.report_room.room, size c.args.src.now.packages.corpus.now c.args.src.now.packages.at c.args.src.now.packages.count c.requires.report_room.lookups c.args.src.now.limit c.requires.report_room.read))) (omega arith)
 
 pub overflow_add-result : goal.overflow_add-result
 overflow_add-result c = omega (arith, short (goal.at.overflow_add-result c).After-put_sections-size)
@@ -110,6 +110,6 @@ overflow_add-result c = omega (arith, short (goal.at.overflow_add-result c).Afte
 pub returns : goal.returns
 returns c = λ o lookups t fits.
     let a = c.args in
-    done a.src.now.corpus.now a.at a.count lookups a.src.now.limit o a.out.now t fits
-    (c.put_sections-size.ensures (how a.src.now.corpus.now a.at a.count lookups a.src.now.limit o) (room a.src.now.corpus.now a.at a.count lookups a.src.now.limit o a.out.now t fits))
+    done a.src.now.packages.corpus.now a.src.now.packages.at a.src.now.packages.count lookups a.src.now.limit o a.out.now t fits
+    (c.put_sections-size.ensures (how a.src.now.packages.corpus.now a.src.now.packages.at a.src.now.packages.count lookups a.src.now.limit o) (room a.src.now.packages.corpus.now a.src.now.packages.at a.src.now.packages.count lookups a.src.now.limit o a.out.now t fits))
     c.put_front.ensures

@@ -40,7 +40,7 @@ module _ (objects id : ℕ) (b : List ℕ) {c s : List ℕ} {n : ℕ} {w : List 
         let f = wrote-front {s = out} y.wrote (omega (arith, size)) (wrote_count x e) in
         record { wrote = wrote_count (wrote_as f (rw counted)) (omega arith); rows = counted ∙ sym (refs-count (package_in id b)) }
 
-done : (c : After-put_be32-k) → (id : ℕ) (h : How) → RowsRoom c.args.src.now.corpus.now c.args.src.now.script.now c.args.src.now.objects c.args.src.now.work.now c.args.src.now.limit c.args.first id c.args.p.now.block.bytes.now c.args.out.now h
+done : (c : After-put_be32-k) → (id : ℕ) (h : How) → RowsRoom c.args.src.now.packages.corpus.now c.args.src.now.script.now c.args.src.now.objects c.args.src.now.work.now c.args.src.now.limit c.args.first id c.args.p.now.block.bytes.now c.args.out.now h
     → RowsFilled c.args.src.now.limit id c.args.p.now.block.bytes.now h c.args.out.now c.put_be32-k.new.out
     (behind_of c.put_be32-k.result c.put_each-z.result)
 done c id h a =

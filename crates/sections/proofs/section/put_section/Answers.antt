@@ -59,35 +59,35 @@ module _ (c : List ℕ) (objects at id : ℕ) (d : List ℕ) (e : d ≡ block_at
   filled-here y = rw (e, f) at y
 
 here : (c : After-of-b) → let u = c.args in
-    Here u.src.now.corpus.now u.at c.of-b.result.bytes.now c.of-b.result.parts
+    Here u.src.now.packages.corpus.now u.at c.of-b.result.bytes.now c.of-b.result.parts
 here c =
     let t = c.requires.site.0 in
     let b = c.of-b.result in
     let e = ap (λ x. x.now) c.of-b.ensures ∙ c.block_at.ensures in
-    let site : Site c.args.src.now.corpus.now c.args.at b.bytes.now = record { starts = t.starts; stops = t.stops; small = t.small; is = e } in
+    let site : Site c.args.src.now.packages.corpus.now c.args.at b.bytes.now = record { starts = t.starts; stops = t.stops; small = t.small; is = e } in
     record { block = e; read = b.accepted; bytes = b.fits; small = step_small site b.accepted }
 
 -- the section's room as the head's and the rows'
 room : (c : After-id_at)
     → let u = c.args in
-    (h : How) → SectionRoom u.src.now.corpus.now u.src.now.script.now u.src.now.objects u.src.now.work.now u.src.now.limit u.first u.at u.out.now h
-    → Room u.src.now.corpus.now u.src.now.script.now u.src.now.objects u.src.now.work.now u.src.now.limit u.first (refs_of (package_in c.id_at.result c.of-b.result.bytes.now))
+    (h : How) → SectionRoom u.src.now.packages.corpus.now u.src.now.script.now u.src.now.objects u.src.now.work.now u.src.now.limit u.first u.at u.out.now h
+    → Room u.src.now.packages.corpus.now u.src.now.script.now u.src.now.objects u.src.now.work.now u.src.now.limit u.first (refs_of (package_in c.id_at.result c.of-b.result.bytes.now))
     (section_of u.src.now.limit h (package_in c.id_at.result c.of-b.result.bytes.now)) u.out.now h
 room c h a =
     let u = c.args in
-    room-here u.src.now.corpus.now u.src.now.limit u.at c.id_at.result c.of-b.result.bytes.now (ap (λ x. x.now) c.of-b.ensures ∙ c.block_at.ensures) c.id_at.ensures h a
+    room-here u.src.now.packages.corpus.now u.src.now.limit u.at c.id_at.result c.of-b.result.bytes.now (ap (λ x. x.now) c.of-b.ensures ∙ c.block_at.ensures) c.id_at.ensures h a
 
 done : (c : After-put_rows-z)
     → let u = c.args in
-    (h : How) → SectionRoom u.src.now.corpus.now u.src.now.script.now u.src.now.objects u.src.now.work.now u.src.now.limit u.first u.at u.out.now h
-    → SectionFilled u.src.now.corpus.now u.src.now.limit u.at h u.out.now
+    (h : How) → SectionRoom u.src.now.packages.corpus.now u.src.now.script.now u.src.now.objects u.src.now.work.now u.src.now.limit u.first u.at u.out.now h
+    → SectionFilled u.src.now.packages.corpus.now u.src.now.limit u.at h u.out.now
     (take c.put_head-k.result c.put_head-k.new.out ++ (c.put_rows-z.new.out ++ drop (length c.put_head-k.new.out - c.put_head-k.result) (drop c.put_head-k.result c.put_head-k.new.out)))
     (behind_of c.put_head-k.result c.put_rows-z.result)
 done c h a =
     let u = c.args in
     let d = package_in c.id_at.result c.of-b.result.bytes.now in
-    let r = room-here u.src.now.corpus.now u.src.now.limit u.at c.id_at.result c.of-b.result.bytes.now (ap (λ x. x.now) c.of-b.ensures ∙ c.block_at.ensures) c.id_at.ensures h a in
-    filled-here u.src.now.corpus.now u.src.now.limit u.at c.id_at.result c.of-b.result.bytes.now (ap (λ x. x.now) c.of-b.ensures ∙ c.block_at.ensures) c.id_at.ensures h
+    let r = room-here u.src.now.packages.corpus.now u.src.now.limit u.at c.id_at.result c.of-b.result.bytes.now (ap (λ x. x.now) c.of-b.ensures ∙ c.block_at.ensures) c.id_at.ensures h a in
+    filled-here u.src.now.packages.corpus.now u.src.now.limit u.at c.id_at.result c.of-b.result.bytes.now (ap (λ x. x.now) c.of-b.ensures ∙ c.block_at.ensures) c.id_at.ensures h
     (filled u.src.now.limit d r (rw c.noted-p.ensures at c.put_head-k.ensures) ((rw c.noted-p.ensures at c.put_rows-z.ensures) c.id_at.result h (rows-room u.src.now.limit d r (rw c.noted-p.ensures at c.put_head-k.ensures))))
 
 pub of-b-requires : goal.of-b-requires
@@ -111,7 +111,7 @@ put_rows-z-requires c =
       few = k.small.count;
       by_index = (c.id_at.result, h, rows-room c.args.src.now.limit (package_in c.id_at.result c.of-b.result.bytes.now) (room (goal.at.put_rows-z-requires c).After-id_at h a) (rw c.noted-p.ensures at c.put_head-k.ensures));
       rows_marked = (
-        marked-here c.args.src.now.corpus.now c.args.at k.block (e ∙ step-first c.args.src.now.corpus.now c.args.at k.block k.read) c.requires.rows_marked,
+        marked-here c.args.src.now.packages.corpus.now c.args.at k.block (e ∙ step-first c.args.src.now.packages.corpus.now c.args.at k.block k.read) c.requires.rows_marked,
         omega (arith, e, k.small.step),
       );
     })

@@ -65,7 +65,7 @@ summed c =
 pub loop-init : goal.loop-init
 loop-init c =
     let z = c.args in
-    record { place = sym (place_none z.src.now.corpus.now z.from); marks = sym (marks-first z.src.now.corpus.now z.from); filled = λ h a. filled_none z.out.now }
+    record { place = sym (place_none z.src.now.packages.corpus.now z.src.now.packages.at); marks = sym (marks-first z.src.now.packages.corpus.now z.src.now.packages.at); filled = λ h a. filled_none z.out.now }
 
 pub slice_bounds-put_section-count : goal.slice_bounds-put_section-count
 slice_bounds-put_section-count c = (holds-size (goal.at.slice_bounds-put_section-count c).At-loop).0
@@ -80,11 +80,11 @@ put_section-z-requires c =
     let (h, a) = c.requires.sections_room in
     record {
       site = (
-        rw t.place (c.requires.sites.0.site l.counter c.loop-test.true),
-        rw t.place (c.requires.sites.1.read l.counter c.loop-test.true),
+        rw t.place (c.args.src.now.packages.sites.site l.counter c.loop-test.true),
+        rw t.place (c.requires.read.read l.counter c.loop-test.true),
       );
       section_room = (h, room t c.loop-test.true h a);
-      rows_marked = rw t.place (rows-marked c.args.src.now.objects c.args.src.now.work.now c.requires.sites.0 c.requires.sites.1 c.requires.marks_in.0 c.requires.marks_in.1 l.counter c.loop-test.true t.marks);
+      rows_marked = rw t.place (rows-marked c.args.src.now.objects c.args.src.now.work.now c.args.src.now.packages.sites c.requires.read c.requires.marks_in.0 c.requires.marks_in.1 l.counter c.loop-test.true t.marks);
     }
 
 pub overflow_add-size : goal.overflow_add-size
@@ -102,7 +102,7 @@ loop-preserved c =
     let t = l.invariant in
     let (h, a) = c.requires.sections_room in
     record {
-      place = c.next_at-at.ensures ∙ rw t.place (sym (place-next u.src.now.corpus.now u.from l.counter));
+      place = c.next_at-at.ensures ∙ rw t.place (sym (place-next u.src.now.packages.corpus.now u.src.now.packages.at l.counter));
       marks = marked t c.loop-test.true h a (c.put_section-z.ensures.is h (room t c.loop-test.true h a));
       filled = λ h a. more t c.loop-test.true h a (c.put_section-z.ensures.is h (room t c.loop-test.true h a));
     }
@@ -114,6 +114,6 @@ pub returns : goal.returns
 returns c = λ h a.
     let l = c.loop in
     let u = c.args in
-    let ps = packages_at u.src.now.corpus.now u.from u.count in
-    let e : l.counter ≡ length ps = omega (arith, c.loop-test.false, packages-length u.src.now.corpus.now u.from u.count) in
+    let ps = packages_at u.src.now.packages.corpus.now u.src.now.packages.at u.src.now.packages.count in
+    let e : l.counter ≡ length ps = omega (arith, c.loop-test.false, packages-length u.src.now.packages.corpus.now u.src.now.packages.at u.src.now.packages.count) in
     (filled-all refs_of (section_of u.src.now.limit h) ps l.counter e (l.invariant.filled h a)).wrote

@@ -21,4 +21,5 @@ pub record Sofar (c s : List ℕ) (n : ℕ) (w : List ℕ) (objects from count :
 
 abbrev pub invariant-loop : goal.invariant-loop
 invariant-loop l =
-    Sofar l.src.corpus.now l.src.script.now l.src.objects l.src.work.now l.src.limit l.from l.count l.initial.out l.counter l.at l.out (record { size = l.size; rows = l.rows })
+    Sofar l.src.packages.corpus.now l.src.script.now l.src.objects l.src.work.now l.src.limit l.src.packages.at l.src.packages.count l.initial.out l.counter l.at
+    l.out (record { size = l.size; rows = l.rows })

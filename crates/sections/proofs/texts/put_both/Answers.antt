@@ -90,7 +90,7 @@ pub put_native-t-requires : goal.put_native-t-requires
 put_native-t-requires c =
     let r = c.requires in
     record {
-      corpus = c.args.src.now.corpus.now;
+      corpus = c.args.src.now.packages.corpus.now;
       read = r.read;
       classes = r.classes;
       lookups = r.lookups;
@@ -103,14 +103,14 @@ pub put_second-requires : goal.put_second-requires
 put_second-requires c =
     let r = c.requires in
     let f = native-fits r.target c.args.out.now r.room in
-    let put = c.put_native-t.ensures c.args.src.now.corpus.now r.read r.classes r.lookups r.ref r.target f in (
+    let put = c.put_native-t.ensures c.args.src.now.packages.corpus.now r.read r.classes r.lookups r.ref r.target f in (
       twice-fits r.target c.args.out.now r.room (no-class c.in-None.ensures) put,
       λ ne. (kept-inside r.target ne, kept-size r.target ne ∙ sym put.wrote.size),
     )
 
 pub returns-in-None : goal.returns-in-None
 returns-in-None c = λ o xs lookups r t room.
-    let put = c.put_native-t.ensures c.args.src.now.corpus.now o xs lookups r t (native-fits t c.args.out.now room) in
+    let put = c.put_native-t.ensures c.args.src.now.packages.corpus.now o xs lookups r t (native-fits t c.args.out.now room) in
     twice-put t c.args.out.now room (no-class c.in-None.ensures) put (c.put_second.ensures _ _ put.wrote (λ ne. kept-is t ne))
 
 pub put_class-first-requires : goal.put_class-first-requires
@@ -134,7 +134,7 @@ put_native-t-requires-in-Some c =
     let r = c.requires in
     let left = one-more c.in-Some.ensures in
     record {
-      corpus = c.args.src.now.corpus.now;
+      corpus = c.args.src.now.packages.corpus.now;
       read = r.read;
       classes = r.classes;
       lookups = r.lookups;
@@ -148,11 +148,11 @@ overflow_add-result c =
     let r = c.requires in
     let left = one-more c.in-Some.ensures in
     let v = c.put_class-first.ensures r.classes r.target.tables.classes (class_in r.target left) in
-    let put = c.put_native-t-in-Some.ensures c.args.src.now.corpus.now r.read r.classes r.lookups r.ref r.target (native-next r.target c.args.out.now r.room left v) in
+    let put = c.put_native-t-in-Some.ensures c.args.src.now.packages.corpus.now r.read r.classes r.lookups r.ref r.target (native-next r.target c.args.out.now r.room left v) in
     omega (arith, (both-put r.target c.args.out.now r.room left v put).wrote.fits)
 
 pub returns-in-Some : goal.returns-in-Some
 returns-in-Some c = λ o xs lookups r t room.
     let left = one-more c.in-Some.ensures in
     let v = c.put_class-first.ensures xs t.tables.classes (class_in t left) in
-    both-put t c.args.out.now room left v (c.put_native-t-in-Some.ensures c.args.src.now.corpus.now o xs lookups r t (native-next t c.args.out.now room left v))
+    both-put t c.args.out.now room left v (c.put_native-t-in-Some.ensures c.args.src.now.packages.corpus.now o xs lookups r t (native-next t c.args.out.now room left v))

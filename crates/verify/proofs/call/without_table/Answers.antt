@@ -11,7 +11,7 @@ use Rattle.scriptblock.specs.ScriptAnswers.{script_answer}
 use Rattle.scriptblock.proofs.ScriptFacts.{script-facts}
 use Rattle.meaning.specs.Call.{limits}
 use Rattle.scan.specs.BlockLaws.{blocks-refused}
-use Rattle.walk.specs.OpenLaws.{begun-sites, begun-few, begun-small, opened-script, opened_package}
+use Rattle.walk.specs.OpenLaws.{begun-few, begun-small, opened-script, opened_package}
 use Rattle.verify.specs.StepLaws.{answered-opened}
 use Rattle.verify.proofs.call.without_table.Goals.{In_err-block, In_ok-block}
 use Rattle.verify.proofs.call.without_table.Goals as goal
@@ -35,14 +35,14 @@ returns-in_err-block c =
     rw (p.1, p.2) (answered-opened (opened-script limits _ c.args.c.now.begun e) (rw b))
 
 pub check_packages-requires : goal.check_packages-requires
-check_packages-requires c = let b = c.args.c.now.begun in rw c.packages.ensures (begun-sites b, (begun-few b).0)
+check_packages-requires c = rw c.packages.ensures.2 (begun-few c.args.c.now.begun).0
 
 pub returns-in_err-check_packages : goal.returns-in_err-check_packages
 returns-in_err-check_packages c =
     let r = c.from_residual-in_err-check_packages in
     let p = err_from_is_err_and r.result r.ensures.1 in
     let (o, x) = script-facts _ _ (script-at (goal.at.returns-in_err-check_packages c).In_ok-block) in
-    let e = rw c.packages.ensures at c.in_err-check_packages.ensures.is in
+    let e = rw (c.packages.ensures.0, c.packages.ensures.1, c.packages.ensures.2) at c.in_err-check_packages.ensures.is in
     rw (p.1, p.2) (answered-opened (opened_package limits _ c.args.c.now.begun x.is (blocks-refused _ (sym e))) refl)
 
 pub invariant_of-s : goal.invariant_of-s
@@ -53,6 +53,6 @@ count_scanned-t-requires c = (omega arith, rw (script-is (goal.at.count_scanned-
 
 pub compare-requires : goal.compare-requires
 compare-requires c =
-    let a = rw c.packages.ensures at c.in_ok-check_packages.ensures.all in
+    let a = rw (c.packages.ensures.0, c.packages.ensures.1, c.packages.ensures.2) at c.in_ok-check_packages.ensures.all in
     let e = script-is (goal.at.compare-requires c).In_ok-block in
     (a, ap (λ x. x.now) e, refl, record { is = rw e at c.count_scanned-t.ensures })

@@ -33,8 +33,8 @@ loop-i-init c = none_yet _ _ _
 pub flag_at-requires : goal.flag_at-requires
 flag_at-requires c =
     let l = c.loop-i in
-    let (s, r, n) = c.requires in
-    rw l.invariant.place (record { site = s.site l.i (search rules); is = r.read l.i (search rules) })
+    let (r, n) = c.requires in
+    rw l.invariant.place (record { site = c.args.p.now.sites.site l.i (search rules); is = r.read l.i (search rules) })
 
 pub bounds-out-i : goal.bounds-out-i
 bounds-out-i c = omega (arith, wrote-length c.loop-i.invariant.wrote)
@@ -42,7 +42,7 @@ bounds-out-i c = omega (arith, wrote-length c.loop-i.invariant.wrote)
 pub next_at-at-requires : goal.next_at-at-requires
 next_at-at-requires c =
     let l = c.loop-i in
-    let k = c.requires.0.site l.i (search rules) in
+    let k = c.args.p.now.sites.site l.i (search rules) in
     rw l.invariant.place (k.starts, k.stops)
 
 pub loop-i-preserved : goal.loop-i-preserved

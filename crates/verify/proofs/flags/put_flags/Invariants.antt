@@ -13,4 +13,4 @@ pub record Sofar (c : List ℕ) (from : ℕ) (old : List ℕ) (i at : ℕ) (new 
   pub wrote : Wrote old (map package_flag (packages_at c from i)) new i
 
 abbrev pub invariant-loop-i : goal.invariant-loop-i
-invariant-loop-i l = Sofar l.c l.from l.initial.out l.i l.at l.out
+invariant-loop-i l = Sofar l.p.corpus.now l.p.at l.initial.out l.i l.at l.out

@@ -27,8 +27,8 @@ module _ (n : Counts) (c : List ℕ) (at count : ℕ) where
 
 pub put_flags-requires : goal.put_flags-requires
 put_flags-requires c =
-    let (s, r, n) = c.requires.sites in
-    (s, r, wrote-room c.put_front.ensures _ n)
+    let (r, n) = c.requires.read in
+    (r, wrote-room c.put_front.ensures _ n)
 
 pub returns : goal.returns
 returns c =

@@ -22,7 +22,7 @@ shut : (d b : List ℕ) (n limit : ℕ) (v : Visit) {t : Census} {w : List ℕ} 
 shut d b n limit v h {o = o} {f = f} k = state_closed k h (package_behind limit o v.block (package_in v.id d) f) refl
 
 pub returns-in-Err-clause-refused : goal.returns-in-Err-clause-refused
-returns-in-Err-clause-refused c = λ r z. rw (← err_same z) (refl, rejected-got (run_block package_block c.args.b.now) (sym c.in-Err.ensures))
+returns-in-Err-clause-refused c = λ r z. rw (← err_same z, c.at.ensures.0) (c.at.ensures.1, rejected-got (run_block package_block c.args.b.now) (sym c.in-Err.ensures))
 
 pub returns-in-Ok-clause-read : goal.returns-in-Ok-clause-read
 returns-in-Ok-clause-read c = λ t z. (layout_package c.args.b.now c.in-Ok.l (sym c.in-Ok.ensures)).is

@@ -133,4 +133,4 @@ module _ (s : List ℕ) (at : ℕ) (b : List ℕ) (n limit : ℕ) where
 
 abbrev pub invariant-loop-i : goal.invariant-loop-i
 invariant-loop-i l =
-    Passed l.c l.at l.s.block.now l.s.count l.s.limit l.initial.w l.i l.place l.t l.w
+    Passed l.p.corpus.now l.p.at l.s.block.now l.s.count l.s.limit l.initial.w l.i l.place l.t l.w

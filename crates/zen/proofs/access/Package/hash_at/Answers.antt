@@ -20,10 +20,10 @@ overflow_mul-i c = let s = (goal.at.overflow_mul-i c).Start in omega (arith, the
 pub overflow_add-self : goal.overflow_add-self
 overflow_add-self c = let s = (goal.at.overflow_add-self c).Start in omega (arith, there s, (known s).size)
 
-pub u64_le-requires : goal.u64_le-requires
-u64_le-requires c =
-    let s = (goal.at.u64_le-requires c).Start in
+pub le64-requires : goal.le64-requires
+le64-requires c =
+    let s = (goal.at.le64-requires c).Start in
     rw (c.header.ensures, length-take-le c.args.self.layout.size c.args.self.block.now (known s).size) (there s)
 
 pub returns : goal.returns
-returns c = rw c.header.ensures at c.u64_le.ensures ∙ sym (hash-is (known (goal.at.returns c).Start) c.args.i c.requires)
+returns c = rw c.header.ensures at c.le64.ensures ∙ sym (hash-is (known (goal.at.returns c).Start) c.args.i c.requires)
