@@ -1,4 +1,8 @@
 // The recorded list taken apart: data/README.md has its layout.
+ghost use Rattle.std.specs.Prelude.{◌≡◌, true, false, MatchOption};
+ghost use Rattle.base.specs.Number.{be_at};
+ghost use Rattle.replay.specs.Parts.{part, behind, cut, numbers, reported, case_cut};
+
 use base::number::{be32_usize, be64};
 
 // A case: a corpus, the lengths of the work buffer and of the report buffer, the number that the call returns, and the report.
@@ -12,7 +16,10 @@ pub struct Case<'a> {
 }
 
 // A corpus or a report, which is a 4-byte length and so many bytes, and what stands behind it, unless the list is cut short.
-fn split_part<'a>(list: &'a [u8]) -> Option<(&'a [u8], &'a [u8])> {
+fn split_part<'a>(list: &'a [u8]) -> Option<(&'a [u8], &'a [u8])>
+    ensures { MatchOption result (cut list.now ≡ true)
+        (λ r. (cut list.now ≡ false) × (r.0.now ≡ part list.now) × (r.1.now ≡ behind list.now)) }
+{
     if list.len() < 4 {
         return None;
     }
@@ -21,12 +28,16 @@ fn split_part<'a>(list: &'a [u8]) -> Option<(&'a [u8], &'a [u8])> {
 }
 
 // The first case of a list and what stands behind it, unless the list is cut short.
-pub fn split_case<'a>(list: &'a [u8]) -> Option<(Case<'a>, &'a [u8])> {
+pub fn split_case<'a>(list: &'a [u8]) -> Option<(Case<'a>, &'a [u8])>
+    ensures { MatchOption result (case_cut list.now ≡ true)
+        (λ r. (case_cut list.now ≡ false) × (r.0.corpus.now ≡ part list.now)
+        × (r.0.work ≡ be_at 8 (numbers list.now) 0) × (r.0.room ≡ be_at 8 (numbers list.now) 8)
+        × (r.0.answer ≡ be_at 8 (numbers list.now) 16) × (r.0.report.now ≡ part (reported list.now))
+        × (r.1.now ≡ behind (reported list.now))) }
+{
     let (corpus, numbers) = split_part(list)?;
-    if numbers.len() < 24 {
-        return None;
-    }
-    let (report, rest) = split_part(&numbers[24..])?;
+    let (_, reported) = numbers.split_at_checked(24)?;
+    let (report, rest) = split_part(reported)?;
     let case = Case {
         corpus,
         work: be64(numbers, 0),

@@ -1,0 +1,4 @@
+-- The recorded list, as data/README.md lays it out.
+
+-- ==== Definitions
+pub mod Parts
