@@ -30,7 +30,7 @@ use Rattle.resolve.specs.ClassesLaws.{by_number, look-seek, seek-inside, seek-ow
 use Rattle.resolve.specs.Rows.{class_number, object_number, Read, Means, Keeps, Tables, SomeClasses}
 
 -- the second of the two words of a record's super
-pub word_behind : (w : List ℕ) (at : ℕ) → le_at 8 w (at + 44 + 8) ≡ le_at 8 w (at + 52)
+pub word_behind : (w : List ℕ) (at : ℕ) → le_at 8 w (at + 24 + 8) ≡ le_at 8 w (at + 32)
 word_behind w at = ap (le_at 8 w) (omega arith)
 
 -- ---- a chain of so many lookups, from a reference that means a key and from one that means none
@@ -237,15 +237,15 @@ module _ {s b : List ℕ} {o : Objects} {n : ℕ} {xs : List Class} {w : List �
   pub class-room : 48 * n + record_at (4 * n) 64 i + 64 ≤ length w
   class-room = omega (arith, t.classes.keys.room, t.room, length-drop (48 * n) w)
 
-  pub super-keeps : {at x y : ℕ} → at ≡ 48 * n + record_at (4 * n) 64 i → x ≡ le_at 8 w (at + 44) → y ≡ le_at 8 w (at + 52)
+  pub super-keeps : {at x y : ℕ} → at ≡ 48 * n + record_at (4 * n) 64 i → x ≡ le_at 8 w (at + 24) → y ≡ le_at 8 w (at + 32)
       → Keeps xs x y (class_no xs i).super
   super-keeps {at} place p q =
-      let a : at + 44 ≡ 48 * n + (record_at (4 * n) 64 i + 44) = omega arith in
-      let d : at + 52 ≡ 48 * n + (record_at (4 * n) 64 i + 52) = omega arith in
+      let a : at + 24 ≡ 48 * n + (record_at (4 * n) 64 i + 24) = omega arith in
+      let d : at + 32 ≡ 48 * n + (record_at (4 * n) 64 i + 32) = omega arith in
       record {
         super = super-same (t.classes.supers i h)
-            (p ∙ rw a (sym (le_at-drop 8 (48 * n) w (record_at (4 * n) 64 i + 44))))
-            (q ∙ rw d (sym (le_at-drop 8 (48 * n) w (record_at (4 * n) 64 i + 52))));
+            (p ∙ rw a (sym (le_at-drop 8 (48 * n) w (record_at (4 * n) 64 i + 24))))
+            (q ∙ rw d (sym (le_at-drop 8 (48 * n) w (record_at (4 * n) 64 i + 32))));
         read = super-read (t.classes.columns i h);
       }
 

@@ -1,7 +1,7 @@
 -- What the part of the work buffer behind the script objects holds of the classes: a look-up table whose record k, of 64 bytes, is class k. Its
--- key is the class's; bytes 24 to 63 are: the place of its package in the corpus (24), its number among the package's exports (28), where the
--- package's name, its own and its outer's start in the package's block (32, 36, 40), what its super means, in words or as a link (44, 52), the
--- length of its path in UTF-8 (60). Assumes nothing.
+-- key is the class's; bytes 24 to 63 are: what its super means, in words or as a link (24, 32), the length of its path in UTF-8 (40), the place of
+-- its package in the corpus (44), its number among the package's exports (48), where the package's name, its own and its outer's start in the
+-- package's block (52, 56, 60). Assumes nothing.
 use Rattle.std.specs.Prelude.{◌≡◌, List, [], ◌∷◌, ◌++◌, ℕ, ◌+◌, ◌^◌, ◌≤◌, ◌<◌, length, get_or, None}
 use Rattle.std.proofs.Math.Option.{some}
 use Rattle.base.specs.Number.{le_at}
@@ -50,12 +50,12 @@ pub record ClassIn (s : List ℕ) (x : Class) (w : List ℕ) (at : ℕ) : Type 0
   pub is : x ≡ class_from s place export
   pub short : length (utf8 x.path) ≤ 393269
   -- the columns
-  pub place_in : le_at 4 w (at + 24) ≡ place
-  pub export_in_lem : le_at 4 w (at + 28) ≡ export
-  pub home_in_lem : le_at 4 w (at + 32) ≡ (home_of (block_at s place)).place.start
-  pub own_in : le_at 4 w (at + 36) ≡ (names_of (block_at s place) export).own.place.start
-  pub outer_in : le_at 4 w (at + 40) ≡ outer_start (names_of (block_at s place) export)
-  pub size_in_lem : le_at 4 w (at + 60) ≡ length (utf8 x.path)
+  pub size_in_lem : le_at 4 w (at + 40) ≡ length (utf8 x.path)
+  pub place_in : le_at 4 w (at + 44) ≡ place
+  pub export_in_lem : le_at 4 w (at + 48) ≡ export
+  pub home_in_lem : le_at 4 w (at + 52) ≡ (home_of (block_at s place)).place.start
+  pub own_in : le_at 4 w (at + 56) ≡ (names_of (block_at s place) export).own.place.start
+  pub outer_in : le_at 4 w (at + 60) ≡ outer_start (names_of (block_at s place) export)
 
 -- what the super r of a class is kept as: its two words; or, once it is linked, 2^63 and the number of the class that it means, and 0
 pub data SuperIn (xs : List Class) (r : Ref) (lo hi : ℕ) : Type 0 where
@@ -66,7 +66,7 @@ pub data SuperIn (xs : List Class) (r : Ref) (lo hi : ℕ) : Type 0 where
 pub record ClassesIn (s : List ℕ) (n : ℕ) (xs : List Class) (w : List ℕ) : Type 0 where
   pub keys : Holds n 64 (length xs) (λ i. (key_words (class_no xs i).key).lo) (λ i. (key_words (class_no xs i).key).hi) w
   pub columns : (i : ℕ) → i < length xs → ClassIn s (class_no xs i) w (record_at n 64 i)
-  pub supers : (i : ℕ) → i < length xs → SuperIn xs (class_no xs i).super (le_at 8 w (record_at n 64 i + 44)) (le_at 8 w (record_at n 64 i + 52))
+  pub supers : (i : ℕ) → i < length xs → SuperIn xs (class_no xs i).super (le_at 8 w (record_at n 64 i + 24)) (le_at 8 w (record_at n 64 i + 32))
 
 -- k classes of some corpus are
 pub record Classes (n k : ℕ) (w : List ℕ) : Type 0 where
@@ -79,12 +79,12 @@ pub record Classes (n k : ℕ) (w : List ℕ) : Type 0 where
 unfoldable pub described : ℕ → ℕ → ℕ → ℕ → ℕ → ℕ → Words → ℕ → List ℕ → List ℕ
 described r at i home own outer m len w =
     stored 4
-    (stored 8
-    (stored 8 (stored 4 (stored 4 (stored 4 (stored 4 (stored 4 w (r + 24) at) (r + 28) i) (r + 32) home) (r + 36) own) (r + 40) outer) (r + 44) m.lo)
-    (r + 52)
-    m.hi)
+    (stored 4
+    (stored 4 (stored 4 (stored 4 (stored 4 (stored 8 (stored 8 w (r + 24) m.lo) (r + 32) m.hi) (r + 40) len) (r + 44) at) (r + 48) i) (r + 52) home)
+    (r + 56)
+    own)
     (r + 60)
-    len
+    outer
 
 -- class k of the corpus s is entered, and the buffer has room for its path
 pub record PathRoom (s : List ℕ) (n k : ℕ) (w out : List ℕ) : Type 0 where

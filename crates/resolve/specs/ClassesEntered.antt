@@ -43,14 +43,14 @@ use Rattle.resolve.specs.Stores.{Cell, no_cell, stores, stores-kept, stores-read
 module _ (at i home own outer : ℕ) (m : Words) (len : ℕ) where
   abbrev cells : List Cell
   cells =
-      record { width = 4; from = 24; value = at }
-      ∷ record { width = 4; from = 28; value = i }
-      ∷ record { width = 4; from = 32; value = home }
-      ∷ record { width = 4; from = 36; value = own }
-      ∷ record { width = 4; from = 40; value = outer }
-      ∷ record { width = 8; from = 44; value = m.lo }
-      ∷ record { width = 8; from = 52; value = m.hi }
-      ∷ record { width = 4; from = 60; value = len }
+      record { width = 8; from = 24; value = m.lo }
+      ∷ record { width = 8; from = 32; value = m.hi }
+      ∷ record { width = 4; from = 40; value = len }
+      ∷ record { width = 4; from = 44; value = at }
+      ∷ record { width = 4; from = 48; value = i }
+      ∷ record { width = 4; from = 52; value = home }
+      ∷ record { width = 4; from = 56; value = own }
+      ∷ record { width = 4; from = 60; value = outer }
       ∷ []
 
   module _ (r : ℕ) (w : List ℕ) (room : r + 64 ≤ length w) where
@@ -88,7 +88,7 @@ module _ (k : ℕ) (xs : List Class) (x : Class) (q : length xs ≡ k) where
   -- it is entered where its key was added, and its record filled in, with nothing else changed
   pub classes-more : {n id hash : ℕ} {s w v w' : List ℕ} → ClassesIn s n xs w → x.key ≡ public id hash → (hash ≡ 0 → ⊥) → Added n 64 k id hash w v
       → Kept (record_at n 64 k + 24) (record_at n 64 k + 64) v w' → ClassIn s x w' (record_at n 64 k)
-      → le_at 8 w' (record_at n 64 k + 44) ≡ (words_of x.super).lo → le_at 8 w' (record_at n 64 k + 52) ≡ (words_of x.super).hi → Entered s n xs x w w'
+      → le_at 8 w' (record_at n 64 k + 24) ≡ (words_of x.super).lo → le_at 8 w' (record_at n 64 k + 32) ≡ (words_of x.super).hi → Entered s n xs x w w'
   classes-more {n} {id} {hash} {s} {w} {v} {w'} t e h a d own lo hi = record {
     holds = record {
       keys = rw one_more (holds-column added d k (omega arith) (omega arith));
@@ -115,14 +115,14 @@ module _ (k : ℕ) (xs : List Class) (x : Class) (q : length xs ≡ k) where
       column j g (yes f) = rw (← f, class-last) own
       column j g (no f) =
           rw (class-before j (omega arith))
-          (class_same (t.columns j (omega arith)) (λ i c l u m. same j f i c l u))
+          (class_same (t.columns j (omega arith)) (λ i c l u. same j f i c (omega arith) u))
 
       super : (j : ℕ) → j < k + 1 → Dec (k ≡ j)
-          → SuperIn (xs ++ (x ∷ [])) (class_no (xs ++ (x ∷ [])) j).super (le_at 8 w' (record_at n 64 j + 44)) (le_at 8 w' (record_at n 64 j + 52))
+          → SuperIn (xs ++ (x ∷ [])) (class_no (xs ++ (x ∷ [])) j).super (le_at 8 w' (record_at n 64 j + 24)) (le_at 8 w' (record_at n 64 j + 32))
       super j g (yes f) = rw (← f, class-last) (words lo hi)
       super j g (no f) =
           rw (class-before j (omega arith))
-          (super-same (super-before (t.supers j (omega arith))) (same j f 8 44 (omega arith) (omega arith)) (same j f 8 52 (omega arith) (omega arith)))
+          (super-same (super-before (t.supers j (omega arith))) (same j f 8 24 (omega arith) (omega arith)) (same j f 8 32 (omega arith) (omega arith)))
 
 -- ---- what a block says of a class
 
@@ -189,19 +189,19 @@ module _ {b : List ℕ} {p : Parts} (a : PackageIn b p) (y : Bytes b) (i : ℕ) 
       hashed = rw z.is at h;
       is = refl;
       short = rw (← length-is) short;
-      place_in = column-read r w room 0 (omega arith) small.0;
-      export_in_lem = column-read r w room 1 (omega arith) small.1;
-      home_in_lem = column-read r w room 2 (omega arith) small.2 ∙ ap (λ (x : Name). x.place.start) (hm ∙ block-home a z);
-      own_in = column-read r w room 3 (omega arith) small.3 ∙ ap (λ (x : Row). x.own.place.start) (rm ∙ block-names a z i);
-      outer_in = column-read r w room 4 (omega arith) small.4 ∙ ap outer_start (rm ∙ block-names a z i);
-      size_in_lem = column-read r w room 7 (omega arith) (omega arith) ∙ length-is;
+      place_in = column-read r w room 3 (omega arith) small.0;
+      export_in_lem = column-read r w room 4 (omega arith) small.1;
+      home_in_lem = column-read r w room 5 (omega arith) small.2 ∙ ap (λ (x : Name). x.place.start) (hm ∙ block-home a z);
+      own_in = column-read r w room 6 (omega arith) small.3 ∙ ap (λ (x : Row). x.own.place.start) (rm ∙ block-names a z i);
+      outer_in = column-read r w room 7 (omega arith) small.4 ∙ ap outer_start (rm ∙ block-names a z i);
+      size_in_lem = column-read r w room 2 (omega arith) (omega arith) ∙ length-is;
     }
 
-    lo-described : (r : ℕ) (w : List ℕ) → r + 64 ≤ length w → le_at 8 (new r w) (r + 44) ≡ (words_of (class_from s at i).super).lo
-    lo-described r w room = column-read r w room 5 (omega arith) lo ∙ ap (λ (x : Words). x.lo) super-is
+    lo-described : (r : ℕ) (w : List ℕ) → r + 64 ≤ length w → le_at 8 (new r w) (r + 24) ≡ (words_of (class_from s at i).super).lo
+    lo-described r w room = column-read r w room 0 (omega arith) lo ∙ ap (λ (x : Words). x.lo) super-is
 
-    hi-described : (r : ℕ) (w : List ℕ) → r + 64 ≤ length w → le_at 8 (new r w) (r + 52) ≡ (words_of (class_from s at i).super).hi
-    hi-described r w room = column-read r w room 6 (omega arith) hi ∙ ap (λ (x : Words). x.hi) super-is
+    hi-described : (r : ℕ) (w : List ℕ) → r + 64 ≤ length w → le_at 8 (new r w) (r + 32) ≡ (words_of (class_from s at i).super).hi
+    hi-described r w room = column-read r w room 1 (omega arith) hi ∙ ap (λ (x : Words). x.hi) super-is
 
     -- THE WAY IN: its key was added, and its record filled in
     pub class-entered : {n k r : ℕ} {xs : List Class} {w v w' : List ℕ} → ClassesIn s n xs w → length xs ≡ k → Added n 64 k id e.hash w v → r ≡ record_at n 64 k

@@ -1,7 +1,7 @@
 -- Laws of the classes in the work buffer: they stay where only bytes behind them change, and a look-up by a key is the class table's. Assumes
 -- nothing.
-use Rattle.std.specs.Prelude.{◌≡◌, refl, ◌⊎◌, Bool, ℕ, zero, suc, ◌+◌, ◌-◌, ◌*◌, ◌^◌, ◌≤◌, ◌<◌, length, get_or, None}
-use Rattle.std.proofs.Common.{sym, ◌∙◌, inl, inr, add-one, arith, ne_eqb}
+use Rattle.std.specs.Prelude.{◌≡◌, refl, Bool, ℕ, zero, suc, ◌+◌, ◌-◌, ◌*◌, ◌^◌, ◌≤◌, ◌<◌, length, get_or, None}
+use Rattle.std.proofs.Common.{sym, ◌∙◌, inl, add-one, arith, ne_eqb}
 use Rattle.std.proofs.Math.Path.{ap}
 use mathlib.Core.List.{List, [], ◌∷◌}
 use Rattle.std.proofs.Math.Option.{Option, none, some}
@@ -88,7 +88,7 @@ module _ {b : List ℕ} {p : Parts} (a : PackageIn b p) {s : List ℕ} {at : ℕ
 -- ---- what a record says, by its columns alone, the super's apart
 
 pub class_same : {s : List ℕ} {x : Class} {w w' : List ℕ} {at : ℕ} → ClassIn s x w at
-    → ((k c : ℕ) → 24 ≤ c → c + k ≤ 64 → (c + k ≤ 44) ⊎ (60 ≤ c) → le_at k w' (at + c) ≡ le_at k w (at + c)) → ClassIn s x w' at
+    → ((k c : ℕ) → 40 ≤ c → c + k ≤ 64 → le_at k w' (at + c) ≡ le_at k w (at + c)) → ClassIn s x w' at
 class_same r same = record {
   place = r.place;
   export = r.export;
@@ -98,12 +98,12 @@ class_same r same = record {
   hashed = r.hashed;
   is = r.is;
   short = r.short;
-  place_in = same 4 24 (omega arith) (omega arith) (inl (omega arith)) ∙ r.place_in;
-  export_in_lem = same 4 28 (omega arith) (omega arith) (inl (omega arith)) ∙ r.export_in_lem;
-  home_in_lem = same 4 32 (omega arith) (omega arith) (inl (omega arith)) ∙ r.home_in_lem;
-  own_in = same 4 36 (omega arith) (omega arith) (inl (omega arith)) ∙ r.own_in;
-  outer_in = same 4 40 (omega arith) (omega arith) (inl (omega arith)) ∙ r.outer_in;
-  size_in_lem = same 4 60 (omega arith) (omega arith) (inr (omega arith)) ∙ r.size_in_lem;
+  size_in_lem = same 4 40 (omega arith) (omega arith) ∙ r.size_in_lem;
+  place_in = same 4 44 (omega arith) (omega arith) ∙ r.place_in;
+  export_in_lem = same 4 48 (omega arith) (omega arith) ∙ r.export_in_lem;
+  home_in_lem = same 4 52 (omega arith) (omega arith) ∙ r.home_in_lem;
+  own_in = same 4 56 (omega arith) (omega arith) ∙ r.own_in;
+  outer_in = same 4 60 (omega arith) (omega arith) ∙ r.outer_in;
 }
 
 -- a super kept in the same two numbers
@@ -132,8 +132,8 @@ pub classes-kept : {s : List ℕ} {n : ℕ} {xs : List Class} {w w' : List ℕ} 
     → ClassesIn s n xs w'
 classes-kept {s} {n} {xs} {w} {w'} b e t k h = record {
   keys = holds-behind t.keys k h;
-  columns = λ i g. class_same (t.columns i g) (λ j c l u v. same i g j c u);
-  supers = λ i g. super-same (t.supers i g) (same i g 8 44 (omega arith)) (same i g 8 52 (omega arith));
+  columns = λ i g. class_same (t.columns i g) (λ j c l u. same i g j c u);
+  supers = λ i g. super-same (t.supers i g) (same i g 8 24 (omega arith)) (same i g 8 32 (omega arith));
 }
   where
     same : (i : ℕ) → i < length xs → (j c : ℕ) → c + j ≤ 64 → le_at j w' (record_at n 64 i + c) ≡ le_at j w (record_at n 64 i + c)

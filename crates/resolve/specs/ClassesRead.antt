@@ -27,7 +27,7 @@ pub class_in : {s : List ℕ} {n k r : ℕ} {xs : List Class} {w : List ℕ} →
 class_in {s} {n} {k} t h e = rw e (t.columns k h)
 
 -- the place that is read is the package's
-module _ {s : List ℕ} {x : Class} {w : List ℕ} {r : ℕ} (d : ClassIn s x w r) {at : ℕ} (q : at ≡ le_at 4 w (r + 24)) where
+module _ {s : List ℕ} {x : Class} {w : List ℕ} {r : ℕ} (d : ClassIn s x w r) {at : ℕ} (q : at ≡ le_at 4 w (r + 44)) where
   pub class-site : Site s at (block_at s at)
   class-site = rw (q ∙ d.place_in) d.site
 
@@ -50,11 +50,11 @@ module _ {s : List ℕ} {x : Class} {w : List ℕ} {r : ℕ} (d : ClassIn s x w 
 
     -- the start that is read is that of its name
     module _ {p : Parts} (a : PackageIn b p) where
-      pub class-home : {h : ℕ} → h ≡ le_at 4 w (r + 32) → h ≡ (home_in b p).place.start
+      pub class-home : {h : ℕ} → h ≡ le_at 4 w (r + 52) → h ≡ (home_in b p).place.start
       class-home l = l ∙ (d.home_in_lem ∙ ap (λ (h : Name). h.place.start) (sym (block-home a block-site)))
 
       -- the number is that of one of its exports, and the starts are those of the export's names
-      module _ {i : ℕ} (n : i ≡ le_at 4 w (r + 28)) where
+      module _ {i : ℕ} (n : i ≡ le_at 4 w (r + 48)) where
         export_is : i ≡ d.export
         export_is = n ∙ d.export_in_lem
 
@@ -64,10 +64,10 @@ module _ {s : List ℕ} {x : Class} {w : List ℕ} {r : ℕ} (d : ClassIn s x w 
         pub class-inside : i < p.count
         class-inside = rw (export_count_lem a, block-is, export_is) d.there
 
-        pub class-own : {o : ℕ} → o ≡ le_at 4 w (r + 36) → o ≡ (row_in b p None i).own.place.start
+        pub class-own : {o : ℕ} → o ≡ le_at 4 w (r + 56) → o ≡ (row_in b p None i).own.place.start
         class-own l = l ∙ (d.own_in ∙ ap (λ (t : Row). t.own.place.start) (sym row_is))
 
-        pub class-outer : {o : ℕ} → o ≡ le_at 4 w (r + 40) → o ≡ outer_start (row_in b p None i)
+        pub class-outer : {o : ℕ} → o ≡ le_at 4 w (r + 60) → o ≡ outer_start (row_in b p None i)
         class-outer l = l ∙ (d.outer_in ∙ ap outer_start (sym row_is))
 
         -- so the names there are the class's path

@@ -51,24 +51,24 @@ found-few {n} {k} {w} key t q =
 
 module _ (at v : ℕ) where
   abbrev cells : List Cell
-  cells = record { width = 8; from = 44; value = v } ∷ record { width = 8; from = 52; value = 0 } ∷ []
+  cells = record { width = 8; from = 24; value = v } ∷ record { width = 8; from = 32; value = 0 } ∷ []
 
   abbrev pub linked : List ℕ → List ℕ
-  linked w = stored 8 (stored 8 w (at + 44) v) (at + 52) 0
+  linked w = stored 8 (stored 8 w (at + 24) v) (at + 32) 0
 
   module _ (w : List ℕ) (room : at + 64 ≤ length w) where
     linked-is : stores cells at w ≡ linked w
     unfolding stores
     linked-is = refl
 
-    linked-kept : Kept (at + 44) (at + 60) w (linked w)
-    linked-kept = rw linked-is at (stores-kept cells 44 60 at w (omega arith) (omega arith))
+    linked-kept : Kept (at + 24) (at + 40) w (linked w)
+    linked-kept = rw linked-is at (stores-kept cells 24 40 at w (omega arith) (omega arith))
 
-    linked-lo : v < 2 ^ 64 → le_at 8 (linked w) (at + 44) ≡ v
-    linked-lo f = rw linked-is at (stores-read cells 44 60 at w (omega arith) (omega arith) 0 (omega arith) f)
+    linked-lo : v < 2 ^ 64 → le_at 8 (linked w) (at + 24) ≡ v
+    linked-lo f = rw linked-is at (stores-read cells 24 40 at w (omega arith) (omega arith) 0 (omega arith) f)
 
-    linked-hi : le_at 8 (linked w) (at + 52) ≡ 0
-    linked-hi = rw linked-is at (stores-read cells 44 60 at w (omega arith) (omega arith) 1 (omega arith) (omega arith))
+    linked-hi : le_at 8 (linked w) (at + 32) ≡ 0
+    linked-hi = rw linked-is at (stores-read cells 24 40 at w (omega arith) (omega arith) 1 (omega arith) (omega arith))
 
 -- ---- class i, left as it is
 
@@ -76,15 +76,15 @@ pub only_none : (n i : ℕ) (w : List ℕ) → SuperOnly n i w w
 only_none n i w = record { kept = kept-none (super_at n i) (super_at n i + 16) w }
 
 module _ {s b : List ℕ} {o : Objects} {n : ℕ} {xs : List Class} {w : List ℕ} (t : Tables s b o n xs w) {i at : ℕ} (h : i < length xs)
-    (place : at ≡ 48 * n + record_at (4 * n) 64 i) {lo hi : ℕ} (p : lo ≡ le_at 8 w (at + 44)) (q : hi ≡ le_at 8 w (at + 52)) where
+    (place : at ≡ 48 * n + record_at (4 * n) 64 i) {lo hi : ℕ} (p : lo ≡ le_at 8 w (at + 24)) (q : hi ≡ le_at 8 w (at + 32)) where
   keeps : Keeps xs lo hi (class_no xs i).super
   keeps = super-keeps t i h place p q
 
   lo-is : le_at 8 w (super_at n i) ≡ lo
-  lo-is = let z : super_at n i ≡ at + 44 = omega arith in rw z (sym p)
+  lo-is = let z : super_at n i ≡ at + 24 = omega arith in rw z (sym p)
 
   hi-is : le_at 8 w (super_at n i + 8) ≡ hi
-  hi-is = let z : super_at n i + 8 ≡ at + 52 = omega arith in rw z (sym q)
+  hi-is = let z : super_at n i + 8 ≡ at + 32 = omega arith in rw z (sym q)
 
   -- it means no key, or is linked already
   pub linked_already : hi ≡ 0 → ClassLinked n xs i w w
@@ -104,19 +104,19 @@ module _ {s b : List ℕ} {o : Objects} {n : ℕ} {xs : List Class} {w : List �
 -- ---- class i, linked to class k
 
 module _ {s b : List ℕ} {o : Objects} {n : ℕ} {xs : List Class} {refs : List Ref} {w : List ℕ} (t : KeptRows s b o n xs refs w) {i at : ℕ} (h : i < length xs)
-    (place : at ≡ 48 * n + record_at (4 * n) 64 i) {lo hi k : ℕ} (p : lo ≡ le_at 8 w (at + 44)) (q : hi ≡ le_at 8 w (at + 52)) (hash : 0 < hi)
+    (place : at ≡ 48 * n + record_at (4 * n) 64 i) {lo hi k : ℕ} (p : lo ≡ le_at 8 w (at + 24)) (q : hi ≡ le_at 8 w (at + 32)) (hash : 0 < hi)
     (f : suc k ≡ seek (λ (c : Class). same_key c.key (public lo hi)) xs) (few : 2 ^ 63 + k < 2 ^ 64)
     {w' : List ℕ} (e : w' ≡ linked at (2 ^ 63 + k) w) where
   room : at + 64 ≤ length w
   room = omega (arith, class-room t.tables i h)
 
-  change : Kept (at + 44) (at + 60) w w'
+  change : Kept (at + 24) (at + 40) w w'
   change = rw e (linked-kept at (2 ^ 63 + k) w room)
 
-  behind : Kept (record_at (4 * n) 64 i + 44) (record_at (4 * n) 64 i + 60) (drop (48 * n) w) (drop (48 * n) w')
+  behind : Kept (record_at (4 * n) 64 i + 24) (record_at (4 * n) 64 i + 40) (drop (48 * n) w) (drop (48 * n) w')
   behind =
-      let a : at + 44 - 48 * n ≡ record_at (4 * n) 64 i + 44 = omega arith in
-      let d : at + 60 - 48 * n ≡ record_at (4 * n) 64 i + 60 = omega arith in
+      let a : at + 24 - 48 * n ≡ record_at (4 * n) 64 i + 24 = omega arith in
+      let d : at + 40 - 48 * n ≡ record_at (4 * n) 64 i + 40 = omega arith in
       rw (a, d) at (kept-drop (48 * n) change (omega arith) (omega arith))
 
   -- its super means that class
@@ -128,32 +128,32 @@ module _ {s b : List ℕ} {o : Objects} {n : ℕ} {xs : List Class} {refs : List
   inside : k < length xs
   inside = seek-inside xs (public lo hi) k (sym f ∙ omega arith)
 
-  own : SuperIn xs (class_no xs i).super (le_at 8 (drop (48 * n) w') (record_at (4 * n) 64 i + 44)) (le_at 8 (drop (48 * n) w') (record_at (4 * n) 64 i + 52))
+  own : SuperIn xs (class_no xs i).super (le_at 8 (drop (48 * n) w') (record_at (4 * n) 64 i + 24)) (le_at 8 (drop (48 * n) w') (record_at (4 * n) 64 i + 32))
   own =
-      let a : 48 * n + (record_at (4 * n) 64 i + 44) ≡ at + 44 = omega arith in
-      let d : 48 * n + (record_at (4 * n) 64 i + 52) ≡ at + 52 = omega arith in
+      let a : 48 * n + (record_at (4 * n) 64 i + 24) ≡ at + 24 = omega arith in
+      let d : 48 * n + (record_at (4 * n) 64 i + 32) ≡ at + 32 = omega arith in
       link k inside means
-      (le_at-drop 8 (48 * n) w' (record_at (4 * n) 64 i + 44) ∙ rw (a, e) (linked-lo at (2 ^ 63 + k) w room few))
-      (le_at-drop 8 (48 * n) w' (record_at (4 * n) 64 i + 52) ∙ rw (d, e) (linked-hi at (2 ^ 63 + k) w room))
+      (le_at-drop 8 (48 * n) w' (record_at (4 * n) 64 i + 24) ∙ rw (a, e) (linked-lo at (2 ^ 63 + k) w room few))
+      (le_at-drop 8 (48 * n) w' (record_at (4 * n) 64 i + 32) ∙ rw (d, e) (linked-hi at (2 ^ 63 + k) w room))
 
   -- the other records, and its other columns
   other : (j m c : ℕ) → c + m ≤ 64 → (i ≡ j → ⊥) → le_at m (drop (48 * n) w') (record_at (4 * n) 64 j + c) ≡ le_at m (drop (48 * n) w) (record_at (4 * n) 64 j + c)
   other j m c u z =
       kept_read behind m (record_at (4 * n) 64 j + c)
-      (record_other (4 * n) 64 i (record_at (4 * n) 64 i + 44) (record_at (4 * n) 64 i + 60) (omega arith) (omega arith) j c m z u)
+      (record_other (4 * n) 64 i (record_at (4 * n) 64 i + 24) (record_at (4 * n) 64 i + 40) (omega arith) (omega arith) j c m z u)
 
-  same : (j m c : ℕ) → c + m ≤ 64 → (c + m ≤ 44) ⊎ (60 ≤ c) → le_at m (drop (48 * n) w') (record_at (4 * n) 64 j + c) ≡ le_at m (drop (48 * n) w) (record_at (4 * n) 64 j + c)
+  same : (j m c : ℕ) → c + m ≤ 64 → (c + m ≤ 24) ⊎ (40 ≤ c) → le_at m (drop (48 * n) w') (record_at (4 * n) 64 j + c) ≡ le_at m (drop (48 * n) w) (record_at (4 * n) 64 j + c)
   same j m c u v = go (ℕ_discrete i j) v
     where
-      go : Dec (i ≡ j) → (c + m ≤ 44) ⊎ (60 ≤ c) → le_at m (drop (48 * n) w') (record_at (4 * n) 64 j + c) ≡ le_at m (drop (48 * n) w) (record_at (4 * n) 64 j + c)
+      go : Dec (i ≡ j) → (c + m ≤ 24) ⊎ (40 ≤ c) → le_at m (drop (48 * n) w') (record_at (4 * n) 64 j + c) ≡ le_at m (drop (48 * n) w) (record_at (4 * n) 64 j + c)
       go (yes z) (inl l) = kept_read behind m (record_at (4 * n) 64 j + c) (inl (omega arith))
       go (yes z) (inr l) = kept_read behind m (record_at (4 * n) 64 j + c) (inr (omega arith))
       go (no z) l = other j m c u z
 
   supers : (j : ℕ) → j < length xs → Dec (i ≡ j)
-      → SuperIn xs (class_no xs j).super (le_at 8 (drop (48 * n) w') (record_at (4 * n) 64 j + 44)) (le_at 8 (drop (48 * n) w') (record_at (4 * n) 64 j + 52))
+      → SuperIn xs (class_no xs j).super (le_at 8 (drop (48 * n) w') (record_at (4 * n) 64 j + 24)) (le_at 8 (drop (48 * n) w') (record_at (4 * n) 64 j + 32))
   supers j g (yes z) = rw (← z) own
-  supers j g (no z) = super-same (t.tables.classes.supers j g) (other j 8 44 (omega arith) z) (other j 8 52 (omega arith) z)
+  supers j g (no z) = super-same (t.tables.classes.supers j g) (other j 8 24 (omega arith) z) (other j 8 32 (omega arith) z)
 
   pub class-linked : KeptRows s b o n xs refs w'
   class-linked = record {
@@ -161,10 +161,10 @@ module _ {s b : List ℕ} {o : Objects} {n : ℕ} {xs : List Class} {refs : List
       bytes = t.tables.bytes;
       count = t.tables.count;
       room = rw change.size t.tables.room;
-      objects = rw (kept_wider change (48 * n) (at + 60) (omega arith) (omega arith)).before t.tables.objects;
+      objects = rw (kept_wider change (48 * n) (at + 40) (omega arith) (omega arith)).before t.tables.objects;
       classes = record {
         keys = holds-column t.tables.classes.keys behind i (omega arith) (omega arith);
-        columns = λ j g. class_same (t.tables.classes.columns j g) (λ m c l u v. same j m c u v);
+        columns = λ j g. class_same (t.tables.classes.columns j g) (λ m c l u. same j m c u (inr l));
         supers = λ j g. supers j g (ℕ_discrete i j);
       };
     };
@@ -180,14 +180,14 @@ module _ {s b : List ℕ} {o : Objects} {n : ℕ} {xs : List Class} {refs : List
 
   pub class-only : SuperOnly n i w w'
   class-only =
-      let a : super_at n i ≡ at + 44 = omega arith in
-      let d : super_at n i + 16 ≡ at + 60 = omega arith in
+      let a : super_at n i ≡ at + 24 = omega arith in
+      let d : super_at n i + 16 ≡ at + 40 = omega arith in
       record { kept = rw (d, a) change }
 
   pub class_now : ClassLinked n xs i w w'
   class_now =
-      let a : super_at n i ≡ at + 44 = omega arith in
-      let d : super_at n i + 8 ≡ at + 52 = omega arith in
+      let a : super_at n i ≡ at + 24 = omega arith in
+      let d : super_at n i + 8 ≡ at + 32 = omega arith in
       let is = keeps-look (super-keeps t.tables i h place p q) t.tables.classes hash in
       record {
         found = λ j g.

@@ -152,7 +152,7 @@ pub record SomeKept (n rows : ℕ) (w : List ℕ) : Type 0 where
 
 -- where the two numbers are that class i's super is kept in
 abbrev pub super_at : ℕ → ℕ → ℕ
-super_at n i = 48 * n + record_at (4 * n) 64 i + 44
+super_at n i = 48 * n + record_at (4 * n) 64 i + 24
 
 -- a super r that is kept in (x, y) is then kept in (x', y'): as a link to its class, or as it was where it has none
 pub record LinkedAs (xs : List Class) (r : Ref) (x y x' y' : ℕ) : Type 0 where

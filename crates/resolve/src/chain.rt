@@ -71,7 +71,7 @@ fn end_of(w: &[u8], n: usize, class: Option<usize>, kept: Words, lookups: usize)
         let Some(k) = next else {
             break;
         };
-        m = words_at(w, size + record_at(4 * n, 64, k) + 44);
+        m = words_at(w, size + record_at(4 * n, 64, k) + 24);
         next = class_of(w, n, m);
     }
     if next.is_some() || m.hi != 0 || m.lo == 0 {

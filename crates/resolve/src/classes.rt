@@ -38,7 +38,8 @@ pub fn is_class(s: &[u8], w: &[u8], e: Export, limit: usize) -> bool
     objects::class::is_class(s, w, e.class, limit)
 }
 
-// Fills in the record at a place: the package's place, the export's number, the names' starts, what the super means, the path's length.
+// Fills in the record at a place: what the super means, the path's length, the package's place, the export's number, the names' starts. What chains are
+// followed by stands in its first 44 bytes, so that mostly one line of the processor's cache has it.
 fn describe(
     w: &mut [u8],
     r: usize,
@@ -53,14 +54,14 @@ fn describe(
     ensures { w.new ≡ described r at i home.place.start row.now.own.place.start (outer_start row.now) m len w.old }
 {
     let outer = row.outer.unwrap_or(row.own);
-    set32(w, r + 24, at);
-    set32(w, r + 28, i);
-    set32(w, r + 32, home.place.start);
-    set32(w, r + 36, row.own.place.start);
-    set32(w, r + 40, outer.place.start);
-    set64(w, r + 44, m.lo);
-    set64(w, r + 52, m.hi);
-    set32(w, r + 60, len);
+    set64(w, r + 24, m.lo);
+    set64(w, r + 32, m.hi);
+    set32(w, r + 40, len);
+    set32(w, r + 44, at);
+    set32(w, r + 48, i);
+    set32(w, r + 52, home.place.start);
+    set32(w, r + 56, row.own.place.start);
+    set32(w, r + 60, outer.place.start);
 }
 
 // Enters export i of the package p, which stands at a place of the corpus, as class k in n buckets, unless a class before it has its key: whether it
@@ -99,5 +100,5 @@ pub fn class_len(w: &[u8], n: usize, k: usize) -> usize
     requires { (q : ℕ) × Classes n q w.now × (k < q) }
     ensures { ((s : List ℕ) (xs : List Class) → ClassesIn s n xs w.now → k < length xs → result ≡ length (utf8 (class_no xs k).path)) × (result ≤ 393269) }
 {
-    le32_usize(w, record_at(n, 64, k) + 60)
+    le32_usize(w, record_at(n, 64, k) + 40)
 }

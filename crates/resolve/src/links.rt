@@ -19,13 +19,13 @@ fn link_class(w: &mut [u8], n: usize, i: usize)
     ensures only { SuperOnly n i w.old w.new }
 {
     let at = 48 * n + record_at(4 * n, 64, i);
-    let m = words_at(w, at + 44);
+    let m = words_at(w, at + 24);
     if m.hi == 0 {
         return;
     }
     if let Some(k) = class_at(w, n, m) {
-        set64(w, at + 44, LINKED + k as u64);
-        set64(w, at + 52, 0);
+        set64(w, at + 24, LINKED + k as u64);
+        set64(w, at + 32, 0);
     }
 }
 

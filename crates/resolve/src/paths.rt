@@ -16,12 +16,12 @@ pub fn put_class_path(out: &mut [u8], c: &[u8], w: &[u8], n: usize, k: usize) ->
     ensures { (xs : List Class) → ClassesIn c.now n xs w.now → k < length xs → Wrote out.old (utf8 (class_no xs k).path) out.new result }
 {
     let at = record_at(n, 64, k);
-    let b = Block::of(block_at(c, le32_usize(w, at + 24)));
-    let home = b.home_from(le32_usize(w, at + 32));
+    let b = Block::of(block_at(c, le32_usize(w, at + 44)));
+    let home = b.home_from(le32_usize(w, at + 52));
     let row = b.row_from(
-        le32_usize(w, at + 28),
-        le32_usize(w, at + 36),
-        le32_usize(w, at + 40),
+        le32_usize(w, at + 48),
+        le32_usize(w, at + 56),
+        le32_usize(w, at + 60),
     );
     packages::class_path::put_class_path(out, b.bytes, home, &row)
 }

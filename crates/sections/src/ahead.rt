@@ -22,8 +22,8 @@ fn byte_at(b: &[u8], at: usize) -> u32 {
 fn see_class(src: &Source, at: usize) -> u32
     requires { at + 64 ≤ length src.now.work.now }
 {
-    let package = le32_usize(src.work, at + 24);
-    let name = le32_usize(src.work, at + 32);
+    let package = le32_usize(src.work, at + 44);
+    let name = le32_usize(src.work, at + 52);
     let c = src.packages.corpus;
     byte_at(c, package + 16) ^ byte_at(c, package + 67) ^ byte_at(c, package + 12 + name)
 }

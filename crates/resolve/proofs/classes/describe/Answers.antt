@@ -15,13 +15,13 @@ unfolding described
 returns c =
     rw (
       c.set32-6.ensures,
-      c.set64-2.ensures,
-      c.set64.ensures,
       c.set32-5.ensures,
       c.set32-4.ensures,
       c.set32-3.ensures,
       c.set32-2.ensures,
       c.set32.ensures,
+      c.set64-2.ensures,
+      c.set64.ensures,
       c.unwrap_or-outer.ensures,
       start-outer c.args.row.now.own c.args.row.now.outer,
     )
