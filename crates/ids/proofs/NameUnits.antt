@@ -28,7 +28,7 @@ use Rattle.ids.specs.LoweredUnits.{lowered_unit, name_units}
 use Rattle.text.specs.UnitsLaws.{base-units, units_of-narrow}
 use Rattle.ids.specs.Id.{id_of}
 use Rattle.ids.specs.IdLaws.{name_units_lem}
-use Rattle.text.specs.UnitBytesLaws.{unit_bytes-length, unit_bytes_append, unit_bytes-take, unit_bytes-drop}
+use Rattle.text.specs.UnitBytesLaws.{unit_bytes-length, unit_bytes_append, unit_bytes-take, unit_bytes-drop, wrote-behind}
 
 module _ (wide : Bool) (part : List ℕ) (b : Bytes part) (w : is_well (decoded wide part) ≡ true) where
   -- lowering keeps the number of units
@@ -125,10 +125,7 @@ pub wrote-unit : {s o : List ℕ} {at : ℕ} (us : List ℕ) (from i : ℕ) {u :
 wrote-unit {s} {o} {at} us from i {u} e w h l =
     let k : i < length (drop from us) = simp length-drop (omega arith) in
     let is = e ∙ sym (get_or-drop from us i 0) in
-    wrote_count
-    (wrote_as (wrote-byte (wrote-byte w (omega arith) (u % 256)) (omega arith) (u / 256))
-    (rw (add-one, take-suc (drop from us) i 0 k, unit_bytes_append, append_assoc, ← is)))
-    (omega arith)
+    wrote_as (wrote-behind u w l) (rw (add-one, take-suc (drop from us) i 0 k, unit_bytes_append, ← is) refl)
 
 -- two pieces, one behind the other
 pub wrote-two : {s o p : List ℕ} {r m : ℕ} (us vs ws : List ℕ) → Wrote s (unit_bytes us) o r → Wrote (take (length o - r) (drop r o)) (unit_bytes vs) p m

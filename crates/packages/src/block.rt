@@ -62,7 +62,7 @@ pub struct Package<'a> {
 }
 
 impl<'a> Package<'a> {
-    // The block of an accepted package, whose names are noted in the room that is lent. Written out where it is called: else tiny packages take a fifth more.
+    // The block of an accepted package, whose names are noted in the room that is lent. Written out where it is called: else tiny packages take a seventh more.
     #[inline(always)]
     pub fn noted(block: Block<'a>, notes: &'a mut PackageNotes) -> Package<'a>
         ensures { result.block ≡ block.entry }

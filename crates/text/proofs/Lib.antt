@@ -1,1 +1,2 @@
 pub mod NameLoop
+mod ThreesLoop

@@ -1,8 +1,9 @@
 -- Text from a unit on: how many of its first units are ASCII, what bytes it takes, and what of them is written. What the code counts and
 -- writes. Assumes nothing.
-use Rattle.std.specs.Prelude.{◌≡◌, Bool, true, false, cond, List, [], ◌∷◌, ℕ, zero, suc, ◌+◌, ◌%◌, ◌≤◌, ◌<◌, eqb, ltb, length, take, drop}
+use Rattle.std.specs.Prelude.{◌≡◌, Bool, true, false, cond, ◌&&◌, List, [], ◌∷◌, ℕ, zero, suc, ◌+◌, ◌%◌, ◌≤◌, ◌<◌, eqb, leb, ltb, length, take, drop}
 use Rattle.base.specs.Output.{Wrote}
 use Rattle.text.specs.Utf16.{is_well, scalars, utf16}
+use Rattle.text.specs.UnitLength.{is_single}
 use Rattle.text.specs.Utf8.{utf8}
 
 -- how many of the first n units are ASCII before one that is not
@@ -19,6 +20,21 @@ beyond_front (u ∷ us) = cond (ltb u 128) 0 (suc (beyond_front us))
 -- how many units a turn takes: eight that are ASCII, or fewer and those beyond ASCII that follow them
 unfoldable pub turn_units : List ℕ → ℕ
 turn_units us = cond (eqb (ascii_front 8 us) 8) 8 (ascii_front 8 us + beyond_front (drop (ascii_front 8 us) us))
+
+-- a scalar value by itself that takes three bytes
+abbrev pub is_three : ℕ → Bool
+is_three u = leb 0x800 u && is_single u
+
+-- whether two such come first, and how many units go by in front while two do
+unfoldable pub starts_three : List ℕ → Bool
+starts_three [] = false
+starts_three (u ∷ []) = false
+starts_three (u ∷ v ∷ us) = is_three u && is_three v
+
+unfoldable pub three_front : List ℕ → ℕ
+three_front [] = 0
+three_front (u ∷ []) = 0
+three_front (u ∷ v ∷ us) = cond (is_three u && is_three v) (2 + three_front us) 0
 
 -- the low byte of each unit
 abbrev pub lows : List ℕ → List ℕ
@@ -47,6 +63,14 @@ pub record Passed (all : Bool) (us s o : List ℕ) (i j n : ℕ) : Type 0 where
   pub is : j ≡ end_of all us i
   pub within : j ≤ length us
   pub well : well_from us j ≡ true
+  pub written : Written s (bytes_from us i) o (bytes_from us j) n
+
+-- of the bytes of the units from i on, n are written, which are those of the units before the unit j: as many as are passed while two take three bytes each
+pub record Begun (us s o : List ℕ) (i j n : ℕ) : Type 0 where
+  pub is : j ≡ i + three_front (drop i us)
+  pub within : j ≤ length us
+  pub well : well_from us j ≡ true
+  pub beyond : end_of false us i ≡ end_of false us j
   pub written : Written s (bytes_from us i) o (bytes_from us j) n
 
 -- the same, where more may have been written behind the first n bytes, up to the last of x

@@ -26,9 +26,12 @@ unit_bytes-drop zero us = refl
 unit_bytes-drop (suc n) [] = rw twice
 unit_bytes-drop (suc n) (u ∷ us) = rw (twice, unit_bytes-drop n us)
 
--- one unit more behind what was written
+-- one unit more behind what was written, from any byte on, and from unit i on
+pub wrote-behind : {s x o : List ℕ} {at : ℕ} (u : ℕ) → Wrote s x o at → at + 2 ≤ length s
+    → Wrote s (x ++ u % 256 ∷ u / 256 ∷ []) (set (set o at (u % 256)) (at + 1) (u / 256)) (at + 2)
+wrote-behind {x = x} u w h =
+    wrote_count (wrote_as (wrote-byte (wrote-byte w (omega arith) (u % 256)) (omega arith) (u / 256)) (append_assoc x (u % 256 ∷ []) (u / 256 ∷ []))) (omega arith)
+
 pub wrote-one : {s x o p : List ℕ} (i u : ℕ) → Wrote s x o (2 * i) → 2 * i + 2 ≤ length s → p ≡ set (set o (2 * i) (u % 256)) (2 * i + 1) (u / 256)
     → Wrote s (x ++ u % 256 ∷ u / 256 ∷ []) p (2 * (i + 1))
-wrote-one {x = x} i u w h e =
-    rw e
-    (wrote_count (wrote_as (wrote-byte (wrote-byte w (omega arith) (u % 256)) (omega arith) (u / 256)) (append_assoc x (u % 256 ∷ []) (u / 256 ∷ []))) (omega arith))
+wrote-one i u w h e = rw e (wrote_count (wrote-behind u w h) (omega arith))

@@ -1,5 +1,5 @@
 // Names measured and written: the text of a part of a block, and an instance number.
-ghost use Rattle.std.specs.Prelude.{◌≡◌, true, ◌*◌, ◌^◌, ◌+◌, ◌≤◌, ◌<◌, length};
+ghost use Rattle.std.specs.Prelude.{◌≡◌, true, false, ◌*◌, ◌^◌, ◌+◌, ◌≤◌, ◌<◌, length};
 ghost use Rattle.base.specs.Output.{Wrote};
 ghost use Rattle.text.specs.Units.{units_in};
 ghost use Rattle.text.specs.Parts.{base_in, rendered_in};
@@ -11,6 +11,7 @@ use super::digits::{decimal_len, put_decimal};
 use super::front::{front, put_low};
 use super::measure::units_len;
 use super::text::{Part, Text};
+use super::threes::{Run, put_threes};
 use super::utf8::put_utf8;
 use super::utf16::scalar_at;
 use base::output::put_be32;
@@ -24,13 +25,6 @@ pub fn base_len(text: Text) -> usize
     ensures { (result ≡ length (utf8 (base_in text.entry.part))) × (result ≤ 4 * length text.entry.part.bytes.now) }
 {
     units_len(text.part)
-}
-
-// How far a text is written: how many bytes, and which unit is next.
-#[derive(Clone, Copy)]
-struct Run {
-    at: usize,
-    next: usize,
 }
 
 // The bytes of the units from a place on, scalar value by scalar value: of all of them, or of those before the first that is ASCII.
@@ -56,6 +50,20 @@ fn put_scalars<const ALL: bool>(out: &mut [u8], part: Part, from: usize) -> Run
     Run { at, next: i }
 }
 
+// The bytes of the units from a place on that are beyond ASCII, those of three bytes in front by two. A function of its own: names in ASCII don't come here.
+fn put_beyond(out: &mut [u8], part: Part, from: usize) -> Run
+    requires { (from ≤ length (units_in part)) × (well_from (units_in part) from ≡ true)
+        × (length (bytes_from (units_in part) from) ≤ length out.old) }
+    ensures { Passed false (units_in part.entry) out.old out.new from result.next result.at }
+{
+    let r = put_threes(out, part, from);
+    let s = put_scalars::<false>(&mut out[r.at..], part, r.next);
+    Run {
+        at: r.at + s.at,
+        next: s.next,
+    }
+}
+
 // The bytes of the units from a place on: eight that are ASCII, or fewer and what beyond ASCII follows them. Eight are written at once, which is
 // too much where fewer are ASCII; there is room, and what follows is written over it.
 fn put_turn(out: &mut [u8], part: Part, i: usize) -> Run
@@ -68,7 +76,7 @@ fn put_turn(out: &mut [u8], part: Part, i: usize) -> Run
     if k == 8 {
         return Run { at: 8, next: i + 8 };
     }
-    let r = put_scalars::<false>(&mut out[k..], part, i + k);
+    let r = put_beyond(&mut out[k..], part, i + k);
     Run {
         at: k + r.at,
         next: r.next,

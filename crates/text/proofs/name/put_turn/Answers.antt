@@ -19,14 +19,14 @@ returns-then-k-eq8 c =
     let w = units_of-words a.part.wide a.part.bytes.now a.part.fits in
     turn-eight _ a.i _ w c.requires.1 c.requires.0 c.front-k.ensures c.put_low.ensures c.if-k-eq8.true
 
-pub slice_bounds-put_scalars-count : goal.slice_bounds-put_scalars-count
-slice_bounds-put_scalars-count c =
+pub slice_bounds-put_beyond-count : goal.slice_bounds-put_beyond-count
+slice_bounds-put_beyond-count c =
     let a = c.args in
     let w = units_of-words a.part.wide a.part.bytes.now a.part.fits in
     front_fits _ a.i _ w c.requires.1 c.requires.0 c.front-k.ensures c.put_low.ensures
 
-pub slice_bounds-put_scalars-start : goal.slice_bounds-put_scalars-start
-slice_bounds-put_scalars-start c =
+pub slice_bounds-put_beyond-start : goal.slice_bounds-put_beyond-start
+slice_bounds-put_beyond-start c =
     let a = c.args in
     let w = units_of-words a.part.wide a.part.bytes.now a.part.fits in
     omega (arith, front_fits _ a.i _ w c.requires.1 c.requires.0 c.front-k.ensures c.put_low.ensures)
@@ -37,8 +37,8 @@ overflow_add-i c =
     let w = units_of-words a.part.wide a.part.bytes.now a.part.fits in
     omega (arith, units_of_bound a.part.wide a.part.bytes.now, front-within _ a.i _ w c.requires.1 c.requires.0 c.front-k.ensures)
 
-pub put_scalars-r-requires : goal.put_scalars-r-requires
-put_scalars-r-requires c =
+pub put_beyond-r-requires : goal.put_beyond-r-requires
+put_beyond-r-requires c =
     let a = c.args in
     let w = units_of-words a.part.wide a.part.bytes.now a.part.fits in
     let e = c.front-k.ensures in (
@@ -51,4 +51,4 @@ pub returns : goal.returns
 returns c =
     let a = c.args in
     let w = units_of-words a.part.wide a.part.bytes.now a.part.fits in
-    turn-fewer _ a.i _ w c.requires.1 c.requires.0 c.front-k.ensures c.put_low.ensures c.requires.2 c.if-k-eq8.false c.put_scalars-r.ensures
+    turn-fewer _ a.i _ w c.requires.1 c.requires.0 c.front-k.ensures c.put_low.ensures c.requires.2 c.if-k-eq8.false c.put_beyond-r.ensures
