@@ -1,6 +1,6 @@
 -- Laws of bytes of ASCII in a row: in well-formed bytes each is a character, and one unit as UTF-16LE. Assumes nothing.
-use Rattle.std.specs.Prelude.{◌≡◌, true, false, ◌&&◌, List, [], ◌∷◌, ◌++◌, ℕ, zero, suc, ◌+◌, ◌-◌, ◌/◌, ◌%◌, ◌≤◌, ◌<◌, leb, length, take, drop, get_or}
-use Rattle.std.proofs.Common.{sym, ap, ◌∙◌, append_assoc, add-one, arith, le-leb, leb-true, ltb-true, length-take, length-drop, take-suc, get_or-drop}
+use Rattle.std.specs.Prelude.{◌≡◌, true, false, ◌&&◌, List, [], ◌∷◌, ◌++◌, ℕ, zero, suc, ◌+◌, ◌*◌, ◌-◌, ◌/◌, ◌%◌, ◌≤◌, ◌<◌, leb, length, take, drop, get_or}
+use Rattle.std.proofs.Common.{sym, ap, ◌∙◌, append_assoc, add-one, arith, le-leb, leb-true, lt-ltb, ltb-true, length-append, length-take, length-drop, take-suc, get_or-drop}
 use Rattle.std.proofs.Math.Bool.{and-eq-true_iff}
 use Rattle.std.proofs.lemmas.Bool.{lt-leb}
 use Rattle.text.specs.UnitBytesLaws.{unit_bytes-length, unit_bytes_append}
@@ -8,24 +8,32 @@ use Rattle.text.specs.Utf16.{is_well, unit_bytes, utf16le}
 use Rattle.decode.proofs.KnownLaws.{first_1}
 use Rattle.decode.specs.Latin.{every, ascii}
 use Rattle.decode.proofs.LatinLaws.{every-next}
-use Rattle.decode.specs.Eight.{is_eight}
+use Rattle.decode.specs.Eight.{is_few, Few}
 use Rattle.decode.specs.TurnLaws.{Turn, from, text_from}
 use Rattle.decode.proofs.TurnLaws.{turn, one_unit, well-next}
-use Rattle.decode.specs.WriteLaws.{Partly}
-use Rattle.decode.proofs.WriteLaws.{partly_room, utf16le-next}
+use Rattle.decode.proofs.WriteLaws.{utf16le-next}
 
 -- ---- the test
 
-pub eight-short : (s : List ℕ) (at : ℕ) → length s - at < 8 → is_eight s at ≡ false
-eight-short s at h = rw (lt-leb (at + 8) (length s) (omega arith))
+pub few-short : (k : ℕ) (s : List ℕ) (at : ℕ) → length s - at < k → is_few k s at ≡ false
+few-short k s at h = rw (lt-leb (at + k) (length s) (omega arith))
 
-pub eight-long : (s : List ℕ) (at : ℕ) → at ≤ length s → 8 ≤ length s - at → every ascii (take 8 (drop at s)) ≡ is_eight s at
-eight-long s at h l = rw (le-leb (at + 8) (length s) (omega arith))
+pub few-long : (k : ℕ) (s : List ℕ) (at : ℕ) → at ≤ length s → k ≤ length s - at → every ascii (take k (drop at s)) ≡ is_few k s at
+few-long k s at h l = rw (le-leb (at + k) (length s) (omega arith))
 
-pub eight_is : (s : List ℕ) (at : ℕ) → is_eight s at ≡ true → (at + 8 ≤ length s) × (every ascii (take 8 (drop at s)) ≡ true)
-eight_is s at e =
-    let p = (and-eq-true_iff (leb (at + 8) (length s)) (every ascii (take 8 (drop at s)))).0 e in
-    (leb-true (at + 8) (length s) p.0, p.1)
+pub few_is : (k : ℕ) (s : List ℕ) (at : ℕ) → is_few k s at ≡ true → Few k s at
+few_is k s at e =
+    let p = (and-eq-true_iff (leb (at + k) (length s)) (every ascii (take k (drop at s)))).0 e in
+    (leb-true (at + k) (length s) p.0, p.1)
+
+-- one is, by its number
+pub one_is : (s : List ℕ) (at : ℕ) → at < length s → get_or s at 0 < 0x80 → Few 1 s at
+one_is s at h l =
+    let x = drop at s in
+    let there : 0 < length x = simp length-drop (omega arith) in
+    let z : at + 0 ≡ at = omega arith in
+    let head : get_or x 0 0 ≡ get_or s at 0 = get_or-drop at s 0 0 ∙ rw z in
+    (omega arith, every-next ascii x 0 there ∙ rw (head, lt-ltb (get_or s at 0) 0x80 l))
 
 -- ---- some bytes of ASCII
 
@@ -71,17 +79,16 @@ module _ (s : List ℕ) (at : ℕ) (ok : is_well (from s at) ≡ true) where
       let m : unit_bytes (take (suc k) x) ≡ u ++ v = units-last x k there ∙ rw g in
       (w, q.1 ∙ (ap (λ (y : List ℕ). u ++ y) n ∙ (sym (append_assoc u v r) ∙ ap (λ (y : List ℕ). y ++ r) (sym m))))
 
-  module _ (is : (at + 8 ≤ length s) × (every ascii (take 8 (drop at s)) ≡ true)) where
-    pub eight-well : is_well (from s (at + 8)) ≡ true
-    eight-well = (ascii-next 8 is.0 is.1).0
+  module _ (k : ℕ) (is : Few k s at) where
+    pub few-well : is_well (from s (at + k)) ≡ true
+    few-well = (ascii-next k is.0 is.1).0
 
-    pub eight-next : utf16le (text_from s at) ≡ unit_bytes (take 8 (drop at s)) ++ utf16le (text_from s (at + 8))
-    eight-next = (ascii-next 8 is.0 is.1).1
+    pub few-next : utf16le (text_from s at) ≡ unit_bytes (take k (drop at s)) ++ utf16le (text_from s (at + k))
+    few-next = (ascii-next k is.0 is.1).1
 
-    pub eight-room : {o x now : List ℕ} {n : ℕ} → Partly o x now (utf16le (text_from s at)) n → length x ≤ length o → 16 ≤ length (take (length now - n) (drop n now))
-    eight-room p h =
-        let r = partly_room p (unit_bytes (take 8 (drop at s))) (utf16le (text_from s (at + 8))) eight-next h in
-        omega (arith, unit_bytes-length (take 8 (drop at s)), length-take 8 (drop at s), length-drop at s)
+    pub few-room : (room : ℕ) → length (utf16le (text_from s at)) ≤ room → 2 * k ≤ room
+    few-room room h =
+        omega (arith, ap length few-next, length-append (unit_bytes (take k (drop at s))) (utf16le (text_from s (at + k))), unit_bytes-length (take k (drop at s)), length-take k (drop at s), length-drop at s)
 
 -- ---- one byte written as a unit
 

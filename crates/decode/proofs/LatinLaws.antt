@@ -1,8 +1,8 @@
 -- Laws of tests of many bytes at once, and of the one by which text fits Latin-1: it says of well-formed bytes what decoding says.
 -- Assumes nothing.
-use Rattle.std.specs.Prelude.{◌≡◌, refl, Bool, true, false, ◌&&◌, List, [], ◌∷◌, ◌++◌, ℕ, ◌+◌, ◌-◌, ◌/◌, ◌%◌, ◌≤◌, ◌<◌, ltb, length, take, drop, get_or}
-use Rattle.std.proofs.Common.{sym, ap, ◌∙◌, ⊎_elim, add-one, arith, lt-ltb, le-ltb, length-drop, take-append-drop, take-suc, take-add, take_all}
-use Rattle.std.proofs.Math.Bool.{and_assoc, and-true, and-false}
+use Rattle.std.specs.Prelude.{◌≡◌, refl, Bool, true, false, ◌&&◌, List, [], ◌∷◌, ◌++◌, ℕ, ◌+◌, ◌-◌, ◌/◌, ◌%◌, ◌≤◌, ◌<◌, ltb, leb, length, take, drop, get_or}
+use Rattle.std.proofs.Common.{sym, ap, ◌∙◌, ⊎_elim, add-one, arith, lt-ltb, le-ltb, ltb-true, leb-true, length-drop, take-append-drop, take-suc, take-add, take_all}
+use Rattle.std.proofs.Math.Bool.{and_assoc, and-true, and-false, and-eq-true_iff}
 use Rattle.base.specs.Choose.{lt_or_le}
 use Rattle.text.specs.Utf16.{is_well}
 use Rattle.text.specs.Utf8.{utf8_one, utf8, from_utf8}
@@ -25,6 +25,11 @@ module _ (p : ℕ → Bool) where
   -- k bytes more
   pub every_more : (k : ℕ) (s : List ℕ) (i : ℕ) → every p (take (i + k) s) ≡ (every p (take i s) && every p (take k (drop i s)))
   every_more k s i = ap (every p) (take-add i k s) ∙ every-both (take i s) (take k (drop i s))
+
+  -- the first one fails
+  pub every-first : (s : List ℕ) → 0 < length s → p (get_or s 0 0) ≡ false → every p s ≡ false
+  every-first [] h e = absurd (omega arith)
+  every-first (b ∷ s) h e = rw e
 
   -- k bytes of which one fails
   pub every-not : (k : ℕ) (s : List ℕ) (i : ℕ) → every p (take k (drop i s)) ≡ false → every p s ≡ false
@@ -50,6 +55,12 @@ module _ (p : ℕ → Bool) where
       go true true d = refl
       go true false d = refl
       go false b d = refl
+
+-- the first byte is there, and not below a limit
+pub starts-is : (limit : ℕ) (s : List ℕ) → (ltb 0 (length s) && leb limit (get_or s 0 0)) ≡ true → (0 < length s) × (limit ≤ get_or s 0 0)
+starts-is limit s e =
+    let p = (and-eq-true_iff (ltb 0 (length s)) (leb limit (get_or s 0 0))).0 e in
+    (ltb-true 0 (length s) p.0, leb-true limit (get_or s 0 0) p.1)
 
 -- ---- the bytes of a text
 

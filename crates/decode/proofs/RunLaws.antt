@@ -1,19 +1,24 @@
 -- Laws of four characters of two bytes or of three in a row: in well-formed bytes each first byte makes the next one a first byte too.
 -- Assumes nothing.
-use Rattle.std.specs.Prelude.{◌≡◌, refl, Bool, true, false, ◌&&◌, List, [], ◌∷◌, ◌++◌, ℕ, ◌+◌, ◌*◌, ◌-◌, ◌/◌, ◌%◌, ◌≤◌, ◌<◌, leb, length, take, drop, get_or}
-use Rattle.std.proofs.Common.{sym, ◌∙◌, le-leb, leb-true, length-drop, get_or-drop}
+use Rattle.std.specs.Prelude.{◌≡◌, refl, Bool, true, false, ◌&&◌, List, [], ◌∷◌, ◌++◌, ℕ, ◌+◌, ◌*◌, ◌-◌, ◌/◌, ◌%◌, ◌≤◌, ◌<◌, leb, length, take, drop, get_or, Some}
+use Rattle.std.proofs.Common.{sym, ap, ◌∙◌, ⊎_elim, le-leb, leb-true, length-drop, get_or-drop}
 use Rattle.std.proofs.Math.Bool.{and-eq-true_iff}
 use native.Mathlib.Omega.{arith}
 use Rattle.std.proofs.lemmas.Bool.{lt-leb}
-use Rattle.text.specs.Utf16.{is_well, utf16le}
-use Rattle.decode.specs.Chars.{Range}
+use Rattle.text.specs.Utf16.{is_well, encode_one, unit_bytes, utf16le}
+use Rattle.decode.specs.Chars.{Range, char_of, a_char}
 use Rattle.decode.proofs.TableLaws.{within-is}
-use Rattle.decode.proofs.KnownLaws.{range_2, first_2, range_3, first_3}
+use Rattle.decode.proofs.KnownLaws.{range_2, first_2, range_3, first_3, range_4, first_4}
+use Rattle.decode.proofs.CharLaws.{char-starts}
+use Rattle.decode.specs.declared.chars.Char.{Char}
+use Rattle.base.specs.Choose.{lt_or_le}
+use Rattle.text.specs.Utf8.{utf8_one}
+use Rattle.text.specs.Utf8Laws.{Sized, one, two, three, four, sized, utf8_1, utf8_2, utf8_3, utf8_4}
 use Rattle.decode.specs.TurnLaws.{Turn, from, text_from}
 use Rattle.decode.proofs.TurnLaws.{turn, well-next}
 use Rattle.decode.specs.WriteLaws.{Partly}
-use Rattle.decode.proofs.WriteLaws.{partly_room, utf16le-next, units-one}
-use Rattle.decode.specs.Run.{leads_two, two_at, leads_three, three_at, four_led, four_units, is_twos, is_run, twos_bytes, run_bytes}
+use Rattle.decode.proofs.WriteLaws.{partly_room, utf16le-next, units-one, units-two}
+use Rattle.decode.specs.Run.{leads_two, two_at, leads_three, three_at, four_at, four_led, four_units, is_twos, is_run, twos_bytes, run_bytes}
 pub use Rattle.decode.specs.RunLaws.{Kind, Led, Seconds, Leads}
 
 -- ---- one character
@@ -62,6 +67,61 @@ module _ (s : List ℕ) (at : ℕ) (h : at < length s) (ok : is_well (from s at)
     pub three-small : three_at s at < 0x10000
     unfolding three_at
     three-small = let r = three-range in omega arith
+
+  module _ (lead : 0xF0 ≤ get_or s at 0) where
+    pub four-range : Range 0xF0 0xF4 (get_or s at 0) × Range 0x80 0xBF (get_or s (at + 1) 0) × Range 0x80 0xBF (get_or s (at + 2) 0) × Range 0x80 0xBF (get_or s (at + 3) 0)
+    four-range =
+        range_4 (drop at s) some ok (get_or s at 0) head (get_or s (at + 1) 0) (sym (get_or-drop at s 1 0)) (get_or s (at + 2) 0) (sym (get_or-drop at s 2 0))
+        (get_or s (at + 3) 0) (sym (get_or-drop at s 3 0)) (omega arith)
+
+    four-first : char_of (drop at s) ≡ a_char (four_at s at) 4
+    unfolding four_at
+    four-first =
+        sym (first_4 (drop at s) some ok (get_or s at 0) head (get_or s (at + 1) 0) (sym (get_or-drop at s 1 0)) (get_or s (at + 2) 0) (sym (get_or-drop at s 2 0))
+        (get_or s (at + 3) 0) (sym (get_or-drop at s 3 0)) (omega arith) (four_at s at) refl)
+
+    pub four-turn : Turn s at (four_at s at) 4
+    four-turn = turn s at h four-first
+
+    -- no overlong form
+    four-least : 0x10000 ≤ four_at s at
+    four-least = go (sized (four_at s at))
+      where
+        size : length (utf8_one (four_at s at)) ≡ 4
+        size = (char-starts (drop at s) four-first).size
+
+        go : Sized (four_at s at) → 0x10000 ≤ four_at s at
+        go (one l) = omega (arith, ap length (utf8_1 l), size)
+        go (two l m) = omega (arith, ap length (utf8_2 l m), size)
+        go (three l m) = omega (arith, ap length (utf8_3 l m), size)
+        go (four l) = l
+
+    -- its two units by its bytes
+    pub four-high : 0xD800 + (four_at s at - 0x10000) / 0x400 ≡ 256 * get_or s at 0 + 4 * get_or s (at + 1) 0 + get_or s (at + 2) 0 / 16 - 0x1A48
+    unfolding four_at
+    four-high = let r = four-range in let l = four-least in omega arith
+
+    pub four-low : 0xDC00 + (four_at s at - 0x10000) % 0x400 ≡ 0xDB80 + 64 * (get_or s (at + 2) 0 % 16) + get_or s (at + 3) 0
+    unfolding four_at
+    four-low = let r = four-range in let l = four-least in omega arith
+
+    pub pair-room : (room : ℕ) → length (unit_bytes (encode_one (four_at s at))) ≤ room → 4 ≤ room
+    pair-room room k = omega (arith, ap length (units-two (four_at s at) four-least))
+
+    pub four-pair : (high low : ℕ) → high ≡ 256 * get_or s at 0 + 4 * get_or s (at + 1) 0 + get_or s (at + 2) 0 / 16 - 0x1A48
+        → low ≡ 0xDB80 + 64 * (get_or s (at + 2) 0 % 16) + get_or s (at + 3) 0
+        → high % 256 ∷ high / 256 ∷ low % 256 ∷ low / 256 ∷ [] ≡ unit_bytes (encode_one (four_at s at))
+    four-pair high low e f = sym (units-two (four_at s at) four-least ∙ rw (four-high, four-low, e, f))
+
+  -- a character whose first byte leads fewer is one unit
+  pub one-small : {c : Char} → char_of (drop at s) ≡ Some c → get_or s at 0 < 0xF0 → c.value < 0x10000
+  one-small {c} e l = ⊎_elim (λ (k : c.value < 0x10000). k) (λ (k : 0x10000 ≤ c.value). never-four k) (lt_or_le c.value 0x10000)
+    where
+      never-four : 0x10000 ≤ c.value → c.value < 0x10000
+      never-four k =
+          let z = char-starts (drop at s) e in
+          let g : get_or (drop at s) 0 0 ≡ 240 + c.value / 262144 = ap (λ (x : List ℕ). get_or x 0 0) (sym z.is) ∙ rw (utf8_4 k) in
+          omega (arith, head, g)
 
 pub two_kind : Kind leads_two 2 two_at
 two_kind = record { some = omega arith; few = omega arith; turns = two-turn; small = two-small }

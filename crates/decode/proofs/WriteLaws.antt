@@ -41,6 +41,10 @@ module _ {s : List ℕ} {at c k : ℕ} (t : Turn s at c k) (ok : is_well (from s
       → length (unit_bytes (encode_one c)) ≤ length (take (length now - n) (drop n now))
   utf16le-room p h = partly_room p (unit_bytes (encode_one c)) (utf16le (text_from s (at + k))) utf16le-next h
 
+-- what is left fits what is left of the buffer
+pub rest-room : {o x now rest : List ℕ} {n : ℕ} → Partly o x now rest n → length x ≤ length o → length rest ≤ length (take (length now - n) (drop n now))
+rest-room {rest = rest} p h = partly_room p rest [] (sym (append-nil rest)) h
+
 pub utf16le-last : (s : List ℕ) (at : ℕ) → length s ≤ at → utf16le (text_from s at) ≡ []
 unfolding encode16
 utf16le-last s at h = rw (last_turn s at h)

@@ -17,6 +17,10 @@ two_at s at = joined (get_or s at 0 - 0xC0) (get_or s (at + 1) 0)
 unfoldable pub three_at : List ℕ → ℕ → ℕ
 three_at s at = joined (joined (get_or s at 0 - 0xE0) (get_or s (at + 1) 0)) (get_or s (at + 2) 0)
 
+-- and of four
+unfoldable pub four_at : List ℕ → ℕ → ℕ
+four_at s at = joined (joined (joined (get_or s at 0 - 0xF0) (get_or s (at + 1) 0)) (get_or s (at + 2) 0)) (get_or s (at + 3) 0)
+
 -- the bytes of four characters of k are there from a place on, and the first of each leads
 unfoldable pub four_led : (ℕ → Bool) → ℕ → List ℕ → ℕ → Bool
 four_led lead k s at =

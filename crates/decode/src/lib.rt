@@ -4,7 +4,7 @@
 
 pub mod chars; // one character at a time
 pub mod latin; // text that fits Latin-1
-pub mod eight; // eight bytes of ASCII at once
+pub mod eight; // eight bytes of ASCII at once, or four
 pub mod step; // a few characters at once
 pub mod measure; // whether bytes are UTF-8, and how long the text is
 pub mod narrow; // text of one and two bytes a character, many bytes at a time

@@ -4,7 +4,6 @@ ghost use Rattle.text.specs.Utf8.{from_utf8};
 ghost use Rattle.decode.specs.Measure.{measured};
 
 use super::step::step_at;
-use text::plain::is_plain;
 
 // Of a text: how many units it has and whether it fits Latin-1.
 #[derive(Clone, Copy)]
@@ -13,9 +12,9 @@ pub struct Measured {
     pub latin: bool,
 }
 
-// The text of some bytes, measured a few characters at a time.
+// The text of some bytes, measured a few characters at a time, or none where they are no UTF-8.
 // Kept: `while`, since the text decides how far a turn goes: no range has such a step.
-fn by_steps(s: &[u8]) -> Option<Measured>
+pub fn measure(s: &[u8]) -> Option<Measured>
     ensures { result ≡ measured (from_utf8 s.now) }
 {
     let mut units = 0;
@@ -28,17 +27,4 @@ fn by_steps(s: &[u8]) -> Option<Measured>
         at += step.size;
     }
     Some(Measured { units, latin })
-}
-
-// The text of some bytes, measured, or none where they are no UTF-8. ASCII has a unit for each byte.
-pub fn measure(s: &[u8]) -> Option<Measured>
-    ensures { result ≡ measured (from_utf8 s.now) }
-{
-    if is_plain(s) {
-        return Some(Measured {
-            units: s.len(),
-            latin: true,
-        });
-    }
-    by_steps(s)
 }

@@ -6,8 +6,8 @@ ghost use Rattle.decode.specs.Measure.{measured};
 ghost use Rattle.decode.specs.Narrow.{wrong, Window};
 
 use super::chars::within;
+use super::latin::is_ascii;
 use super::measure::{Measured, measure};
-use text::plain::is_plain;
 
 // Of some bytes that are right: whether all are below C4, and how many end a character.
 #[derive(Clone, Copy)]
@@ -107,7 +107,7 @@ pub fn measure_at(s: &[u8], from: usize, to: usize) -> Option<Measured>
     requires { (from ≤ to) × (to ≤ length s.now) }
     ensures { result ≡ measured (from_utf8 (take (to - from) (drop from s.now))) }
 {
-    if is_plain(&s[from..to]) {
+    if is_ascii(&s[from..to]) {
         return Some(Measured {
             units: to - from,
             latin: true,

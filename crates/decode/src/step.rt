@@ -3,7 +3,7 @@ ghost use Rattle.std.specs.Prelude.{◌≡◌, cond, ◌&&◌, ◌+◌, ◌≤�
 ghost use Rattle.decode.specs.Step.{common_at, plane_at, Stepped};
 
 use super::chars::{is_common, quick_char, within};
-use super::latin::all_below;
+use super::eight::ascii_at;
 
 // How many bytes are passed, how many units they add and whether they fit Latin-1.
 #[derive(Clone, Copy)]
@@ -53,39 +53,30 @@ pub fn step_at(s: &[u8], at: usize) -> Option<Step>
     requires { at < length s.now }
     ensures { Stepped s.now at result }
 {
-    if 12 <= s.len() - at {
-        let a = s[at];
-        if a < 0x80 {
-            if all_below::<8, 0x80>(s, at) {
-                return Some(Step {
-                    size: 8,
-                    units: 8,
-                    latin: true,
-                });
-            }
-            if all_below::<4, 0x80>(s, at) {
-                return Some(Step {
-                    size: 4,
-                    units: 4,
-                    latin: true,
-                });
-            }
-        } else {
-            if are_common(s, at) {
-                return Some(Step {
-                    size: 12,
-                    units: 4,
-                    latin: false,
-                });
-            }
-            if are_plane(s, at) {
-                return Some(Step {
-                    size: 8,
-                    units: 4,
-                    latin: false,
-                });
-            }
+    let a = s[at];
+    if a < 0x80 {
+        let few = ascii_at(s, at);
+        return Some(Step {
+            size: few,
+            units: few,
+            latin: true,
+        });
+    }
+    let left = s.len() - at;
+    if a < 0xF0 {
+        if 12 <= left && are_common(s, at) {
+            return Some(Step {
+                size: 12,
+                units: 4,
+                latin: false,
+            });
         }
+    } else if 8 <= left && are_plane(s, at) {
+        return Some(Step {
+            size: 8,
+            units: 4,
+            latin: false,
+        });
     }
     let c = quick_char(s, at)?;
     Some(Step {

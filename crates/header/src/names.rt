@@ -14,9 +14,9 @@ ghost use Rattle.header.specs.Parts.{texts_fit, strings_from, TextIn, string_uni
 
 use super::little::{put_le32, put_le64};
 use base::number::be32_usize;
-use decode::latin::is_latin1;
+use decode::latin::{is_ascii, is_latin1};
 use decode::write::{put_latin1, put_utf16le};
-use text::plain::{is_plain, put_plain};
+use text::plain::put_plain;
 
 // Zeros.
 fn put_zeros(out: &mut [u8], n: usize) -> usize
@@ -42,7 +42,7 @@ fn put_string(out: &mut [u8], s: &[u8], to: usize) -> Put
         × (result.latin ≡ fits_latin1 (text_of (take to s.now))) }
 {
     let text = &s[..to];
-    if is_plain(text) {
+    if is_ascii(text) {
         put_plain(out, text);
         return Put {
             size: to,

@@ -1,13 +1,13 @@
 -- Laws of an object's text, measured and composed from its columns. Assumes nothing.
 use Rattle.std.specs.Prelude.{◌≡◌, refl, List, ◌++◌, ℕ, ◌+◌, ◌-◌, ◌*◌, ◌≤◌, ◌<◌, suc, length, take, drop, Option, Some, None}
-use Rattle.std.proofs.Common.{sym, ◌∙◌, subst, arith, length-take, length-drop}
+use Rattle.std.proofs.Common.{sym, ◌∙◌, arith, length-take, length-drop}
 use Rattle.std.proofs.Math.Path.{ap}
 use Rattle.std.proofs.Math.Option.{Option as Maybe, none, some}
 use Rattle.base.specs.Never.{never}
 use Rattle.base.specs.Number.{be_bytes}
 use Rattle.base.specs.NumberLaws.{Bytes, length-be_bytes}
 use Rattle.base.specs.Output.{Wrote}
-use Rattle.base.specs.OutputLaws.{wrote_count, wrote-front, wrote-taken}
+use Rattle.base.specs.OutputLaws.{wrote_as, wrote_count, wrote-front, wrote-rest, wrote-taken}
 use Rattle.text.specs.Name.{text_bytes}
 use Rattle.text.specs.Utf8.{utf8}
 use Rattle.batch.specs.Places.{place_at}
@@ -15,6 +15,7 @@ use Rattle.batch.specs.Holds.{name_at}
 use Rattle.batch.specs.declared.places.Place.{Place}
 use Rattle.scriptblock.specs.Script.{Objects, object_name}
 use Rattle.meaning.specs.Path.{Path}
+use Rattle.meaning.specs.Scan.{Class}
 use Rattle.objects.specs.Numbers.{entry_no, path_no}
 use Rattle.objects.specs.PathLaws.{path-up, place_no_lem, number_no_lem, outer_no}
 use Rattle.objects.specs.PathLength.{path-short}
@@ -25,7 +26,8 @@ use Rattle.objects.specs.Work.{place_of, object_no, Stands}
 use Rattle.objects.specs.WorkLaws.{name_no}
 use Rattle.objects.specs.declared.object.Object.{Object}
 use Rattle.objects.specs.declared.path.Path.{Path as Told}
-use Rattle.pool.specs.Pool.{TextOf}
+use Rattle.resolve.specs.Classes.{class_no, ClassesIn, PathRoom}
+use Rattle.pool.specs.Pool.{TextWrote, TextsOf, Leading, ClassTable, class_front}
 
 -- a path of which so much is told
 pub known-path : (x : Maybe Path) {k d : ℕ} → known k d ≡ told x → (p : Path) × (x ≡ some p) × (k ≡ length (utf8 p.text)) × (d ≡ p.depth)
@@ -82,30 +84,59 @@ module _ {b w : List ℕ} {o : Objects} {i : ℕ} {u : Object} (st : Stands b o 
 
 -- ---- composed
 
-module _ (limit : ℕ) (out : List ℕ) (long : length out ≡ 256) where
-  rest : length (take 252 (drop 4 out)) ≡ 252
+-- a text was put behind the first four bytes, and its length into these
+module _ (out : List ℕ) (long : 256 ≤ length out) where
+  rest : 252 ≤ length (take (length out - 4) (drop 4 out))
   rest = simp (length-take, length-drop) (omega arith)
 
-  module _ {b w : List ℕ} {u : Object} {k d : ℕ} {o : Objects} {i : ℕ} (st : Stands b o w i u) (q : known k d ≡ told (path_no limit o i)) (short : k ≤ 252) where
-    fits : length (path_bytes (path_no limit o i)) ≤ length (take 252 (drop 4 out))
+  pub text-wrote : (t : List ℕ) {p new : List ℕ} {k m n : ℕ} → Wrote (take (length out - 4) (drop 4 out)) (utf8 t) p n
+      → Wrote (take 4 out ++ (p ++ drop (length out - 4) (drop 4 out))) (be_bytes 4 k) new m → k ≡ length (utf8 t) → Wrote out (text_bytes t) new (m + k)
+  unfolding text_bytes
+  text-wrote t {p} {new} {k} {m} {n} w v l =
+      let four : m ≡ 4 = v.size ∙ length-be_bytes 4 k in
+      let f : Wrote out (be_bytes 4 k ++ utf8 t) new (4 + n) = wrote-front w (omega arith) (wrote_count v four) in
+      wrote_as (wrote_count f (omega (arith, w.size))) (ap (λ (x : ℕ). be_bytes 4 x ++ utf8 t) l)
+
+  -- an object's
+  module _ (limit : ℕ) {b w : List ℕ} {u : Object} {k d : ℕ} {o : Objects} {i : ℕ} (st : Stands b o w i u) (q : known k d ≡ told (path_no limit o i)) (short : k ≤ 252) where
+    fits : length (path_bytes (path_no limit o i)) ≤ length (take (length out - 4) (drop 4 out))
     fits = let (p, x, l, m) = known-path (path_no limit o i) q in rw x (omega (arith, rest))
 
-    pub compose_roomy : Roomy b w u limit (take 252 (drop 4 out))
+    pub compose_roomy : Roomy b w u limit (take (length out - 4) (drop 4 out))
     compose_roomy = record { objects = o; number = i; stands = st; room = fits }
 
-    -- the path was put behind the first four bytes, and its length into these
     pub compose_text : {p new : List ℕ} {r : Option Told} {m : ℕ}
-        → ((o : Objects) (i : ℕ) → Stands b o w i u → length (path_bytes (path_no limit o i)) ≤ length (take 252 (drop 4 out))
-        → Written (path_no limit o i) (take 252 (drop 4 out)) p r)
-        → Wrote (take 4 out ++ (p ++ drop 252 (drop 4 out))) (be_bytes 4 k) new m → TextOf (path_no limit o i) (take (m + k) new)
-    unfolding text_bytes
+        → ((o : Objects) (i : ℕ) → Stands b o w i u → length (path_bytes (path_no limit o i)) ≤ length (take (length out - 4) (drop 4 out))
+        → Written (path_no limit o i) (take (length out - 4) (drop 4 out)) p r)
+        → Wrote (take 4 out ++ (p ++ drop (length out - 4) (drop 4 out))) (be_bytes 4 k) new m → TextWrote (path_no limit o i) out new (m + k)
     compose_text {p} {new} {r} {m} put v =
         let (a, x, l, z) = known-path (path_no limit o i) q in
-        let four : m ≡ 4 = v.size ∙ length-be_bytes 4 k in
-        let w : Wrote (take 252 (drop 4 out)) (utf8 a.text) p k =
+        let w : Wrote (take (length out - 4) (drop 4 out)) (utf8 a.text) p k =
         record { size = l; fits = omega (arith, rest); is = rw x at (put o i st fits).buffer } in
-        let y : 252 ≡ length out - 4 = omega arith in
-        let f : Wrote out (be_bytes 4 k ++ utf8 a.text) new (4 + k) =
-        wrote-front (subst (λ (h : ℕ). Wrote (take h (drop 4 out)) (utf8 a.text) p k) y w) (omega arith)
-        (subst (λ (h : ℕ). Wrote (take 4 out ++ (p ++ drop h (drop 4 out))) (be_bytes 4 k) new 4) y (wrote_count v four)) in
-        record { path = a; known = x; is = rw four (wrote-taken f ∙ ap (λ (x : ℕ). be_bytes 4 x ++ utf8 a.text) l) }
+        record { path = a; known = x; wrote = text-wrote a.text w v l }
+
+  -- a class's
+  module _ {c : List ℕ} {n k : ℕ} {w : List ℕ} {class len : ℕ} (t : ClassTable c n class w) (up : class ≡ suc k)
+      (measured : (xs : List Class) → ClassesIn c n xs w → k < length xs → len ≡ length (utf8 (class_no xs k).path)) (short : len ≤ 252) where
+    pub class_roomy : PathRoom c n k w (take (length out - 4) (drop 4 out))
+    class_roomy =
+        let h : k < length t.table = omega (arith, t.inside) in
+        record { classes = t.table; holds = t.holds; inside = h; room = omega (arith, measured t.table t.holds h, rest) }
+
+    pub class_text : {p new : List ℕ} {r m : ℕ}
+        → ((xs : List Class) → ClassesIn c n xs w → k < length xs → Wrote (take (length out - 4) (drop 4 out)) (utf8 (class_no xs k).path) p r)
+        → Wrote (take 4 out ++ (p ++ drop (length out - 4) (drop 4 out))) (be_bytes 4 len) new m
+        → (xs : List Class) → ClassesIn c n xs w → class ≤ length xs → Wrote out (class_front xs class) new (m + len)
+    class_text put v xs h l = let g : k < length xs = omega arith in rw up (text-wrote (class_no xs k).path (put xs h g) v (measured xs h g))
+
+-- ---- one behind the other
+
+module _ {c b : List ℕ} {n classes : ℕ} (objects : ℕ) {class : ℕ} {w : List ℕ} {u : Object} {s o₁ p : List ℕ} {k m z : ℕ} (e : z ≡ length o₁)
+    (first : (xs : List Class) → ClassesIn c (4 * n) xs (drop (48 * n) w) → class ≤ length xs → Wrote s (class_front xs class) o₁ k)
+    (second : (o : Objects) (i : ℕ) → Stands b o (take (48 * n) w) i u → TextWrote (path_no objects o i) (take (z - k) (drop k o₁)) p m) where
+  pub both_texts : class ≤ classes → (o : Objects) (i : ℕ) (xs : List Class) → Leading c b n classes w u o i xs
+      → TextsOf xs class (path_no objects o i) (take (k + m) (take k o₁ ++ (p ++ drop (z - k) (drop k o₁))))
+  both_texts h o i xs l =
+      let v = first xs l.holds (omega (arith, l.count)) in
+      let t = second o i l.stands in
+      rw e (record { path = t.path; known = t.known; is = wrote-taken (wrote-rest v (rw e at t.wrote)) })

@@ -32,9 +32,9 @@ Links n classes w v =
     (s b : List ℕ) (o : Objects) (xs : List Class) (refs : List Ref) → Kept s b o n xs refs w → classes ≤ length xs → Kept s b o n xs refs v
 
 -- texts were kept
-abbrev pub Pools : List ℕ → ℕ → ℕ → ℕ → ℕ → List ℕ → List ℕ → Type 0
-Pools b n classes rows objects w v =
-    (c : List ℕ) (o : Objects) (xs : List Class) (lookups : ℕ) (refs : List Ref) → Resolved c b o n xs lookups refs w → length xs ≡ classes → length refs ≡ rows
+abbrev pub Pools : List ℕ → List ℕ → ℕ → ℕ → ℕ → ℕ → List ℕ → List ℕ → Type 0
+Pools c b n classes rows objects w v =
+    (o : Objects) (xs : List Class) (lookups : ℕ) (refs : List Ref) → Resolved c b o n xs lookups refs w → length xs ≡ classes → length refs ≡ rows
     → Pooled c b o n xs lookups objects refs v
 
 -- ---- what was gathered
@@ -140,9 +140,8 @@ module _ {lookups limit : ℕ} {c : List ℕ} {f : Frame} {s : List ℕ} {n : �
         (rw whole-size at h)) e)
 
   -- texts can be kept
-  pub finish_roomy : length v ≡ length w → Roomy s n t.classes t.rows w'
+  pub finish_roomy : length v ≡ length w → Roomy c s n t.classes t.rows w'
   finish_roomy e = record {
-    corpus = c;
     objects = objects;
     table = classes z.gathered;
     lookups = lookups;
@@ -155,17 +154,17 @@ module _ {lookups limit : ℕ} {c : List ℕ} {f : Frame} {s : List ℕ} {n : �
   }
 
   -- the report fits
-  ready : {w'' : List ℕ} → Pools s n t.classes t.rows limit w' w'' → Ready c s objects n (f.«end» + 4) f.count lookups limit w''
+  ready : {w'' : List ℕ} → Pools c s n t.classes t.rows limit w' w'' → Ready c s objects n (f.«end» + 4) f.count lookups limit w''
   ready p = record {
-    holds = p c objects (classes z.gathered) lookups (refs z.gathered) resolved.holds (classes-are z.gathered) (rows_are z.gathered);
+    holds = p objects (classes z.gathered) lookups (refs z.gathered) resolved.holds (classes-are z.gathered) (rows_are z.gathered);
   }
 
-  pub finish-room : {w'' : List ℕ} → Pools s n t.classes t.rows limit w' w'' → (old : List ℕ) → t.size + total ≤ 4294967299 → t.size + total ≤ length old → ReportRoom c s n (f.«end» + 4) f.count limit w'' old
+  pub finish-room : {w'' : List ℕ} → Pools c s n t.classes t.rows limit w' w'' → (old : List ℕ) → t.size + total ≤ 4294967299 → t.size + total ≤ length old → ReportRoom c s n (f.«end» + 4) f.count limit w'' old
   finish-room p old small fits =
       record { read = objects; lookups = lookups; ready = ready p; room = rw whole-size at fits; small = rw whole-size at small }
 
   -- and was put
-  pub finish-report : {w'' : List ℕ} → Pools s n t.classes t.rows limit w' w'' → {old new : List ℕ} {r : ℕ} → t.size + total ≤ 4294967299 → t.size + total ≤ length old
+  pub finish-report : {w'' : List ℕ} → Pools c s n t.classes t.rows limit w' w'' → {old new : List ℕ} {r : ℕ} → t.size + total ≤ 4294967299 → t.size + total ≤ length old
       → ((o : Objects) (k : ℕ) → Ready c s o n (f.«end» + 4) f.count k limit w''
       → length (report_at (limits_of k limit) o c (f.«end» + 4) f.count) ≤ length old
       → Wrote old (report_at (limits_of k limit) o c (f.«end» + 4) f.count) new r)

@@ -86,7 +86,7 @@ fn finish(
     if MOST < size || report.len() < size {
         return Err(Refusal::ReportRoom.at(0));
     }
-    pool_texts(c.script, w, n, t.classes, t.rows, m);
+    pool_texts(c.bytes, c.script, w, n, t.classes, t.rows, m);
     let src = Source {
         packages: c.packages(),
         script: c.script,

@@ -33,7 +33,7 @@ row_target {c} {s} {n} {w} {objects} {r} {x} {h} t =
       tables = t.tables;
       class = a.class;
       object = rw (a.outer, a.start, a.size, a.number);
-      text = subst (λ (l : Led). TextIn s n objects 0 (length w) w l) (sym e) b;
+      text = subst (λ (l : Led). TextIn c s n (length h.classes) objects 0 (length w) w l) (sym e) b;
     }
 
 -- ---- one item behind another

@@ -77,7 +77,7 @@ pub record ResolvedFrom (c s : List ℕ) (n : ℕ) (w : List ℕ) (objects r : �
   pub there : 32 * (r + length refs) ≤ length (drop (48 * n) w)
   pub targets : (k : ℕ) → k < length refs
       → TargetIn s h.objects h.classes h.lookups (drop (48 * n) w) (row_at (drop (48 * n) w) (r + k)) (get_or refs k null)
-  pub texts : (k : ℕ) → k < length refs → TextIn s n objects 0 (length w) w (led_at w (row_at w (r + k)))
+  pub texts : (k : ℕ) → k < length refs → TextIn c s n (length h.classes) objects 0 (length w) w (led_at w (row_at w (r + k)))
 
 -- and room for the bytes
 pub record Room (c s : List ℕ) (n : ℕ) (w : List ℕ) (objects r : ℕ) (refs : List Ref) (bytes out : List ℕ) (h : How) : Type 0 where

@@ -32,12 +32,12 @@ pub record Put (t : Option (List ℕ)) (old new : List ℕ) (r : Told) : Type 0 
   pub wrote : Wrote old (text_bytes (or_unknown t)) new r.size
   pub known : r.known ≡ is_some t
 
--- l is where the reference r leads, in a work buffer with these tables, and what it keeps of a text is right
+-- l is where the reference r leads, in a work buffer with these tables, and what it keeps of texts is right
 pub record Target (s b : List ℕ) (o : Objects) (n : ℕ) (xs : List Class) (lookups objects : ℕ) (w : List ℕ) (r : Ref) (l : Led) : Type 0 where
   pub tables : Tables s b o n xs w
   pub class : l.class ≡ class_number xs r
   pub object : l.object ≡ columns_of b o (object_number lookups xs o r)
-  pub text : TextIn b n objects 0 (length w) w l
+  pub text : TextIn s b n (length xs) objects 0 (length w) w l
 
 -- the class and the native class of a reference
 abbrev pub class_of : Limits → List Class → Objects → Ref → Option (List ℕ)

@@ -11,7 +11,7 @@ use Rattle.base.specs.Never.{never}
 use Rattle.base.specs.Number.{be_bytes}
 use Rattle.base.specs.NumberLaws.{be_bytes_mod, length-be_bytes}
 use Rattle.base.specs.Output.{over, Wrote}
-use Rattle.base.specs.OutputLaws.{wrote_as, wrote_count, wrote-byte, wrote-front}
+use Rattle.base.specs.OutputLaws.{wrote_as, wrote_count, wrote-byte, wrote-front, front_fits}
 use Rattle.text.specs.Utf8.{utf8}
 use Rattle.text.specs.Utf8Laws.{utf8-ascii}
 use Rattle.scriptblock.specs.Script.{Objects}
@@ -28,12 +28,12 @@ use Rattle.objects.specs.declared.object.Object.{Object}
 use Rattle.objects.specs.declared.path.Path.{Path as Told}
 use Rattle.table.specs.Words.{mid}
 use Rattle.table.specs.WordLaws.{mid-length}
-use Rattle.pool.specs.Pool.{TextOf, TextAt}
+use Rattle.pool.specs.Pool.{class_front, TextsOf}
 use Rattle.resolve.specs.Classes.{class_no}
 use Rattle.resolve.specs.Lent.{lent-part, lent_length}
 use Rattle.resolve.specs.Rows.{object_number, columns_of, path_by, limits_of}
 use Rattle.resolve.specs.RowsLaws.{class-inside, class-lost, class-found, object-inside, native-by}
-use Rattle.sections.specs.Written.{is_some, Put, Target, class_of, native_text}
+use Rattle.sections.specs.Written.{is_some, Put, Target, class_of, native_text, both_texts, BothPut}
 use Rattle.resolve.specs.declared.rows.Led.{Led}
 use Rattle.sections.specs.declared.texts.Told.{Told as Text}
 
@@ -204,32 +204,6 @@ module _ {c b : List ℕ} {o : Objects} {n : ℕ} {xs : List Class} {lookups obj
           → Put (native_text (limits_of lookups objects) xs o r) s q (record { size = 4 + y.len; known = true })
       native-found e v = rw (native-some z).1 (found-put s path_of_lem path_room written e v)
 
--- ---- the native class's text, kept in the work buffer
-
-module _ {c b : List ℕ} {o : Objects} {n : ℕ} {xs : List Class} {lookups objects : ℕ} {w : List ℕ} {r : Ref} {l : Led} (t : Target c b o n xs lookups objects w r l)
-    (z : l.size ≡ 0 → ⊥) where
-  text_at_lem : TextAt b n objects 0 (length w) w l.object l.text l.size
-  text_at_lem = t.text.kept z
-
-  text_of_lem : TextOf (path_no objects o (native-some t text_at_lem.there).0) (mid l.text l.size w)
-  text_of_lem = text_at_lem.is o (native-some t text_at_lem.there).0 (native-some t text_at_lem.there).2
-
-  native-is : native_text (limits_of lookups objects) xs o r ≡ some text_of_lem.path.text
-  native-is = (native-some t text_at_lem.there).1 ∙ ap path_text text_of_lem.known
-
-  pub kept-is : mid l.text l.size w ≡ text_bytes (or_unknown (native_text (limits_of lookups objects) xs o r))
-  kept-is = text_of_lem.is ∙ ap (λ (x : Option (List ℕ)). text_bytes (or_unknown x)) (sym native-is)
-
-  pub kept-inside : l.text + l.size ≤ length w
-  kept-inside = text_at_lem.before
-
-  pub kept-size : l.size ≡ length (text_bytes (or_unknown (native_text (limits_of lookups objects) xs o r)))
-  kept-size = sym (mid-length l.text l.size w kept-inside) ∙ ap length kept-is
-
-  pub kept_put : {s q x : List ℕ} → x ≡ mid l.text l.size w → Wrote s x q (length x)
-      → Put (native_text (limits_of lookups objects) xs o r) s q (record { size = length x; known = true })
-  kept_put e v = record { wrote = wrote_as v (e ∙ kept-is); known = ap is_some (sym native-is) }
-
 -- ---- the class
 
 module _ {c b : List ℕ} {o : Objects} {n : ℕ} {xs : List Class} {lookups objects : ℕ} {w : List ℕ} {r : Ref} {l : Led} (t : Target c b o n xs lookups objects w r l) where
@@ -244,3 +218,73 @@ module _ {c b : List ℕ} {o : Objects} {n : ℕ} {xs : List Class} {lookups obj
 
     pub class-some : class_of (limits_of lookups objects) xs o r ≡ some (class_no xs i).path
     class-some = class-found (limits_of lookups objects) xs o r i (omega (arith, t.class))
+
+-- ---- the texts, kept in the work buffer
+
+module _ {c b : List ℕ} {o : Objects} {n : ℕ} {xs : List Class} {lookups objects : ℕ} {w : List ℕ} {r : Ref} {l : Led} (t : Target c b o n xs lookups objects w r l)
+    (z : l.size ≡ 0 → ⊥) where
+  pub kept-inside : l.text + l.size ≤ length w
+  kept-inside = (t.text.kept z).before
+
+  kept-length : length (mid l.text l.size w) ≡ l.size
+  kept-length = mid-length l.text l.size w kept-inside
+
+  -- with an object: the class's text, if there is a class of the table, and the native class's
+  module _ (y : l.object.outer ≡ 0 → ⊥) where
+    texts_of_lem : TextsOf xs l.class (path_no objects o (native-some t y).0) (mid l.text l.size w)
+    texts_of_lem =
+        (t.text.kept z).is.both y o (native-some t y).0 xs (record { stands = (native-some t y).2; holds = t.tables.classes; count = refl })
+
+    native-is : native_text (limits_of lookups objects) xs o r ≡ some texts_of_lem.path.text
+    native-is = (native-some t y).1 ∙ ap path_text texts_of_lem.known
+
+    texts-are : mid l.text l.size w ≡ class_front xs l.class ++ text_bytes (or_unknown (native_text (limits_of lookups objects) xs o r))
+    texts-are = texts_of_lem.is ∙ ap (λ (x : Option (List ℕ)). class_front xs l.class ++ text_bytes (or_unknown x)) (sym native-is)
+
+  -- without one: the class's alone
+  class-alone : l.object.outer ≡ 0 → mid l.text l.size w ≡ class_front xs l.class
+  class-alone e = (t.text.kept z).is.alone e xs t.tables.classes refl
+
+  -- without a class of the table there is an object
+  module _ (q : l.class ≡ 0) where
+    there : l.object.outer ≡ 0 → ⊥
+    there e = z (sym kept-length ∙ ap length (class-alone e ∙ ap (class_front xs) q))
+
+    pub kept-is : mid l.text l.size w ≡ text_bytes (or_unknown (native_text (limits_of lookups objects) xs o r))
+    kept-is = texts-are there ∙ ap (λ (k : ℕ). class_front xs k ++ text_bytes (or_unknown (native_text (limits_of lookups objects) xs o r))) q
+
+    pub kept-size : l.size ≡ length (text_bytes (or_unknown (native_text (limits_of lookups objects) xs o r)))
+    kept-size = sym kept-length ∙ ap length kept-is
+
+    pub kept_put : {s p x : List ℕ} {k : ℕ} → x ≡ mid l.text l.size w → Wrote s x p k
+        → Put (native_text (limits_of lookups objects) xs o r) s p (record { size = k; known = true })
+    kept_put e v = record { wrote = wrote_as v (e ∙ kept-is); known = ap is_some (sym (native-is there)) }
+
+  -- with class i both texts, or its own
+  module _ {i : ℕ} (q : l.class ≡ suc i) where
+    both-are : (l.object.outer ≡ 0 → ⊥) → mid l.text l.size w ≡ both_texts (limits_of lookups objects) xs o r
+    both-are y =
+        texts-are y
+        ∙ ap (λ (k : ℕ). class_front xs k ++ text_bytes (or_unknown (native_text (limits_of lookups objects) xs o r))) q
+        ∙ ap (λ (x : Option (List ℕ)). text_bytes (or_unknown x) ++ text_bytes (or_unknown (native_text (limits_of lookups objects) xs o r)))
+        (sym (class-some t q))
+
+    own-is : l.object.outer ≡ 0 → mid l.text l.size w ≡ text_bytes (class_no xs i).path
+    own-is e = class-alone e ∙ ap (class_front xs) q
+
+    -- there is room for them where there is for all that is due
+    pub kept-fits : (m : ℕ) → length (both_texts (limits_of lookups objects) xs o r) ≤ m → l.size ≤ m
+    kept-fits m h = rw kept-length at (go (ℕ_discrete l.object.outer 0))
+      where
+        go : Dec (l.object.outer ≡ 0) → length (mid l.text l.size w) ≤ m
+        go (yes e) =
+            let x = text_bytes (or_unknown (native_text (limits_of lookups objects) xs o r)) in
+            rw (own-is e) (front_fits (text_bytes (class_no xs i).path) x m (rw (class-some t q) at h))
+        go (no y) = rw (both-are y) h
+
+    pub kept_both : (l.object.outer ≡ 0 → ⊥) → {s p x : List ℕ} {k : ℕ} → x ≡ mid l.text l.size w → Wrote s x p k
+        → BothPut (limits_of lookups objects) xs o r s p (record { size = k; class = true; native = true })
+    kept_both y e v = record { wrote = wrote_as v (e ∙ both-are y); class = ap is_some (sym (class-some t q)); native = ap is_some (sym (native-is y)) }
+
+    pub kept_own : l.object.outer ≡ 0 → {s p x : List ℕ} {k : ℕ} → x ≡ mid l.text l.size w → Wrote s x p k → Wrote s (text_bytes (class_no xs i).path) p k
+    kept_own e d v = wrote_as v (d ∙ own-is e)

@@ -1,6 +1,7 @@
-// Looking ahead. What rows are written from stands far apart: the records of their classes, the blocks of these, their exports, the texts of script
-// objects. A byte of each is read for many rows together before they are written, so that the processor waits for all of them at once and not for one
-// after the other. Nothing depends on what was read; it is stored where a note may stand, since the compiler drops what is read and not used.
+// Looking ahead. What rows are written from stands far apart: their exports, the texts that they keep, and where they keep none the records of their
+// classes and the blocks of these. A byte of each is read for many rows together before they are written, so that the processor waits for all of them
+// at once and not for one after the other. Nothing depends on what was read; it is stored where a note may stand, since the compiler drops what is read
+// and not used.
 ghost use Rattle.std.specs.Prelude.{◌+◌, ◌*◌, ◌≤◌, ◌<◌, length};
 
 use super::source::Source;
@@ -28,28 +29,26 @@ fn see_class(src: &Source, at: usize) -> u32
     byte_at(c, package + 16) ^ byte_at(c, package + 67) ^ byte_at(c, package + 12 + name)
 }
 
-// Of the text of a row's script object, where one is kept: nothing else of the work buffer was written.
-fn see_text(w: &[u8], l: Led) -> u32 {
-    if l.size == 0 {
-        return 0;
+// Of the class that a row leads to, if it leads to one.
+fn see_led(src: &Source, l: Led) -> u32 {
+    let most = src.work.len() / 64;
+    match l.class.checked_sub(1) {
+        Some(i) if i < most && src.objects < most - i => see_class(src, 64 * (src.objects + i)),
+        _ => 0,
     }
-    byte_at(w, l.text)
 }
 
-// Of what row r is written from: its export, which stands in the step of its mark, the text of its script object, and its class.
+// Of what row r is written from: its export, which stands in the step of its mark, and the texts that it keeps, or where it keeps none its class: of the
+// gap only what is kept was written.
 fn see_row(src: &Source, r: usize) -> u32
     requires { 32 * (r + 1) ≤ length src.now.work.now }
 {
-    let w = src.work;
-    let l = led_at(w, r);
-    let seen = byte_at(src.packages.corpus, 18 * mark_at(w, r) + 36) ^ see_text(w, l);
-    let most = w.len() / 64;
-    match l.class.checked_sub(1) {
-        Some(i) if i < most && src.objects < most - i => {
-            seen ^ see_class(src, 64 * (src.objects + i))
-        }
-        _ => seen,
+    let l = led_at(src.work, r);
+    let seen = byte_at(src.packages.corpus, 18 * mark_at(src.work, r) + 36);
+    if l.size == 0 {
+        return seen ^ see_led(src, l);
     }
+    seen ^ byte_at(src.work, l.text)
 }
 
 // Of what the rows from one up to another are written from.

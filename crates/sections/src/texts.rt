@@ -14,11 +14,10 @@ ghost use Rattle.resolve.specs.Rows.{limits_of};
 ghost use Rattle.sections.specs.Written.{Put, Target, native_text, both_texts, BothPut, ClassRoom, NativeRoom, BothRoom};
 
 use super::source::Source;
-use base::output::put_be32;
+use base::output::{put_be32, put_bytes};
 use objects::path::put_path;
 use resolve::paths::put_class_path;
 use resolve::rows::Led;
-use text::plain::put_plain;
 
 // A length or a count in 4 bytes: of a number beyond them its low bytes.
 pub fn put_length(out: &mut [u8], n: usize) -> usize
@@ -73,7 +72,7 @@ fn compose_native(out: &mut [u8], src: &Source, l: Led) -> Told
     }
 }
 
-// The text that a row keeps in the work buffer, if it keeps one.
+// The texts that a row keeps in the work buffer, if it keeps any: its class's, if it is of the table, then its native class's, if it leads to an object.
 fn kept_text(w: &[u8], l: Led) -> Option<&[u8]>
     requires { (l.size ≡ 0 → ⊥) → l.text + l.size ≤ length w.now }
     ensures { MatchOption result (l.size ≡ 0) (λ t. (l.size ≡ 0 → ⊥) × (t.now ≡ mid l.text l.size w.now)) }
@@ -84,9 +83,9 @@ fn kept_text(w: &[u8], l: Led) -> Option<&[u8]>
     Some(&w[l.text..l.text + l.size])
 }
 
-// The native class's text, as the row keeps it, or composed.
+// The native class's text of a row without a class of the table, as the row keeps it, or composed.
 fn put_native(out: &mut [u8], src: &Source, l: Led) -> Told
-    requires { NativeRoom src.now.script.now src.now.objects src.now.limit src.now.work.now l out.old }
+    requires { NativeRoom src.now.script.now src.now.objects src.now.limit src.now.work.now l out.old × (l.class ≡ 0) }
     ensures { (c : List ℕ) (o : Objects) (xs : List Class) (lookups : ℕ) (r : Ref)
         → Target c src.now.script.now o src.now.objects xs lookups src.now.limit src.now.work.now r l
         → length (text_bytes (or_unknown (native_text (limits_of lookups src.now.limit) xs o r))) ≤ length out.old
@@ -94,13 +93,10 @@ fn put_native(out: &mut [u8], src: &Source, l: Led) -> Told
 {
     match kept_text(src.work, l) {
         None => compose_native(out, src, l),
-        Some(text) => {
-            put_plain(out, text);
-            Told {
-                size: text.len(),
-                known: true,
-            }
-        }
+        Some(text) => Told {
+            size: put_bytes(out, text),
+            known: true,
+        },
     }
 }
 
@@ -137,10 +133,7 @@ fn put_second(out: &mut [u8], w: &[u8], l: Led, n: usize) -> usize
 {
     match kept_text(w, l) {
         None => put_again(out, n),
-        Some(text) => {
-            put_plain(&mut out[n..], text);
-            n + text.len()
-        }
+        Some(text) => n + put_bytes(&mut out[n..], text),
     }
 }
 
@@ -150,6 +143,39 @@ pub struct Texts {
     pub size: usize,
     pub class: bool,
     pub native: bool,
+}
+
+// The texts of class i of the table and of the native class: as the row keeps them, where it leads to no object the class's alone; or one after the other.
+fn put_classed(out: &mut [u8], src: &Source, i: usize, l: Led) -> Texts
+    requires { BothRoom src.now.packages.corpus.now src.now.script.now src.now.objects src.now.limit src.now.work.now l out.old × (l.class ≡ i + 1) }
+    ensures { (o : Objects) (xs : List Class) (lookups : ℕ) (r : Ref)
+        → Target src.now.packages.corpus.now src.now.script.now o src.now.objects xs lookups src.now.limit src.now.work.now r l
+        → length (both_texts (limits_of lookups src.now.limit) xs o r) ≤ length out.old
+        → BothPut (limits_of lookups src.now.limit) xs o r out.old out.new result }
+{
+    let Some(texts) = kept_text(src.work, l) else {
+        let first = put_class(out, src, i);
+        let t = compose_native(&mut out[first..], src, l);
+        return Texts {
+            size: first + t.size,
+            class: true,
+            native: t.known,
+        };
+    };
+    let first = put_bytes(out, texts);
+    if l.object.is_missing() {
+        let t = put_unknown(&mut out[first..]);
+        return Texts {
+            size: first + t.size,
+            class: true,
+            native: t.known,
+        };
+    }
+    Texts {
+        size: first,
+        class: true,
+        native: true,
+    }
 }
 
 // The texts of class and native class. Without a class of the table they are the same, and the path is worked out once.
@@ -169,14 +195,6 @@ pub fn put_both(out: &mut [u8], src: &Source, l: Led) -> Texts
                 native: t.known,
             }
         }
-        Some(i) => {
-            let first = put_class(out, src, i);
-            let t = put_native(&mut out[first..], src, l);
-            Texts {
-                size: first + t.size,
-                class: true,
-                native: t.known,
-            }
-        }
+        Some(i) => put_classed(out, src, i, l),
     }
 }

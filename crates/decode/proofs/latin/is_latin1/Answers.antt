@@ -4,15 +4,23 @@ use mathlib.Core.Bool.{true}
 use mathlib.Core.List.{List}
 use Prim.Native.Nat.{ℕ, ◌+◌, ◌*◌, ◌-◌, ◌≤◌}
 use native.Mathlib.Omega.{arith}
+use Rattle.std.proofs.Common.{le-ltb}
+use Rattle.std.specs.Prelude.{get_or}
 use lib.ListN.{length, take, drop}
 use Rattle.std.proofs.lemmas.Grind.{div_ceil_times}
 use Rattle.decode.specs.Latin.{every, low}
-use Rattle.decode.proofs.LatinLaws.{low-latin, every_more, every-not, every_cover}
+use Rattle.decode.proofs.LatinLaws.{starts-is, low-latin, every_more, every-first, every-not, every_cover}
 use Rattle.decode.proofs.latin.is_latin1.Goals as goal
 
 -- sixteen bytes more
 more : (s : List ℕ) (i : ℕ) → every low (take i s) ≡ true → every low (take 16 (drop i s)) ≡ true → every low (take (i + 16) s) ≡ true
 more s i e f = every_more low 16 s i ∙ rw (e, f)
+
+pub returns-then-starts_from : goal.returns-then-starts_from
+returns-then-starts_from c =
+    let s = c.args.s.now in
+    let f = starts-is 0xC4 s (sym c.starts_from.ensures ∙ c.if-starts_from.true) in
+    sym (sym (low-latin s c.requires) ∙ every-first low s f.0 (le-ltb (get_or s 0 0) 0xC4 f.1))
 
 pub returns-then-n-lt8 : goal.returns-then-n-lt8
 returns-then-n-lt8 c = c.are_below.ensures ∙ low-latin _ c.requires

@@ -4,11 +4,8 @@ use native.Mathlib.Omega.{arith}
 use Rattle.decode.proofs.StepLaws.{ascii-passed, four-passed, two-passed, one-passed, none_passed}
 use Rattle.decode.proofs.step.step_at.Goals as goal
 
-pub returns-then-all_below : goal.returns-then-all_below
-returns-then-all_below c = ascii-passed _ _ 8 (omega arith) (omega arith) (sym c.all_below.ensures ∙ c.if-all_below.true)
-
-pub returns-then-all_below-2 : goal.returns-then-all_below-2
-returns-then-all_below-2 c = ascii-passed _ _ 4 (omega arith) (omega arith) (sym c.all_below-then-a-lt128.ensures ∙ c.if-all_below-2.true)
+pub returns-then-a-lt128 : goal.returns-then-a-lt128
+returns-then-a-lt128 c = let f = c.ascii_at-few.ensures.passed in ascii-passed _ _ _ f.0 f.1.0 f.1.1
 
 pub returns-then-are_common : goal.returns-then-are_common
 returns-then-are_common c = four-passed _ _ (omega arith) (sym c.are_common.ensures ∙ c.if-are_common.true)

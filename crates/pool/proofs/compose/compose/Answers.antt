@@ -14,4 +14,4 @@ pub returns-clause-is : goal.returns-clause-is
 returns-clause-is c = λ o i st.
     let p = c.in_ok-path.path in
     let q : known p.len p.objects ≡ told (path_no c.args.limit o i) = sym c.in_ok-path.was ∙ c.measure.ensures o i st in
-    compose_text c.args.limit c.args.out.now c.told-out st q (omega (arith, c.if-path-gt252.false)) c.put_path.ensures c.put_be32.ensures
+    compose_text c.args.out.now c.requires.0 c.args.limit st q (omega (arith, c.if-path-gt252.false)) c.put_path.ensures c.put_be32.ensures

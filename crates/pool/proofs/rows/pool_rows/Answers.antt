@@ -15,12 +15,12 @@ pool_row-free-requires c =
         room = omega (arith, i.room, l.auto.w);
         inside = c.loop-r-test.true;
       },
-      state-stood p.holds (omega (arith, p.classes-are)) p.rows_are (omega (arith, p.room)) i.state l.r c.loop-r-test.true,
+      state-stood p.holds (omega (arith, p.classes-are)) p.rows_are (omega (arith, p.room)) p.classes-are i.state l.r c.loop-r-test.true,
     )
 
 pub returns-clause-is : goal.returns-clause-is
-returns-clause-is c = λ q o xs lookups refs t x e.
-    let i = c.loop-r.invariant in state-all t (omega arith) e (omega (arith, c.requires.room)) i.state c.loop-r-test.false (omega (arith, i.room))
+returns-clause-is c = λ o xs lookups refs t x e.
+    let i = c.loop-r.invariant in state-all t (omega arith) e (omega (arith, c.requires.room)) x i.state c.loop-r-test.false (omega (arith, i.room))
 
 pub returns-clause-marks : goal.returns-clause-marks
 returns-clause-marks c = left-marks c.args.p.now.n c.loop-r.invariant.state.left (omega (arith, c.requires.room))

@@ -8,5 +8,5 @@ abbrev pub invariant-loop-r : goal.invariant-loop-r
 invariant-loop-r l = record {
   slots : l.p.gap + 4 * l.p.slots ≤ l.free;
   room : l.free + 32 * l.p.rows ≤ length l.initial.w;
-  state : State l.p.block.now l.p.n l.p.limits.objects l.p.gap l.p.rows (l.p.gap + 4 * l.p.slots) l.free l.r l.initial.w l.w;
+  state : State l.p.corpus.now l.p.block.now l.p.n l.p.classes l.p.limits.objects l.p.gap l.p.rows (l.p.gap + 4 * l.p.slots) l.free l.r l.initial.w l.w;
 }

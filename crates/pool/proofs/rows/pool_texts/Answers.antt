@@ -12,10 +12,9 @@ pool_rows-requires c =
     let r = c.requires in
     let p = c.of-p.result in
     let e = c.of-p.ensures in
-    let l = rw e.3 at c.clear_slots.ensures in
-    let start : p.gap ≡ 64 * (c.args.n + length r.table) = omega (arith, p.behind, e.1, e.2, r.classes-are) in
-    rw (ap (λ x. x.now) e.0, e.1, e.2, e.3) (record {
-      corpus = r.corpus;
+    let l = rw e.4 at c.clear_slots.ensures in
+    let start : p.gap ≡ 64 * (c.args.n + length r.table) = omega (arith, p.behind, e.2, e.3, r.classes-are) in
+    rw (ap (λ x. x.now) e.0, ap (λ x. x.now) e.1, e.2, e.3, e.4) (record {
       objects = r.objects;
       table = r.table;
       lookups = r.lookups;
@@ -27,17 +26,17 @@ pool_rows-requires c =
     })
 
 pub returns-clause-is : goal.returns-clause-is
-returns-clause-is c = λ q o xs lookups refs t x y.
+returns-clause-is c = λ o xs lookups refs t x y.
     let p = c.of-p.result in
     let e = c.of-p.ensures in
-    let l = rw e.3 at c.clear_slots.ensures in
-    let start : p.gap ≡ 64 * (c.args.n + length xs) = omega (arith, p.behind, e.1, e.2, x) in
-    (rw (ap (λ x. x.now) e.0, e.1, e.2, e.3, e.4) at c.pool_rows.ensures.is) q o xs lookups refs
+    let l = rw e.4 at c.clear_slots.ensures in
+    let start : p.gap ≡ 64 * (c.args.n + length xs) = omega (arith, p.behind, e.2, e.3, x) in
+    (rw (ap (λ x. x.now) e.0, ap (λ x. x.now) e.1, e.2, e.3, e.4, e.5) at c.pool_rows.ensures.is) o xs lookups refs
     (left-resolved t start y (omega (arith, start, x, c.requires.room)) l) x y
 
 pub returns-clause-marks : goal.returns-clause-marks
 returns-clause-marks c =
     let p = c.of-p.result in
     let e = c.of-p.ensures in
-    let l = rw e.3 at c.clear_slots.ensures in
-    marks_then (left-marks c.args.n l (omega (arith, c.requires.room))) (rw (e.1, e.3) at c.pool_rows.ensures.marks)
+    let l = rw e.4 at c.clear_slots.ensures in
+    marks_then (left-marks c.args.n l (omega (arith, c.requires.room))) (rw (e.2, e.4) at c.pool_rows.ensures.marks)

@@ -1,23 +1,21 @@
 -- `texts::put_both` meets its contract: the native class's text twice where there is no class of the table, else the class's text before it.
 -- Assumes nothing.
 use mathlib.Core.Path.{◌≡◌, sym, ◌∙◌, ap}
-use mathlib.Core.Bool.{true}
 use mathlib.Core.List.{List, ◌++◌}
 use mathlib.Core.Option.{Option}
-use Prim.Native.Nat.{ℕ, suc, ◌+◌, ◌-◌, ◌≤◌}
+use Prim.Native.Nat.{ℕ, ◌+◌, ◌-◌, ◌≤◌}
 use native.Mathlib.Omega.{arith}
 use lib.ListN.{length, length-append}
 use Rattle.text.specs.Name.{text_bytes}
 use Rattle.base.specs.Output.{Wrote}
-use Rattle.base.specs.OutputLaws.{wrote_as, wrote-length, wrote-rest, next-room, front_fits}
+use Rattle.base.specs.OutputLaws.{wrote_as, wrote-length}
 use Rattle.scriptblock.specs.Script.{Objects}
 use Rattle.meaning.specs.Reference.{Ref}
 use Rattle.meaning.specs.Report.{or_unknown}
 use Rattle.meaning.specs.Scan.{Class}
-use Rattle.resolve.specs.Classes.{class_no}
 use Rattle.resolve.specs.Rows.{limits_of}
-use Rattle.sections.specs.Written.{is_some, Put, Target, class_of, native_text, both_texts, BothPut, ClassRoom}
-use Rattle.sections.specs.WrittenLaws.{behind, again, kept-inside, kept-size, kept-is, class_same, class_in, class-some}
+use Rattle.sections.specs.Written.{is_some, Put, Target, class_of, native_text, both_texts, BothPut}
+use Rattle.sections.specs.WrittenLaws.{kept-inside, kept-size, kept-is, class_same}
 use Rattle.resolve.specs.declared.rows.Led.{Led}
 use Rattle.sections.specs.declared.texts.Told.{Told}
 use Rattle.sections.proofs.texts.put_both.Goals as goal
@@ -50,54 +48,27 @@ module _ {c b : List ℕ} {o : Objects} {n : ℕ} {xs : List Class} {lookups obj
       native = put.known;
     }
 
-  -- the first is that of a class of the table
-  module _ {i : ℕ} (z : l.class ≡ suc i) where
-    abbrev text : List ℕ
-    text = text_bytes (class_no xs i).path
-
-    text-is : text₁ ++ text₂ ≡ text ++ text₂
-    text-is = ap (λ (x : Option (List ℕ)). text_bytes (or_unknown x) ++ text₂) (class-some t z)
-
-    both-fit : length (text ++ text₂) ≤ length out
-    both-fit = omega (arith, ap length text-is, room)
-
-    class-room : ClassRoom c n i w out
-    class-room = record { front = t.tables.room; classes = xs; holds = t.tables.classes; inside = class_in t z; room = front_fits text text₂ (length out) both-fit }
-
-    module _ {o₁ : List ℕ} {k : ℕ} (w₁ : Wrote out text o₁ k) where
-      class_end_lem : k ≤ length o₁
-      class_end_lem = omega (arith, wrote-length w₁, w₁.fits)
-
-      native-next : length text₂ ≤ length (behind k o₁)
-      native-next = next-room out text text₂ o₁ k w₁ both-fit
-
-      module _ {o₂ : List ℕ} {t₂ : Told} (put : Put (native_text (limits_of lookups objects) xs o r) (behind k o₁) o₂ t₂) where
-        both-put : BothPut (limits_of lookups objects) xs o r out (again k o₁ o₂) (record { size = k + t₂.size; class = true; native = t₂.known })
-        both-put = record {
-          wrote = wrote_as (wrote-rest w₁ put.wrote) (sym text-is);
-          class = ap is_some (sym (class-some t z));
-          native = put.known;
-        }
-
 -- what the subtraction says of the class's number
 no-class : {k : ℕ} → (1 ≤ k → ⊥) → k ≡ 0
 no-class h = omega arith
 
-one-more : {k i : ℕ} → (1 ≤ k) × (i ≡ k - 1) → k ≡ suc i
+one-more : {k i : ℕ} → (1 ≤ k) × (i ≡ k - 1) → k ≡ i + 1
 one-more h = omega arith
 
 pub put_native-t-requires : goal.put_native-t-requires
 put_native-t-requires c =
-    let r = c.requires in
-    record {
-      corpus = c.args.src.now.packages.corpus.now;
-      read = r.read;
-      classes = r.classes;
-      lookups = r.lookups;
-      ref = r.ref;
-      target = r.target;
-      room = native-fits r.target c.args.out.now r.room;
-    }
+    let r = c.requires in (
+      record {
+        corpus = c.args.src.now.packages.corpus.now;
+        read = r.read;
+        classes = r.classes;
+        lookups = r.lookups;
+        ref = r.ref;
+        target = r.target;
+        room = native-fits r.target c.args.out.now r.room;
+      },
+      no-class c.in-None.ensures,
+    )
 
 pub put_second-requires : goal.put_second-requires
 put_second-requires c =
@@ -105,54 +76,16 @@ put_second-requires c =
     let f = native-fits r.target c.args.out.now r.room in
     let put = c.put_native-t.ensures c.args.src.now.packages.corpus.now r.read r.classes r.lookups r.ref r.target f in (
       twice-fits r.target c.args.out.now r.room (no-class c.in-None.ensures) put,
-      λ ne. (kept-inside r.target ne, kept-size r.target ne ∙ sym put.wrote.size),
+      λ ne. (kept-inside r.target ne, kept-size r.target ne (no-class c.in-None.ensures) ∙ sym put.wrote.size),
     )
 
 pub returns-in-None : goal.returns-in-None
 returns-in-None c = λ o xs lookups r t room.
     let put = c.put_native-t.ensures c.args.src.now.packages.corpus.now o xs lookups r t (native-fits t c.args.out.now room) in
-    twice-put t c.args.out.now room (no-class c.in-None.ensures) put (c.put_second.ensures _ _ put.wrote (λ ne. kept-is t ne))
+    twice-put t c.args.out.now room (no-class c.in-None.ensures) put (c.put_second.ensures _ _ put.wrote (λ ne. kept-is t ne (no-class c.in-None.ensures)))
 
-pub put_class-first-requires : goal.put_class-first-requires
-put_class-first-requires c =
-    class-room c.requires.target c.args.out.now c.requires.room (one-more c.in-Some.ensures)
-
-pub slice_bounds-put_native-count : goal.slice_bounds-put_native-count
-slice_bounds-put_native-count c =
-    let r = c.requires in
-    let left = one-more c.in-Some.ensures in
-    class_end_lem r.target c.args.out.now r.room left (c.put_class-first.ensures r.classes r.target.tables.classes (class_in r.target left))
-
-pub slice_bounds-put_native-start : goal.slice_bounds-put_native-start
-slice_bounds-put_native-start c =
-    let r = c.requires in
-    let left = one-more c.in-Some.ensures in
-    class_end_lem r.target c.args.out.now r.room left (c.put_class-first.ensures r.classes r.target.tables.classes (class_in r.target left))
-
-pub put_native-t-requires-in-Some : goal.put_native-t-requires-in-Some
-put_native-t-requires-in-Some c =
-    let r = c.requires in
-    let left = one-more c.in-Some.ensures in
-    record {
-      corpus = c.args.src.now.packages.corpus.now;
-      read = r.read;
-      classes = r.classes;
-      lookups = r.lookups;
-      ref = r.ref;
-      target = r.target;
-      room = native-next r.target c.args.out.now r.room left (c.put_class-first.ensures r.classes r.target.tables.classes (class_in r.target left));
-    }
-
-pub overflow_add-result : goal.overflow_add-result
-overflow_add-result c =
-    let r = c.requires in
-    let left = one-more c.in-Some.ensures in
-    let v = c.put_class-first.ensures r.classes r.target.tables.classes (class_in r.target left) in
-    let put = c.put_native-t-in-Some.ensures c.args.src.now.packages.corpus.now r.read r.classes r.lookups r.ref r.target (native-next r.target c.args.out.now r.room left v) in
-    omega (arith, (both-put r.target c.args.out.now r.room left v put).wrote.fits)
+pub put_classed-requires : goal.put_classed-requires
+put_classed-requires c = (c.requires, one-more c.in-Some.ensures)
 
 pub returns-in-Some : goal.returns-in-Some
-returns-in-Some c = λ o xs lookups r t room.
-    let left = one-more c.in-Some.ensures in
-    let v = c.put_class-first.ensures xs t.tables.classes (class_in t left) in
-    both-put t c.args.out.now room left v (c.put_native-t-in-Some.ensures c.args.src.now.packages.corpus.now o xs lookups r t (native-next t c.args.out.now room left v))
+returns-in-Some c = c.put_classed.ensures

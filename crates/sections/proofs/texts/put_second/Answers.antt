@@ -9,8 +9,8 @@ use Rattle.sections.proofs.texts.put_second.Goals as goal
 pub kept_text-requires : goal.kept_text-requires
 kept_text-requires c = λ ne. (c.requires.1 ne).0
 
-pub put_plain-requires : goal.put_plain-requires
-put_plain-requires c =
+pub put_bytes-requires : goal.put_bytes-requires
+put_bytes-requires c =
     let l = c.args.l in
     let (ne, e) = c.in-Some.ensures in
     let k = c.requires.1 ne in
@@ -19,4 +19,4 @@ put_plain-requires c =
 pub returns-in-Some : goal.returns-in-Some
 returns-in-Some c = λ old a v f.
     let (ne, e) = c.in-Some.ensures in
-    wrote-rest v (wrote_as c.put_plain.ensures.1 (e ∙ f ne))
+    wrote-rest v (wrote_as c.put_bytes.ensures (e ∙ f ne))

@@ -1,4 +1,4 @@
--- `decode::measure::by_steps` meets its contract. The loop's invariant: the bytes are measured as what is passed, added to those from `at`
+-- `decode::measure::measure` meets its contract. The loop's invariant: the bytes are measured as what is passed, added to those from `at`
 -- on. Assumes nothing.
 use mathlib.Core.Path.{◌≡◌}
 use Prim.Native.Nat.{◌-◌, ◌≤◌}
@@ -6,7 +6,7 @@ use lib.ListN.{length, drop}
 use Rattle.text.specs.Utf8.{from_utf8}
 use Rattle.decode.specs.Measure.{measured}
 use Rattle.decode.specs.Step.{added}
-use Rattle.decode.proofs.measure.by_steps.Given as goal
+use Rattle.decode.proofs.measure.measure.Given as goal
 
 abbrev pub invariant-loop-at : goal.invariant-loop-at
 invariant-loop-at l =
