@@ -9,6 +9,7 @@ use Rattle.base.specs.NumberLaws.{Bytes, length-be_bytes}
 use Rattle.base.specs.Output.{Wrote}
 use Rattle.base.specs.OutputLaws.{wrote_as, wrote_count, wrote-front, wrote-rest, wrote-taken}
 use Rattle.text.specs.Name.{text_bytes}
+use Rattle.text.specs.NameLaws.{text_bytes-length}
 use Rattle.text.specs.Utf8.{utf8}
 use Rattle.batch.specs.Places.{place_at}
 use Rattle.batch.specs.Holds.{name_at}
@@ -27,12 +28,20 @@ use Rattle.objects.specs.WorkLaws.{name_no}
 use Rattle.objects.specs.declared.object.Object.{Object}
 use Rattle.objects.specs.declared.path.Path.{Path as Told}
 use Rattle.resolve.specs.Classes.{class_no, ClassesIn, PathRoom}
-use Rattle.pool.specs.Pool.{TextWrote, TextsOf, Leading, ClassTable, class_front}
+use Rattle.pool.specs.Pool.{TextWrote, NoShort, TextsOf, Leading, ClassTable, class_front}
 
 -- a path of which so much is told
 pub known-path : (x : Maybe Path) {k d : ℕ} → known k d ≡ told x → (p : Path) × (x ≡ some p) × (k ≡ length (utf8 p.text)) × (d ≡ p.depth)
 known-path none e = never (cc)
 known-path (some p) e = let f = known-parts e in (p, refl, f.0, f.1)
+
+-- a text that takes more than 252 bytes, and a path of which so much is told
+text-over : (t : List ℕ) {k : ℕ} → k ≡ length (utf8 t) → 252 < k → 256 < length (text_bytes t)
+text-over t e h = rw (text_bytes-length t) (omega arith)
+
+pub no_short_over : (x : Maybe Path) {k d : ℕ} → known k d ≡ told x → 252 < k → NoShort x
+no_short_over none e h = never (cc)
+no_short_over (some p) e h = let f = known-parts e in text-over p.text f.0 h
 
 -- ---- measured
 
@@ -128,6 +137,10 @@ module _ (out : List ℕ) (long : 256 ≤ length out) where
         → Wrote (take 4 out ++ (p ++ drop (length out - 4) (drop 4 out))) (be_bytes 4 len) new m
         → (xs : List Class) → ClassesIn c n xs w → class ≤ length xs → Wrote out (class_front xs class) new (m + len)
     class_text put v xs h l = let g : k < length xs = omega arith in rw up (text-wrote (class_no xs k).path (put xs h g) v (measured xs h g))
+
+-- a class whose path takes more than 252 bytes
+pub class_over : (xs : List Class) {class k len : ℕ} → class ≡ suc k → len ≡ length (utf8 (class_no xs k).path) → 252 < len → 256 < length (class_front xs class)
+class_over xs {class} {k} up e h = rw up (text-over (class_no xs k).path e h)
 
 -- ---- one behind the other
 

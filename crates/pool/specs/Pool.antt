@@ -2,8 +2,8 @@
 -- 32 of them. Row numbers stand first, by which a class or an object that came before is found again, then texts, each with its length in front: of a
 -- row with a class of the table that class's and, behind it, that of its native class, where it leads to an object; of a row without one its object's
 -- alone. A row keeps where they stand (20), and how many bytes they take (24), 0 where they aren't kept; its mark (28) stays. Assumes nothing.
-use Rattle.std.specs.Prelude.{◌≡◌, List, [], ◌++◌, ℕ, zero, suc, ◌+◌, ◌*◌, ◌-◌, ◌^◌, ◌≤◌, ◌<◌, length, take, drop, Option, Some, None, IfSome}
-use Rattle.std.proofs.Math.Option.{Option as Maybe, some}
+use Rattle.std.specs.Prelude.{◌≡◌, List, [], ◌++◌, ℕ, zero, suc, ◌+◌, ◌*◌, ◌-◌, ◌^◌, ◌≤◌, ◌<◌, length, take, drop, Option, Some, None, IfSome, ⊤}
+use Rattle.std.proofs.Math.Option.{Option as Maybe, none, some}
 use Rattle.base.specs.Output.{Wrote}
 use Rattle.text.specs.Name.{text_bytes}
 use Rattle.scriptblock.specs.Script.{Objects}
@@ -31,6 +31,11 @@ pub record TextWrote (x : Maybe Path) (old new : List ℕ) (size : ℕ) : Type 0
   pub path : Path
   pub known : x ≡ some path
   pub wrote : Wrote old (text_bytes path.text) new size
+
+-- the path is unknown, or its text with its four bytes of length takes more than 256 bytes: what may be left out
+abbrev pub NoShort : Maybe Path → Type 0
+NoShort none = ⊤
+NoShort (some p) = 256 < length (text_bytes p.text)
 
 -- what stands in front of an object's text: that of class k of xs, where `class` is k + 1, or nothing, where it is 0
 abbrev pub class_front : List Class → ℕ → List ℕ

@@ -1,5 +1,5 @@
 // The texts that a row leads to, composed: its class's from the class's record, its object's from the object's columns.
-ghost use Rattle.std.specs.Prelude.{List, ◌≡◌, ℕ, ◌^◌, ◌≤◌, ◌<◌, length, IfSome};
+ghost use Rattle.std.specs.Prelude.{List, ◌≡◌, ℕ, ◌^◌, ◌≤◌, ◌<◌, length, IfSome, IfNone};
 ghost use Rattle.base.specs.Output.{Wrote};
 ghost use Rattle.scriptblock.specs.Script.{Objects};
 ghost use Rattle.meaning.specs.Scan.{Class};
@@ -7,7 +7,7 @@ ghost use Rattle.objects.specs.Numbers.{path_no};
 ghost use Rattle.objects.specs.Told.{told};
 ghost use Rattle.objects.specs.Work.{Stands};
 ghost use Rattle.resolve.specs.Classes.{ClassesIn};
-ghost use Rattle.pool.specs.Pool.{Stood, TextWrote, ClassTable, class_front};
+ghost use Rattle.pool.specs.Pool.{Stood, TextWrote, NoShort, ClassTable, class_front};
 
 use base::output::put_be32;
 use batch::texts::place_len;
@@ -46,6 +46,7 @@ pub fn compose(out: &mut [u8], b: &[u8], w: &[u8], u: Object, limit: usize) -> O
     requires { (256 ≤ length out.old) × Stood b.now w.now u × (limit < 2 ^ 32) }
     ensures few { IfSome result (λ k. k ≤ 256) }
     ensures is { IfSome result (λ k. (o : Objects) (i : ℕ) → Stands b.now o w.now i u → TextWrote (path_no limit o i) out.old out.new k) }
+    ensures long { IfNone result ((o : Objects) (i : ℕ) → Stands b.now o w.now i u → NoShort (path_no limit o i)) }
 {
     let path = measure(b, w, u, limit)?;
     if 252 < path.len {
@@ -61,6 +62,7 @@ pub fn compose_class(out: &mut [u8], c: &[u8], w: &[u8], n: usize, class: usize)
     requires { (256 ≤ length out.old) × ClassTable c.now n class w.now }
     ensures few { IfSome result (λ k. k ≤ 256) }
     ensures is { IfSome result (λ k. (xs : List Class) → ClassesIn c.now n xs w.now → class ≤ length xs → Wrote out.old (class_front xs class) out.new k) }
+    ensures long { IfNone result ((xs : List Class) → ClassesIn c.now n xs w.now → class ≤ length xs → 256 < length (class_front xs class)) }
 {
     let Some(k) = class.checked_sub(1) else {
         return Some(0);

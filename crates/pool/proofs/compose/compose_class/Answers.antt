@@ -5,7 +5,7 @@ use Prim.Native.Nat.{ℕ, suc, ◌-◌, ◌≤◌}
 use native.Mathlib.Omega.{arith}
 use Rattle.base.specs.NumberLaws.{length-be_bytes}
 use Rattle.base.specs.OutputLaws.{wrote_none}
-use Rattle.pool.specs.ComposeLaws.{class_roomy, class_text}
+use Rattle.pool.specs.ComposeLaws.{class_over, class_roomy, class_text}
 use Rattle.pool.proofs.compose.compose_class.Goals as goal
 
 -- what the subtraction says of the class's number
@@ -27,6 +27,11 @@ class_len-len-requires c =
 pub put_class_path-requires : goal.put_class_path-requires
 put_class_path-requires c =
     class_roomy c.args.out.now c.requires.0 c.requires.1 (one-more c.in-Some.ensures) (c.class_len-len.ensures.0 c.args.c.now) c.if-len-gt252.false
+
+pub returns-then-len-gt252-clause-long : goal.returns-then-len-gt252-clause-long
+returns-then-len-gt252-clause-long c = λ xs h l.
+    let up = one-more c.in-Some.ensures in
+    class_over xs up (c.class_len-len.ensures.0 c.args.c.now xs h (omega (arith, up, l))) c.if-len-gt252.true
 
 pub returns-clause-few : goal.returns-clause-few
 returns-clause-few c = omega (arith, c.put_be32.ensures.size, length-be_bytes 4 c.class_len-len.result, c.if-len-gt252.false)
