@@ -16,7 +16,7 @@ use super::little::{put_le32, put_le64};
 use base::number::be32_usize;
 use decode::latin::{is_ascii, is_latin1};
 use decode::write::{put_latin1, put_utf16le};
-use text::plain::put_plain;
+use text::plain::put_pieces;
 
 // Zeros.
 fn put_zeros(out: &mut [u8], n: usize) -> usize
@@ -43,7 +43,7 @@ fn put_string(out: &mut [u8], s: &[u8], to: usize) -> Put
 {
     let text = &s[..to];
     if is_ascii(text) {
-        put_plain(out, text);
+        put_pieces(out, text);
         return Put {
             size: to,
             latin: true,

@@ -1,2 +1,3 @@
 pub mod NameLoop
 mod ThreesLoop
+mod Words

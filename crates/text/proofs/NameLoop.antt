@@ -60,9 +60,6 @@ module _ (wide : Bool) (part : List ℕ) (b : Bytes part) (i : ℕ) (ok : well_f
   pub read_some : {r : Option Scalar} {c : Scalar} → r ≡ scalar_of (drop i (units_of wide part)) → r ≡ Some c → Turn (units_of wide part) i c.units c.value
   read_some e q = turn_some (units_of wide part) i words ok (sym e ∙ q)
 
-pub turn-length : {us : List ℕ} {i k c : ℕ} → Turn us i k c → length (bytes_from us i) ≡ length (utf8_one c) + length (bytes_from us (i + k))
-turn-length {us} {i} {k} {c} t = ap length t.is ∙ length-append (utf8_one c) (bytes_from us (i + k))
-
 -- no turn meets a surrogate with no partner
 pub turn-ill : (us : List ℕ) (i : ℕ) → well_from us i ≡ true → i < length us → scalar_of (drop i us) ≡ None → ⊥
 turn-ill us i ok h e =
@@ -89,23 +86,30 @@ written_none {s} {x} {y} e = record { wrote = wrote_none s; left = e }
 pub written_all : {s x o rest : List ℕ} {n : ℕ} → Written s x o rest n → rest ≡ [] → Wrote s x o n
 written_all {s} {x} {o} {rest} {n} w e = wrote_as w.wrote (sym (append-nil (take n x)) ∙ rw (← e, ← w.left) (take-append-drop n x))
 
-module _ {s x o us : List ℕ} {n i k c : ℕ} (w : Written s x o (bytes_from us i) n) (t : Turn us i k c) where
-  next : drop n x ≡ utf8_one c ++ bytes_from us (i + k)
-  next = w.left ∙ t.is
+-- the next bytes y stand in front of what is still to be written
+module _ {s x o r : List ℕ} (y z : List ℕ) {n : ℕ} (w : Written s x o r n) (e : r ≡ y ++ z) where
+  -- there is room for y where there is for all of x
+  pub next-fits : length x ≤ length s → length y ≤ length (take (length o - n) (drop n o))
+  next-fits h = wrote-room w.wrote (length y) (omega (arith, w.wrote.size, length-take n x, ap length (w.left ∙ e), length-append y z, length-drop n x))
 
+  -- once y is written too, the bytes behind it are what is left
+  pub next-written : {p : List ℕ} {m : ℕ} → Wrote (take (length o - n) (drop n o)) y p m
+      → Written s x (take n o ++ (p ++ drop (length o - n) (drop n o))) z (n + m)
+  next-written {p} {m} v =
+      let l : length y ≡ m = sym v.size in
+      record {
+        wrote = wrote_as (wrote-rest w.wrote v) (sym (take-add n m x ∙ rw (w.left, e, take_at y z m l)));
+        left = sym (drop-drop m n x) ∙ rw (w.left, e, drop_at y z m l);
+      }
+
+-- so for the bytes of a turn: there is room for them, and once they are written those of the units behind it are left
+module _ {s x o us : List ℕ} {n i k c : ℕ} (w : Written s x o (bytes_from us i) n) (t : Turn us i k c) where
   pub turn-fits : length x ≤ length s → length (utf8_one c) ≤ length (take (length o - n) (drop n o))
-  turn-fits h =
-      wrote-room w.wrote (length (utf8_one c))
-      (omega (arith, w.wrote.size, length-take n x, ap length w.left, turn-length t, length-drop n x))
+  turn-fits = next-fits _ _ w t.is
 
   pub written-turn : {p : List ℕ} {m : ℕ} → Wrote (take (length o - n) (drop n o)) (utf8_one c) p m
       → Written s x (take n o ++ (p ++ drop (length o - n) (drop n o))) (bytes_from us (i + k)) (n + m)
-  written-turn {p} {m} v =
-      let l : length (utf8_one c) ≡ m = sym v.size in
-      record {
-        wrote = wrote_as (wrote-rest w.wrote v) (sym (take-add n m x ∙ rw (next, take_at (utf8_one c) (bytes_from us (i + k)) m l)));
-        left = sym (drop-drop m n x) ∙ rw (next, drop_at (utf8_one c) (bytes_from us (i + k)) m l);
-      }
+  written-turn = next-written _ _ w t.is
 
 -- ---- the units beyond ASCII
 

@@ -4,9 +4,9 @@ use mathlib.Core.Bool.{true, false}
 use mathlib.Core.List.{List, [], ◌∷◌, ◌++◌, append_assoc}
 use Prim.Native.Nat.{ℕ, zero, suc, ◌+◌, ◌-◌, ◌*◌, ◌/◌, ◌%◌, ◌≤◌, ◌<◌}
 use native.Mathlib.Omega.{arith}
-use lib.ListN.{length, take, drop, get_or, length-append, length-take, length-drop}
+use lib.ListN.{length, take, drop, get_or, length-drop, take-append-drop}
 use lib.Dec.{leb}
-use lib.Seq.{take_at, drop_at, take-add, drop-drop, drop-cons}
+use lib.Seq.{drop-cons}
 use Rattle.std.specs.Prelude.{◌&&◌}
 use Rattle.std.specs.Int.{w64, to_le_bytes}
 use Rattle.std.proofs.lemmas.Nat.{le_bytes_8}
@@ -15,7 +15,6 @@ use Rattle.std.proofs.lemmas.Bool.{leb-true}
 use Rattle.base.specs.Never.{never}
 use Rattle.base.specs.Number.{le}
 use Rattle.base.specs.Output.{Wrote}
-use Rattle.base.specs.OutputLaws.{wrote_as, wrote-rest, wrote-room}
 use Rattle.text.specs.Utf8.{utf8_one}
 use Rattle.text.specs.Utf8Laws.{utf8_3}
 use Rattle.text.specs.Units.{scalar_of}
@@ -23,7 +22,7 @@ use Rattle.text.specs.UnitsLaws.{Words, scalar-single}
 use Rattle.text.specs.UnitLength.{is_single}
 use Rattle.text.specs.UnitLengthLaws.{is_single_lem}
 use Rattle.text.specs.Front.{is_three, starts_three, three_front, bytes_from, well_from, end_of, Written, Passed, Begun}
-use Rattle.text.proofs.NameLoop.{Turn, turn_some, end_next}
+use Rattle.text.proofs.NameLoop.{Turn, turn_some, end_next, next-fits, next-written}
 use Rattle.std.specs.Prelude.{Some}
 
 -- ---- a word
@@ -152,39 +151,24 @@ module _ (us : List ℕ) (i : ℕ) (w : Words us) (ok : well_from us i ≡ true)
 two_size : {us : List ℕ} {i : ℕ} → Pair us i → length (utf8_one (get_or us i 0) ++ utf8_one (get_or us (i + 1) 0)) ≡ 6
 two_size t = rw (utf8_3 t.least t.most, utf8_3 t.least₂ t.most₂) refl
 
+-- there is room for the six bytes of two, and once they are written those of the units behind them are left
 module _ {us : List ℕ} {i : ℕ} (t : Pair us i) {s x o : List ℕ} {n : ℕ} (r : Written s x o (bytes_from us i) n) where
   abbrev two : List ℕ
   two = utf8_one (get_or us i 0) ++ utf8_one (get_or us (i + 1) 0)
 
-  rest : drop n x ≡ two ++ bytes_from us (i + 2)
-  rest = r.left ∙ t.is
-
   pub two_fit : length x ≤ length s → 6 ≤ length (take (length o - n) (drop n o))
-  two_fit h =
-      wrote-room r.wrote 6
-      (omega (arith, r.wrote.size, length-take n x, length-drop n x, ap length rest, length-append two (bytes_from us (i + 2)), two_size t))
+  two_fit h = rw (two_size t) at (next-fits two _ r t.is h)
 
   pub two_written : {p : List ℕ} → Wrote (take (length o - n) (drop n o)) two p 6
       → Written s x (take n o ++ (p ++ drop (length o - n) (drop n o))) (bytes_from us (i + 2)) (n + 6)
-  two_written {p} y = record {
-    wrote = wrote_as (wrote-rest r.wrote y) (sym (take-add n 6 x ∙ rw (rest, take_at two (bytes_from us (i + 2)) 6 (two_size t))));
-    left = sym (drop-drop 6 n x) ∙ rw (rest, drop_at two (bytes_from us (i + 2)) 6 (two_size t));
-  }
+  two_written = next-written _ _ r t.is
 
 -- ---- what is written behind them
 
+-- the rest beyond ASCII is passed and written behind those that take three bytes: so all beyond ASCII is
 module _ {us s o : List ℕ} {i j n : ℕ} (b : Begun us s o i j n) where
   pub begun_passed : {p : List ℕ} {k m : ℕ} → Passed false us (take (length o - n) (drop n o)) p j k m
       → Passed false us s (take n o ++ (p ++ drop (length o - n) (drop n o))) i k (n + m)
   begun_passed {p} {k} {m} v =
-      let x = bytes_from us i in
-      let e = b.written.left in
-      record {
-        is = v.is ∙ sym b.beyond;
-        within = v.within;
-        well = v.well;
-        written = record {
-          wrote = wrote_as (wrote-rest b.written.wrote v.written.wrote) (sym (take-add n m x ∙ rw e refl));
-          left = sym (drop-drop m n x) ∙ rw e v.written.left;
-        };
-      }
+      let e : bytes_from us j ≡ take m (bytes_from us j) ++ bytes_from us k = rw (← v.written.left) (sym (take-append-drop m (bytes_from us j))) in
+      record { is = v.is ∙ sym b.beyond; within = v.within; well = v.well; written = next-written _ _ b.written e v.written.wrote }

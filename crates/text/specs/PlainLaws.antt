@@ -1,6 +1,8 @@
 -- Laws of one-byte text that is ASCII: the test by bits, byte by byte, and what is written for it. Assumes nothing.
 use Rattle.std.specs.Prelude.{◌≡◌, refl, Bool, true, false, ◌&&◌, List, [], ◌∷◌, ◌++◌, ℕ, zero, suc, ◌+◌, ◌*◌, ◌-◌, ◌/◌, ◌^◌, ◌≤◌, ◌<◌, eqb, ltb, length, take, drop, get_or}
-use Rattle.std.proofs.Common.{sym, ◌∙◌, ap, add-one, arith, lt-ltb, le-ltb, ltb-true, ltb-false, ne_eqb, eqb-true, length-append, length-drop, take-append-drop, take-suc, take-add, take_all, drop-drop, length-take-le}
+use Rattle.std.proofs.Common.{sym, ◌∙◌, ap, arith, lt-ltb, le-ltb, ltb-true, ltb-false, ne_eqb, eqb-true, length-append, length-drop, take-append-drop, take-add, take_all, drop-drop, length-take-le}
+use Rattle.std.proofs.Math.Seq.{paste, take-take, take-length}
+use Rattle.base.specs.NumberLaws.{drop-take}
 use Rattle.std.proofs.lemmas.Bool.{eqb-false}
 use Rattle.std.specs.Int.Bits.{bit_and, bit_or, or_add_and}
 use Rattle.std.specs.List.{fold}
@@ -15,7 +17,7 @@ use Rattle.text.specs.Plain.{is_copy, Copied}
 use Rattle.base.specs.Number.{le, le_at}
 use Rattle.base.specs.NumberLaws.{Bytes, bytes-part, le_at-is}
 use Rattle.base.specs.Output.{over, Wrote}
-use Rattle.base.specs.OutputLaws.{drop-over, wrote-length}
+use Rattle.base.specs.OutputLaws.{drop-over, wrote-length, wrote_none, wrote-paste, wrote_as, wrote_count}
 use Rattle.text.specs.Name.{decoded, base}
 use Rattle.text.specs.Utf8.{utf8_one, utf8}
 use Rattle.text.specs.Utf8Laws.{Sized, one, two, three, four, sized, utf8_1, utf8_2, utf8_3, utf8_4, utf8-ascii}
@@ -44,13 +46,6 @@ and-true : (b : Bool) → (b && true) ≡ b
 and-true true = refl
 and-true false = refl
 
-ascii-last : (s : List ℕ) (x : ℕ) → all_ascii (s ++ x ∷ []) ≡ (all_ascii s && ltb x 128)
-ascii-last s x = ascii-both s (x ∷ []) ∙ rw (and-true (ltb x 128))
-
--- one byte more, or one unit
-pub ascii-next : (s : List ℕ) (i all : ℕ) → i < length s → ltb all 128 ≡ all_ascii (take i s) → ltb (bit_or all (get_or s i 0)) 128 ≡ all_ascii (take (i + 1) s)
-ascii-next s i all h e = or_ascii all (get_or s i 0) ∙ rw (add-one i, take-suc s i 0 h, ascii-last (take i s) (get_or s i 0), e)
-
 -- of the bits of all bytes together
 pub fold-ascii : (s : List ℕ) (a : ℕ) → ltb (fold bit_or a s) 128 ≡ (ltb a 128 && all_ascii s)
 fold-ascii [] a = sym (and-true (ltb a 128))
@@ -70,10 +65,10 @@ pub ascii_told : (s : List ℕ) (b : Bool) → MatchBool b (IsAscii s) (IsNotAsc
 ascii_told s true a = sym (ascii-yes s a)
 ascii_told s false a = sym (ascii_no s a.0 a.1)
 
--- ---- the test, eight bytes a turn
+-- ---- the test, a word of bytes at once
 
 -- the highest bit of each of n bytes
-abbrev marks : ℕ → ℕ
+abbrev pub marks : ℕ → ℕ
 marks zero = 0
 marks (suc n) = marks n * 256 + 128
 
@@ -103,11 +98,11 @@ marks-ascii (x ∷ l) b =
     rw (e, and_block 8 (le l) (marks (length l)) x 128 (b zero) (omega arith))
     (byte-ascii x (bit_and (le l) (marks (length l))) (b zero) ∙ rw (marks-ascii l (λ i. b (suc i))))
 
--- the eight bytes from a place on
-pub word-ascii : (s : List ℕ) (i : ℕ) → Bytes s → i + 8 ≤ length s → eqb (bit_and (le_at 8 s i) 0x8080808080808080) 0 ≡ all_ascii (take 8 (drop i s))
-word-ascii s i b h =
-    let e : length (take 8 (drop i s)) ≡ 8 = length-take-le 8 (drop i s) (simp length-drop (omega arith)) in
-    rw (le_at-is 8 s i) (rw e at (marks-ascii (take 8 (drop i s)) (bytes-part 8 i s b)))
+-- the k bytes from a place on
+pub word-ascii : (k : ℕ) (s : List ℕ) (i : ℕ) → Bytes s → i + k ≤ length s → eqb (bit_and (le_at k s i) (marks k)) 0 ≡ all_ascii (take k (drop i s))
+word-ascii k s i b h =
+    let e : length (take k (drop i s)) ≡ k = length-take-le k (drop i s) (simp length-drop (omega arith)) in
+    rw (le_at-is k s i) (rw e at (marks-ascii (take k (drop i s)) (bytes-part k i s b)))
 
 -- k bytes more, by whether they are
 pub ascii_more : (k : ℕ) (s : List ℕ) (i : ℕ) → all_ascii (take (i + k) s) ≡ (all_ascii (take i s) && all_ascii (take k (drop i s)))
@@ -135,7 +130,34 @@ ascii_cover k s i last e h =
     go true false d = refl
     go false b d = refl
 
+-- k more, some of which may be among those before
+ascii_join : (k : ℕ) (s : List ℕ) (i at : ℕ) → at ≤ i → i ≤ at + k → at + k ≤ length s
+    → (all_ascii (take i s) && all_ascii (take k (drop at s))) ≡ all_ascii (take (at + k) s)
+ascii_join k s i at l m h =
+    let x = take (at + k) s in
+    let e : at + k ≡ length x = sym (length-take-le (at + k) s h) in
+    let front : take i x ≡ take i s = take-take i (at + k) s m in
+    let j : at + k - at ≡ k = omega arith in
+    let back : take k (drop at x) ≡ take k (drop at s) = rw (drop-take at (at + k) s, j) (take-take k k (drop at s) (omega arith)) in
+    rw (front, back) at (ascii_cover k x i at e l)
+
+-- all of them, by k at each of four places, the first and the last k among them
+pub ascii_four : (k : ℕ) (s : List ℕ) (a b last : ℕ) → a ≤ k → a ≤ b → b ≤ a + k → b ≤ last → last ≤ b + k → last + k ≡ length s
+    → (((all_ascii (take k s) && all_ascii (take k (drop a s))) && all_ascii (take k (drop b s))) && all_ascii (take k (drop last s))) ≡ all_ascii s
+ascii_four k s a b last f g h i j e =
+    rw (ascii_join k s k a f (omega arith) (omega arith), ascii_join k s (a + k) b h (omega arith) (omega arith)) (ascii_cover k s (b + k) last e j)
+
 -- ---- what is written
+
+-- all of x was stored, by k at each of four places, the first and the last k among them
+pub wrote_four : (k : ℕ) (x s : List ℕ) (a b last : ℕ) → a ≤ k → a ≤ b → b ≤ a + k → b ≤ last → last ≤ b + k → last + k ≡ length x → length x ≤ length s
+    → Wrote s x (paste (paste (paste (paste s 0 x k) a (drop a x) k) b (drop b x) k) last (drop last x) k) (length x)
+wrote_four k x s a b last f g h i j e r =
+    let p = wrote-paste x 0 k (wrote_none s) (omega arith) (omega arith) (omega arith) (omega arith) in
+    let q = wrote-paste x a k p (omega arith) (omega arith) (omega arith) (omega arith) in
+    let t = wrote-paste x b k q h (omega arith) (omega arith) (omega arith) in
+    let v = wrote-paste x last k t j (omega arith) (omega arith) (omega arith) in
+    wrote_count (wrote_as v (rw (e, take-length))) e
 
 -- ASCII is its own UTF-8
 pub plain-bytes : (part : List ℕ) → all_ascii part ≡ true → utf8 (base false part) ≡ part

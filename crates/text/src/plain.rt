@@ -11,7 +11,7 @@ ghost use Rattle.text.specs.Parts.{base_in, rendered_in};
 use super::name;
 use super::name::{put_suffix, suffix_len};
 use super::text::{Part, Text};
-use base::number::le64;
+use base::number::{le32, le64};
 use base::output::{put_be32, put_bytes};
 
 // Whether the eight bytes from a place on are ASCII: none of them has its highest bit set.
@@ -30,28 +30,58 @@ fn is_pair(part: &[u8], i: usize) -> bool
     is_word(part, i) & is_word(part, i + 8)
 }
 
-// Whether a few bytes are all ASCII.
-fn is_short(part: &[u8]) -> bool
+// Whether the four bytes from a place on are ASCII.
+fn is_half(part: &[u8], i: usize) -> bool
+    requires { i + 4 ≤ length part.now }
+    ensures { result ≡ all_ascii (take 4 (drop i part.now)) }
+{
+    le32(part, i) & 0x8080_8080 == 0
+}
+
+// Whether up to three bytes are all ASCII.
+fn is_tiny(part: &[u8]) -> bool
     ensures { result ≡ all_ascii part.now }
 {
     part.iter().fold(0, |all, b| all | *b) < 128
 }
 
-// Whether bytes are all ASCII, by the first and the last of them, which may have some in common: eight each up to 16 bytes, sixteen each from there.
+// Whether up to seven bytes are all ASCII: from four on by the first four and the last four, which may have some in common.
+fn is_short(part: &[u8]) -> bool
+    requires { length part.now < 8 }
+    ensures { result ≡ all_ascii part.now }
+{
+    let n = part.len();
+    if n < 4 {
+        return is_tiny(part);
+    }
+    is_half(part, 0) & is_half(part, n - 4)
+}
+
+// Whether eight bytes to 32 are all ASCII: by eight at each of four places, of which some may have bytes in common.
 fn is_ends(part: &[u8]) -> bool
     requires { (8 ≤ length part.now) × (length part.now ≤ 32) }
     ensures { result ≡ all_ascii part.now }
 {
-    let n = part.len();
-    if n < 16 {
-        return is_word(part, 0) & is_word(part, n - 8);
-    }
-    is_pair(part, 0) & is_pair(part, n - 16)
+    let last = part.len() - 8;
+    is_word(part, 0)
+        & is_word(part, last.min(8))
+        & is_word(part, last.min(16))
+        & is_word(part, last)
 }
 
-// Whether bytes are all ASCII.
-// Kept: up to 32 bytes by hand, beside the library's `is_ascii`, which has loops for them: it takes 12.3 ns at 1 to 7 bytes where this takes 6.3, 4.2 at 12
-// where this takes 2.7, and 5.5 at 5 to 30 where this takes 4.3.
+// Whether 32 bytes to 64 are all ASCII: by the first and the last 32.
+fn is_long(part: &[u8]) -> bool
+    requires { (32 ≤ length part.now) × (length part.now ≤ 64) }
+    ensures { result ≡ all_ascii part.now }
+{
+    let last = part.len() - 16;
+    is_pair(part, 0) & is_pair(part, 16) & is_pair(part, last.min(32)) & is_pair(part, last)
+}
+
+// Whether bytes are all ASCII. Written out where it is called, so that `put_plain` and what measures names have no call in them.
+// Kept: up to 64 bytes by hand, beside the library's `is_ascii`, which has a loop below eight bytes, and from there tests the same words with a branch more: a
+// copy of it in place of `is_ends` and `is_long` took 1.03 of the time in reports, 1.08 in headers of a corpus's names, 1.2 of short ASCII names.
+#[inline(always)]
 pub fn is_plain(part: &[u8]) -> bool
     ensures { result ≡ all_ascii part.now }
 {
@@ -61,6 +91,9 @@ pub fn is_plain(part: &[u8]) -> bool
     }
     if n <= 32 {
         return is_ends(part);
+    }
+    if n <= 64 {
+        return is_long(part);
     }
     part.is_ascii()
 }
@@ -84,51 +117,89 @@ fn put_sixteen(out: &mut [u8], src: &[u8], at: usize)
     put_eight(out, src, at + 8);
 }
 
-// A few bytes, and whether they are all ASCII.
-// Kept: a loop by hand: `put_bytes(out, part); is_short(part)` was proved, but copies a length that isn't known by a call, and with it names of 1 to 7 bytes
-// were measured and written in 24.8 ns for 19.7.
-fn put_short(out: &mut [u8], part: &[u8]) -> bool
-    requires { length part.now ≤ length out.old }
-    ensures { (result ≡ all_ascii part.now) × Wrote out.old part.now out.new (length part.now) }
+// The four bytes of src from a place on, to the same place, as one word.
+fn put_half(out: &mut [u8], src: &[u8], at: usize)
+    requires { (at + 4 ≤ length src.now) × (at + 4 ≤ length out.old) }
+    ensures { out.new ≡ paste out.old at (drop at src.now) 4 }
 {
-    let mut all: u8 = 0;
-    for (i, b) in part.iter().enumerate() {
-        out[i] = *b;
-        all |= *b;
-    }
-    all < 128
+    out[at..at + 4].copy_from_slice(&le32(src, at).to_le_bytes());
 }
 
-// Bytes, the first and the last of them, which may have some in common: eight each up to 16 bytes, sixteen each from there.
+// Up to three bytes.
+// Kept: a loop by hand: the library copies a length that isn't known by a call.
+fn put_tiny(out: &mut [u8], part: &[u8])
+    requires { length part.now ≤ length out.old }
+    ensures { Wrote out.old part.now out.new (length part.now) }
+{
+    for (i, b) in part.iter().enumerate() {
+        out[i] = *b;
+    }
+}
+
+// Up to seven bytes: from four on the first four and the last four, which may have some in common.
+fn put_short(out: &mut [u8], part: &[u8])
+    requires { (length part.now < 8) × (length part.now ≤ length out.old) }
+    ensures { Wrote out.old part.now out.new (length part.now) }
+{
+    let n = part.len();
+    if n < 4 {
+        put_tiny(out, part);
+        return;
+    }
+    put_half(out, part, 0);
+    put_half(out, part, n - 4);
+}
+
+// Eight bytes to 32, by eight at each of four places, of which some may have bytes in common.
 fn put_ends(out: &mut [u8], part: &[u8])
     requires { (8 ≤ length part.now) × (length part.now ≤ 32) × (length part.now ≤ length out.old) }
     ensures { Wrote out.old part.now out.new (length part.now) }
 {
-    let n = part.len();
-    if n < 16 {
-        put_eight(out, part, 0);
-        put_eight(out, part, n - 8);
-        return;
-    }
-    put_sixteen(out, part, 0);
-    put_sixteen(out, part, n - 16);
+    let last = part.len() - 8;
+    put_eight(out, part, 0);
+    put_eight(out, part, last.min(8));
+    put_eight(out, part, last.min(16));
+    put_eight(out, part, last);
 }
 
-// Bytes, and whether they are all ASCII: up to 32 by hand, as in `is_plain`.
-pub fn put_plain(out: &mut [u8], part: &[u8]) -> bool
+// 32 bytes to 64: the first and the last 32.
+fn put_long(out: &mut [u8], part: &[u8])
+    requires { (32 ≤ length part.now) × (length part.now ≤ 64) × (length part.now ≤ length out.old) }
+    ensures { Wrote out.old part.now out.new (length part.now) }
+{
+    let last = part.len() - 16;
+    put_sixteen(out, part, 0);
+    put_sixteen(out, part, 16);
+    put_sixteen(out, part, last.min(32));
+    put_sixteen(out, part, last);
+}
+
+// Bytes: up to 64 by hand, since the library's copy is a call, which takes longer than they do. Written out where it is called, as `is_plain`.
+#[inline(always)]
+pub fn put_pieces(out: &mut [u8], part: &[u8])
     requires { length part.now ≤ length out.old }
-    ensures { (result ≡ all_ascii part.now) × Wrote out.old part.now out.new (length part.now) }
+    ensures { Wrote out.old part.now out.new (length part.now) }
 {
     let n = part.len();
     if n < 8 {
-        return put_short(out, part);
-    }
-    if n <= 32 {
+        put_short(out, part);
+    } else if n <= 32 {
         put_ends(out, part);
-        return is_ends(part);
+    } else if n <= 64 {
+        put_long(out, part);
+    } else {
+        put_bytes(out, part);
     }
-    put_bytes(out, part);
-    part.is_ascii()
+}
+
+// Bytes, and whether they are all ASCII. A function of its own: where the compiler writes it out in each that writes a name, reports take 1.03 of the time.
+#[inline(never)]
+fn put_plain(out: &mut [u8], part: &[u8]) -> bool
+    requires { length part.now ≤ length out.old }
+    ensures { (result ≡ all_ascii part.now) × Wrote out.old part.now out.new (length part.now) }
+{
+    put_pieces(out, part);
+    is_plain(part)
 }
 
 // Kept: that a text has less than 2^32 bytes is a `requires` of the few functions that count or hash it: `Text` is public, and as a ghost field of it this

@@ -17,14 +17,14 @@ latin c = sym c.is_latin1.ensures ∙ c.if-is_latin1.true
 wide : (c : Else-is_latin1) → let a = c.args in fits_latin1 (text_of (take a.to a.s.now)) ≡ false
 wide c = sym c.is_latin1.ensures ∙ c.if-is_latin1.false
 
-pub put_plain-requires : goal.put_plain-requires
-put_plain-requires c =
+pub put_pieces-requires : goal.put_pieces-requires
+put_pieces-requires c =
     plain-room (take c.args.to c.args.s.now) _ c.is_ascii.ensures c.if-is_ascii.true _ c.requires.2
 
 pub returns-then-is_ascii : goal.returns-then-is_ascii
 returns-then-is_ascii c =
     let e = length-take-le c.args.to c.args.s.now c.requires.0 in
-    rw e at (plain-put (take c.args.to c.args.s.now) _ c.is_ascii.ensures c.if-is_ascii.true c.put_plain.ensures.1)
+    rw e at (plain-put (take c.args.to c.args.s.now) _ c.is_ascii.ensures c.if-is_ascii.true c.put_pieces.ensures)
 
 pub put_latin1-size-requires : goal.put_latin1-size-requires
 put_latin1-size-requires c =

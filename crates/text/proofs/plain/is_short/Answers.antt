@@ -1,12 +1,13 @@
--- `plain::is_short` meets its contract: the bits of all bytes together are below 128 where each byte is. Assumes nothing.
+-- `plain::is_short` meets its contract. Assumes nothing.
 use mathlib.Core.Path.{◌≡◌}
-use borrow.Author.Rules.{rules}
-use Rattle.std.specs.Int.Bits.{bit_or}
-use Rattle.std.specs.List.{fold}
-use Rattle.text.specs.PlainLaws.{fold-ascii}
+use Prim.Native.Nat.{◌+◌, ◌-◌}
+use native.Mathlib.Omega.{arith}
+use lib.ListN.{length}
+use Rattle.text.specs.PlainLaws.{ascii_cover}
 use Rattle.text.proofs.plain.is_short.Goals as goal
 
 pub returns : goal.returns
 returns c =
-    let e : c.fold.result ≡ fold bit_or 0 c.args.part.now = search rules in
-    rw e (fold-ascii c.args.part.now 0)
+    let part = c.args.part.now in
+    let e : length part - 4 + 4 ≡ length part = omega arith in
+    rw (c.is_half.ensures, c.is_half-2.ensures) (ascii_cover 4 part 4 (length part - 4) e (omega arith))

@@ -1,15 +1,15 @@
 -- `plain::put_eight` meets its contract: the bytes of a word are those that it was read from. Assumes nothing.
 use mathlib.Core.Path.{◌≡◌, ◌∙◌}
 use mathlib.Core.List.{List, [], ◌∷◌}
-use Prim.Native.Nat.{ℕ, ◌+◌, ◌-◌, ◌≤◌}
+use Prim.Native.Nat.{ℕ, ◌+◌, ◌≤◌}
 use native.Mathlib.Omega.{arith}
 use lib.ListN.{length, take, drop, length-drop}
-use lib.Seq.{length-take-le, take-take, paste}
+use lib.Seq.{length-take-le}
 use Rattle.std.specs.Int.{w64, to_le_bytes, from_le_bytes}
 use Rattle.std.proofs.lemmas.Nat.{le_bytes_8}
-use Rattle.std.proofs.lemmas.Slice.{put_mid-paste}
 use Rattle.base.specs.Number.{le, le_at}
 use Rattle.base.specs.NumberLaws.{Bytes, bytes-part, le_at-is}
+use Rattle.text.proofs.Words.{pasted-word}
 use Rattle.text.proofs.plain.put_eight.Goals as goal
 
 -- the number of eight bytes
@@ -25,21 +25,14 @@ of_eight (a ∷ b ∷ c ∷ d ∷ e ∷ f ∷ g ∷ []) n = absurd (omega arith)
 of_eight (a ∷ b ∷ c ∷ d ∷ e ∷ f ∷ g ∷ h ∷ []) n = omega arith
 of_eight (a ∷ b ∷ c ∷ d ∷ e ∷ f ∷ g ∷ h ∷ i ∷ l) n = absurd (omega arith)
 
-module _ (s : List ℕ) (at : ℕ) (b : Bytes s) (h : at + 8 ≤ length s) where
-  eight : length (take 8 (drop at s)) ≡ 8
-  eight = length-take-le 8 (drop at s) (simp length-drop (omega arith))
-
-  word : to_le_bytes w64 (le_at 8 s at) ≡ take 8 (drop at s)
-  word = le_bytes_8 (take 8 (drop at s)) (le_at 8 s at) eight (bytes-part 8 at s b) (le_at-is 8 s at ∙ of_eight (take 8 (drop at s)) eight)
-
-  pasted : (o : List ℕ) → paste o at (take 8 (drop at s)) 8 ≡ paste o at (drop at s) 8
-  pasted o = rw (take-take 8 8 (drop at s) (omega arith))
+word : (s : List ℕ) (at : ℕ) → Bytes s → at + 8 ≤ length s → to_le_bytes w64 (le_at 8 s at) ≡ take 8 (drop at s)
+word s at b h =
+    let n : length (take 8 (drop at s)) ≡ 8 = length-take-le 8 (drop at s) (simp length-drop (omega arith)) in
+    le_bytes_8 (take 8 (drop at s)) (le_at 8 s at) n (bytes-part 8 at s b) (le_at-is 8 s at ∙ of_eight (take 8 (drop at s)) n)
 
 pub returns : goal.returns
 returns c =
     let s = c.args.src.now in
-    let at = c.args.at in
     let b : Bytes s = λ i. (c.type_inv.src i).fits in
-    let h = c.requires.0 in
     let e = rw c.le64.ensures at (c.copy_from_slice.ensures.after ∙ c.to_le_bytes.ensures) in
-    put_mid-paste at (at + 8 - at) c.args.out.now _ (take 8 (drop at s)) 8 (e ∙ word s at b h) (omega arith) (omega (arith, eight s at b h)) ∙ pasted s at b h c.args.out.now
+    pasted-word 8 s c.args.out.now _ c.args.at (e ∙ word s c.args.at b c.requires.0) c.requires.0 c.requires.1

@@ -1,16 +1,16 @@
--- `plain::put_short` meets its contract. The invariant: the first i bytes were written, and the bits so far are below 128 where they are
--- ASCII. Assumes nothing.
-use mathlib.Core.Path.{refl}
+-- `plain::put_short` meets its contract. Assumes nothing.
+use mathlib.Core.Path.{◌≡◌}
+use Prim.Native.Nat.{◌+◌, ◌-◌}
 use native.Mathlib.Omega.{arith}
-use Rattle.base.specs.OutputLaws.{wrote_none, wrote-length, wrote-copy}
-use Rattle.text.specs.PlainLaws.{ascii-next}
+use lib.ListN.{length}
+use lib.Seq.{take-length}
+use Rattle.base.specs.OutputLaws.{wrote_none, wrote-paste, wrote_as, wrote_count}
 use Rattle.text.proofs.plain.put_short.Goals as goal
 
-pub loop-i-init : goal.loop-i-init
-loop-i-init c = record { room = refl; wrote = wrote_none _; ascii = refl }
-
-pub loop-i-preserved : goal.loop-i-preserved
-loop-i-preserved c =
-    let l = c.loop-i in
-    let w = wrote-copy _ l.invariant.wrote c.loop-i-test.true (omega arith) in
-    record { room = wrote-length w; wrote = w; ascii = ascii-next _ l.i l.all c.loop-i-test.true l.invariant.ascii }
+pub returns : goal.returns
+returns c =
+    let part = c.args.part.now in
+    let e : length part - 4 + 4 ≡ length part = omega arith in
+    let v = wrote-paste part 0 4 (wrote_none c.args.out.now) (omega arith) (omega arith) (omega arith) (omega arith) in
+    let w = wrote-paste part (length part - 4) 4 v (omega arith) (omega arith) (omega arith) (omega arith) in
+    rw (c.put_half-2.ensures, c.put_half.ensures) (wrote_count (wrote_as w (rw (e, take-length))) e)
