@@ -59,8 +59,8 @@ fn put_pair(out: &mut [u8], s: &[u8], at: usize) -> usize
 }
 
 // The text as UTF-16LE: eight characters of ASCII at once or four, four of two bytes or of three, others one by one.
-// Kept: `while`, since the text decides how far a turn goes: no range has such a step. And runs are asked before a character of four bytes: behind it Cyrillic
-// takes 1.1 times as long.
+// Kept: `while`, since the text decides how far a turn goes: no range has such a step. And runs of two bytes are asked before a character of four bytes: behind
+// it Cyrillic takes 1.1 times as long.
 pub fn put_utf16le(out: &mut [u8], s: &[u8]) -> usize
     requires { (is_well (from_utf8 s.now) ≡ true) × (length (utf16le (text_of s.now)) ≤ length out.old) }
     ensures { Wrote out.old (utf16le (text_of s.now)) out.new result }
@@ -82,7 +82,7 @@ pub fn put_utf16le(out: &mut [u8], s: &[u8]) -> usize
                 at += 8;
                 continue;
             }
-        } else if is_run::<Three>(s, at) {
+        } else if a < 0xF0 && is_run::<Three>(s, at) {
             put_run::<Three>(&mut out[n..], s, at);
             n += 8;
             at += 12;

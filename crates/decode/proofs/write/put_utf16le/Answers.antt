@@ -21,7 +21,7 @@ twain c = twos-leads _ _ (sym c.is_run.ensures ∙ c.if-is_run.true)
 
 -- or four characters of three bytes
 led : (c : Then-is_run-2) → Leads c.args.s.now c.loop-at.at
-led c = run-leads _ _ (sym c.is_run-else-a-lt224.ensures ∙ c.if-is_run-2.true)
+led c = run-leads _ _ (sym c.is_run-then-a-lt240.ensures ∙ c.if-is_run-2.true)
 
 -- or one character
 turned : (c : After-known_char-c) → Turn c.args.s.now c.loop-at.at c.known_char-c.result.value c.known_char-c.result.size
@@ -76,7 +76,7 @@ loop-at-preserved-then-is_run c =
 pub put_run-requires-then-is_run-2 : goal.put_run-requires-then-is_run-2
 put_run-requires-then-is_run-2 c =
     let i = c.loop-at.invariant in
-    (i.2, sym c.is_run-else-a-lt224.ensures ∙ c.if-is_run-2.true, run_room _ _ i.2 (led (goal.at.put_run-requires-then-is_run-2 c).Then-is_run-2) i.3 c.requires.1)
+    (i.2, sym c.is_run-then-a-lt240.ensures ∙ c.if-is_run-2.true, run_room _ _ i.2 (led (goal.at.put_run-requires-then-is_run-2 c).Then-is_run-2) i.3 c.requires.1)
 
 pub loop-at-preserved-then-is_run-2 : goal.loop-at-preserved-then-is_run-2
 loop-at-preserved-then-is_run-2 c =
