@@ -102,7 +102,7 @@ pub record Own (b : List ℕ) (o : Objects) (at : ℕ) (u : Name) : Type 0 where
   pub name : object_name o (entry_no o at) ≡ name_at b u.place u.number
 
 -- the columns that the work buffer has of it
-pub own-work : {b : List ℕ} {o : Objects} {w : List ℕ} (t : ObjectsIn b o w) → Bytes b → (i : ℕ) → 48 * i < length w → {u : Object} → u ≡ object_no b o i
+pub own-work : {b : List ℕ} {o : Objects} {w : List ℕ} (t : ObjectsIn b o w) → Bytes b → (i : ℕ) → 56 * i < length w → {u : Object} → u ≡ object_no b o i
     → {p : Place} → p ≡ place_of u → Own b o i (record { place = p; number = u.number })
 own-work {b} {o} t y i h {u} e {p} q =
     let z : p ≡ place_at b o.layout.names (entry_no o i).index = q ∙ ap place_of e ∙ place_no_lem b o i in

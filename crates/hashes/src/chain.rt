@@ -32,7 +32,7 @@ pub const NO_NAME: Name = Name {
 
 // The chain of object i, of at most as many objects as there is room for, by the links in the work buffer, if its path is known.
 pub fn chain_in<'a>(w: &[u8], i: usize, chain: &'a mut [Name]) -> Option<&'a [Name]>
-    requires { Linked w.now × (48 * i < length w.now) }
+    requires { Linked w.now × (56 * i < length w.now) }
     ensures { (b : List ℕ) (o : Objects) → ObjectsIn b o w.now → Bytes b → MatchOption result (path_no (length chain.old) o i ≡ none)
         (λ c. Tells b c.now (length chain.old) (path_no (length chain.old) o i)) }
 {

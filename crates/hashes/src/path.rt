@@ -13,7 +13,7 @@ use scan::script::Script;
 
 // The hash of the path of object i, of at most as many objects as there is room for, if it is known. What the room holds before doesn't count.
 pub fn path_hash(s: &[u8], w: &[u8], i: usize, room: &mut [Name]) -> Option<u64>
-    requires { LinkedOf s.now w.now × (48 * i < length w.now) × (length room.old ≤ 65) }
+    requires { LinkedOf s.now w.now × (56 * i < length w.now) × (length room.old ≤ 65) }
     ensures { (o : Objects) → ObjectsIn s.now o w.now → result ≡ hashed_as (path_no (length room.old) o i) }
 {
     let chain = chain_in(w, i, room)?;

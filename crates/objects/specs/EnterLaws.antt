@@ -37,7 +37,7 @@ more-some (Some k) e = omega arith
 
 -- question 12: r is what the table answers to entry i's global index
 module _ (b : List ℕ) (l : Layout) (i : ℕ) {e : Entry} (is : e ≡ entry_of b l i) {w : List ℕ} (t : Entered b l i w) (r : Option ℕ)
-    (found : (los his : ℕ → ℕ) → TableHolds l.count 44 i los his w → one_more r ≡ find los his (first_of e.global) (second_of e.global) i) where
+    (found : (los his : ℕ → ℕ) → TableHolds (3 * l.count) 44 i los his w → one_more r ≡ find los his (first_of e.global) (second_of e.global) i) where
   abbrev los : ℕ → ℕ
   los j = first_of (entry_of b l j).global
 
@@ -64,8 +64,8 @@ one_if-le false = omega arith
 
 -- one more, in a block shorter than 2^32 bytes: all that is stored fits
 module _ (b : List ℕ) (l : Layout) (bs : Bytes b) (d : Held b l.names) (short : length b < 2 ^ 32) {i : ℕ} {w v w' : List ℕ} (t : Entered b l i w) (h : i < l.count) where
-  pub entered-next : {e : Entry} → e ≡ entry_of b l i → e.index < l.names.count → Added l.count 44 i (first_of e.global) (second_of e.global) w v
-      → w' ≡ described (record_at l.count 44 i) (place_at b l.names e.index) e.number (length (utf8 (name_at b (place_at b l.names e.index) e.number))) v
+  pub entered-next : {e : Entry} → e ≡ entry_of b l i → e.index < l.names.count → Added (3 * l.count) 44 i (first_of e.global) (second_of e.global) w v
+      → w' ≡ described (record_at (3 * l.count) 44 i) (place_at b l.names e.index) e.number (length (utf8 (name_at b (place_at b l.names e.index) e.number))) v
       → Entered b l (i + 1) w'
   unfolding entry_at
   entered-next {e} is m a q =

@@ -19,10 +19,10 @@ use Rattle.objects.specs.Work.{Entered, AllIn, ObjectsIn, Keyed, LinkedOf}
 use Rattle.objects.specs.WorkLaws.{entries-length, entry_no_lem, link-read, link-other}
 
 -- the objects that are entered, by the part's length
-pub count-is : {b : List ℕ} {o : Objects} {w : List ℕ} → AllIn b o w → length w / 48 ≡ o.layout.count
+pub count-is : {b : List ℕ} {o : Objects} {w : List ℕ} → AllIn b o w → length w / 56 ≡ o.layout.count
 count-is t = omega (arith, t.entered.size)
 
-pub all-table : {b : List ℕ} {o : Objects} {w : List ℕ} → AllIn b o w → Table (length w / 48) 44 w
+pub all-table : {b : List ℕ} {o : Objects} {w : List ℕ} → AllIn b o w → Table (3 * (length w / 56)) 44 w
 all-table t = rw (count-is t) (holds-table t.entered.keys)
 
 module _ (b : List ℕ) (l : Layout) (accepted : script_answer (run script 0 b) ≡ Ok l) where
@@ -43,12 +43,12 @@ module _ (b : List ℕ) (l : Layout) (accepted : script_answer (run script 0 b) 
 
   -- the first i are linked
   abbrev pub LinkedTo : ℕ → List ℕ → Type 0
-  LinkedTo i w = (o : Objects) → run script 0 b ≡ gives o → (j : ℕ) → j < i → le_at 4 w (record_at l.count 44 j + 24) ≡ link_of o (entry_no o j).outer
+  LinkedTo i w = (o : Objects) → run script 0 b ≡ gives o → (j : ℕ) → j < i → le_at 4 w (record_at (3 * l.count) 44 j + 24) ≡ link_of o (entry_no o j).outer
 
   -- one more
   module _ {i k : ℕ} {w : List ℕ} (t : Entered b l l.count w) (h : i < l.count) (short : length b < 2 ^ 32)
       (link : (c : List ℕ) (o : Objects) → AllIn c o w → k ≡ link_of o (le_at 8 b (l.entries + 32 * i + 16))) where
-    pub linked-more : LinkedTo i w → LinkedTo (i + 1) (stored 4 w (record_at l.count 44 i + 24) k)
+    pub linked-more : LinkedTo i w → LinkedTo (i + 1) (stored 4 w (record_at (3 * l.count) 44 i + 24) k)
     unfolding entry_at
     linked-more before o read j m =
         let a = all_in o read t in

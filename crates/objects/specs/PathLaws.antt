@@ -76,19 +76,19 @@ pub of_linked : {b w : List ℕ} → LinkedOf b w → Linked w
 of_linked {b} t = record { block = b; objects = t.objects; holds = t.holds }
 
 module _ {b : List ℕ} {o : Objects} {w : List ℕ} (t : ObjectsIn b o w) where
-  pub inside-count : (i : ℕ) → 48 * i < length w → i < o.layout.count
+  pub inside-count : (i : ℕ) → 56 * i < length w → i < o.layout.count
   inside-count i h = omega (arith, t.all.entered.size)
 
   -- a link leads inside
-  pub link-inside : {k : ℕ} (outer : ℕ) → k ≡ link_of o outer → 2 ≤ k → 48 * (k - 2) < length w
+  pub link-inside : {k : ℕ} (outer : ℕ) → k ≡ link_of o outer → 2 ≤ k → 56 * (k - 2) < length w
   link-inside outer q m = omega (arith, link-le o outer, entries-length t.all, t.all.entered.size)
 
-  pub number-inside : {i : ℕ} (g : ℕ) → suc i ≡ number_of o.entries g → 48 * i < length w
+  pub number-inside : {i : ℕ} (g : ℕ) → suc i ≡ number_of o.entries g → 56 * i < length w
   number-inside g q = omega (arith, number-le o.entries g, entries-length t.all, t.all.entered.size)
 
-  module _ (i : ℕ) (h : 48 * i < length w) {at : ℕ} (place : at ≡ record_at (length w / 48) 44 i) where
-    here : at ≡ record_at o.layout.count 44 i
-    here = place ∙ ap (λ n. record_at n 44 i) (count-is t.all)
+  module _ (i : ℕ) (h : 56 * i < length w) {at : ℕ} (place : at ≡ record_at (3 * (length w / 56)) 44 i) where
+    here : at ≡ record_at (3 * o.layout.count) 44 i
+    here = place ∙ ap (λ n. record_at (3 * n) 44 i) (count-is t.all)
 
     pub link_at_lem : {k : ℕ} → k ≡ le_at 4 w (at + 24) → k ≡ link_of o (entry_no o i).outer
     link_at_lem q = q ∙ rw here (t.links i (inside-count i h))

@@ -74,7 +74,7 @@ module _ {b : List ℕ} {o : Objects} {w : List ℕ} {i : ℕ} {u : Object} (st 
     pub stands-top : u.outer ≡ 1 → path_no limit o i ≡ added (name_of b u) (some start)
     stands-top z = path-top limit o i (omega arith) outer-is z ∙ rw name-is
 
-  pub outer-inside : (u.outer ≡ 0 → ⊥) → (u.outer ≡ 1 → ⊥) → 48 * (u.outer - 2) < length w
+  pub outer-inside : (u.outer ≡ 0 → ⊥) → (u.outer ≡ 1 → ⊥) → 56 * (u.outer - 2) < length w
   outer-inside n m = link-inside st.holds (entry_no o i).outer outer-is (omega arith)
 
   -- the buffer s has room for its path

@@ -116,8 +116,8 @@ module _ (o : Objects) (limit i t d at : ℕ) (so : told (path_no limit o i) ≡
       (behind_more t d (length (utf8 (object_name o (entry_no o at)))) 1 (told (path_no (limit - (d + 1)) o k)))
 
 -- the length that a record has of its name
-module _ {b : List ℕ} {o : Objects} {w : List ℕ} (t : ObjectsIn b o w) (i : ℕ) (h : 48 * i < length w) {at n : ℕ} where
-  pub rendered-at : at ≡ record_at (length w / 48) 44 i → n ≡ le_at 4 w (at + 40) → n ≡ length (utf8 (object_name o (entry_no o i)))
+module _ {b : List ℕ} {o : Objects} {w : List ℕ} (t : ObjectsIn b o w) (i : ℕ) (h : 56 * i < length w) {at n : ℕ} where
+  pub rendered-at : at ≡ record_at (3 * (length w / 56)) 44 i → n ≡ le_at 4 w (at + 40) → n ≡ length (utf8 (object_name o (entry_no o i)))
   rendered-at place q = q ∙ (columns-at t i h place).rendered ∙ rw (name_no t.all i (inside-count t i h))
 
 -- ---- written from the outermost object on

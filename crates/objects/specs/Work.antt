@@ -1,4 +1,4 @@
--- What the part of `work` that is lent for S script objects holds, 48 S bytes: a look-up table of S buckets, whose record i, of 44 bytes, is
+-- What the part of `work` that is lent for S script objects holds, 56 S bytes: a look-up table of 3 S buckets, whose record i, of 44 bytes, is
 -- object i. Its key is 0 and the object's global index; bytes 24 to 43 are: where its outer leads (24), its name's start in the block
 -- (28), twice the name's size, and 1 if it is UTF-16 (32), its instance number (36), the length of its rendered name in UTF-8 (40).
 -- Assumes nothing.
@@ -49,9 +49,9 @@ pub record Columns (b : List ℕ) (n : Names) (e : Entry) (w : List ℕ) (at : �
 
 -- the first k objects of the block b are entered
 pub record Entered (b : List ℕ) (l : Layout) (k : ℕ) (w : List ℕ) : Type 0 where
-  pub size : length w ≡ 48 * l.count
-  pub keys : Holds l.count 44 k (λ i. first_of (entry_of b l i).global) (λ i. second_of (entry_of b l i).global) w
-  pub columns : (i : ℕ) → i < k → Columns b l.names (entry_of b l i) w (record_at l.count 44 i)
+  pub size : length w ≡ 56 * l.count
+  pub keys : Holds (3 * l.count) 44 k (λ i. first_of (entry_of b l i).global) (λ i. second_of (entry_of b l i).global) w
+  pub columns : (i : ℕ) → i < k → Columns b l.names (entry_of b l i) w (record_at (3 * l.count) 44 i)
 
 -- all objects o of the block b, which was read, are entered
 pub record AllIn (b : List ℕ) (o : Objects) (w : List ℕ) : Type 0 where
@@ -61,7 +61,7 @@ pub record AllIn (b : List ℕ) (o : Objects) (w : List ℕ) : Type 0 where
 -- and each is linked to its outer
 pub record ObjectsIn (b : List ℕ) (o : Objects) (w : List ℕ) : Type 0 where
   pub all : AllIn b o w
-  pub links : (i : ℕ) → i < o.layout.count → le_at 4 w (record_at o.layout.count 44 i + 24) ≡ link_of o (entry_no o i).outer
+  pub links : (i : ℕ) → i < o.layout.count → le_at 4 w (record_at (3 * o.layout.count) 44 i + 24) ≡ link_of o (entry_no o i).outer
 
 -- some block's objects are entered; some block's are linked; those of the block b are linked
 pub record Keyed (w : List ℕ) : Type 0 where

@@ -88,44 +88,44 @@ columns-same t same = record {
 }
 
 module _ (b : List ℕ) (l : Layout) where
-  pub entered-none : (w : List ℕ) → length w ≡ 48 * l.count → l.count < 2 ^ 32 → Entered b l 0 (cleared l.count w)
+  pub entered-none : (w : List ℕ) → length w ≡ 56 * l.count → 3 * l.count < 2 ^ 32 → Entered b l 0 (cleared (3 * l.count) w)
   entered-none w size few = record {
-    size = (cleared-kept l.count w (omega arith)).size ∙ size;
-    keys = holds-cleared l.count w (omega arith) 44 (λ i. first_of (entry_of b l i).global) (λ i. second_of (entry_of b l i).global) few (omega arith);
+    size = (cleared-kept (3 * l.count) w (omega arith)).size ∙ size;
+    keys = holds-cleared (3 * l.count) w (omega arith) 44 (λ i. first_of (entry_of b l i).global) (λ i. second_of (entry_of b l i).global) few (omega arith);
     columns = λ i h. absurd (omega arith);
   }
 
   -- one more: the table has it, and its record is described
   module _ {i : ℕ} {w v w' : List ℕ} (t : Entered b l i w) (h : i < l.count) {e : Entry} (is : e ≡ entry_of b l i)
-      (a : Added l.count 44 i (first_of e.global) (second_of e.global) w v)
-      (q : w' ≡ described (record_at l.count 44 i) (place_at b l.names e.index) e.number (length (utf8 (name_at b (place_at b l.names e.index) e.number))) v) where
+      (a : Added (3 * l.count) 44 i (first_of e.global) (second_of e.global) w v)
+      (q : w' ≡ described (record_at (3 * l.count) 44 i) (place_at b l.names e.index) e.number (length (utf8 (name_at b (place_at b l.names e.index) e.number))) v) where
     abbrev place : Place
     place = place_at b l.names e.index
 
     abbrev len : ℕ
     len = length (utf8 (name_at b place e.number))
 
-    sized : length v ≡ 48 * l.count
+    sized : length v ≡ 56 * l.count
     sized = (added-kept a).size ∙ t.size
 
-    fits : record_at l.count 44 i + 44 ≤ length v
+    fits : record_at (3 * l.count) 44 i + 44 ≤ length v
     fits = omega (arith, sized)
 
-    change : Kept (record_at l.count 44 i + 24) (record_at l.count 44 i + 44) v w'
-    change = rw q (described-kept (record_at l.count 44 i) place e.number len v fits)
+    change : Kept (record_at (3 * l.count) 44 i + 24) (record_at (3 * l.count) 44 i + 44) v w'
+    change = rw q (described-kept (record_at (3 * l.count) 44 i) place e.number len v fits)
 
-    own : place.start < 2 ^ 32 → packed place < 2 ^ 32 → e.number < 2 ^ 32 → len < 2 ^ 32 → Columns b l.names e w' (record_at l.count 44 i)
+    own : place.start < 2 ^ 32 → packed place < 2 ^ 32 → e.number < 2 ^ 32 → len < 2 ^ 32 → Columns b l.names e w' (record_at (3 * l.count) 44 i)
     own hs hp hn hl = rw q (record {
-      start = described-start (record_at l.count 44 i) place e.number len v fits hs;
-      size = described-size (record_at l.count 44 i) place e.number len v fits hp;
-      number = described-number (record_at l.count 44 i) place e.number len v fits hn;
-      rendered = described-length (record_at l.count 44 i) place e.number len v fits hl;
+      start = described-start (record_at (3 * l.count) 44 i) place e.number len v fits hs;
+      size = described-size (record_at (3 * l.count) 44 i) place e.number len v fits hp;
+      number = described-number (record_at (3 * l.count) 44 i) place e.number len v fits hn;
+      rendered = described-length (record_at (3 * l.count) 44 i) place e.number len v fits hl;
     })
 
-    other : (j : ℕ) → j < i → Columns b l.names (entry_of b l j) w' (record_at l.count 44 j)
+    other : (j : ℕ) → j < i → Columns b l.names (entry_of b l j) w' (record_at (3 * l.count) 44 j)
     other j g = columns-same (t.columns j g) λ c lo up.
-        kept_read change 4 (record_at l.count 44 j + c)
-        (record_other l.count 44 i (record_at l.count 44 i + 24) (record_at l.count 44 i + 44) (omega arith) (omega arith) j c 4 (λ x. omega arith) up)
+        kept_read change 4 (record_at (3 * l.count) 44 j + c)
+        (record_other (3 * l.count) 44 i (record_at (3 * l.count) 44 i + 24) (record_at (3 * l.count) 44 i + 44) (omega arith) (omega arith) j c 4 (λ x. omega arith) up)
         ∙ added-read a 4 j c (omega arith) up
 
     pub entered-more : place.start < 2 ^ 32 → packed place < 2 ^ 32 → e.number < 2 ^ 32 → len < 2 ^ 32 → Entered b l (i + 1) w'
@@ -143,30 +143,30 @@ module _ (b : List ℕ) (l : Layout) where
 
   -- a link stored
   module _ {k : ℕ} {w : List ℕ} (t : Entered b l k w) (i v : ℕ) (h : i < l.count) where
-    fitting : record_at l.count 44 i + 24 + 4 ≤ length w
+    fitting : record_at (3 * l.count) 44 i + 24 + 4 ≤ length w
     fitting = omega (arith, t.size)
 
     abbrev linked : List ℕ
-    linked = stored 4 w (record_at l.count 44 i + 24) v
+    linked = stored 4 w (record_at (3 * l.count) 44 i + 24) v
 
-    store : Kept (record_at l.count 44 i + 24) (record_at l.count 44 i + 24 + 4) w linked
-    store = stored-kept 4 w (record_at l.count 44 i + 24) v fitting
+    store : Kept (record_at (3 * l.count) 44 i + 24) (record_at (3 * l.count) 44 i + 24 + 4) w linked
+    store = stored-kept 4 w (record_at (3 * l.count) 44 i + 24) v fitting
 
     pub link-kept : Entered b l k linked
     link-kept = record {
       size = store.size ∙ t.size;
       keys = holds-column t.keys store i (omega arith) (omega arith);
-      columns = λ j g. columns-same (t.columns j g) λ c lo up. kept_read store 4 (record_at l.count 44 j + c) (by_cases (ℕ_discrete i j)
+      columns = λ j g. columns-same (t.columns j g) λ c lo up. kept_read store 4 (record_at (3 * l.count) 44 j + c) (by_cases (ℕ_discrete i j)
           (λ (x : i ≡ j). inr (rw x (omega arith)))
-          (λ (x : ¬ (i ≡ j)). record_other l.count 44 i (record_at l.count 44 i + 24) (record_at l.count 44 i + 24 + 4) (omega arith) (omega arith) j c 4 x up));
+          (λ (x : ¬ (i ≡ j)). record_other (3 * l.count) 44 i (record_at (3 * l.count) 44 i + 24) (record_at (3 * l.count) 44 i + 24 + 4) (omega arith) (omega arith) j c 4 x up));
     }
 
-    pub link-read : v < 2 ^ 32 → le_at 4 linked (record_at l.count 44 i + 24) ≡ v
-    link-read g = stored-read 4 w (record_at l.count 44 i + 24) v fitting g
+    pub link-read : v < 2 ^ 32 → le_at 4 linked (record_at (3 * l.count) 44 i + 24) ≡ v
+    link-read g = stored-read 4 w (record_at (3 * l.count) 44 i + 24) v fitting g
 
-    pub link-other : (j : ℕ) → j < i → le_at 4 linked (record_at l.count 44 j + 24) ≡ le_at 4 w (record_at l.count 44 j + 24)
-    link-other j g = kept_read store 4 (record_at l.count 44 j + 24)
-        (record_other l.count 44 i (record_at l.count 44 i + 24) (record_at l.count 44 i + 24 + 4) (omega arith) (omega arith) j 24 4 (λ x. omega arith) (omega arith))
+    pub link-other : (j : ℕ) → j < i → le_at 4 linked (record_at (3 * l.count) 44 j + 24) ≡ le_at 4 w (record_at (3 * l.count) 44 j + 24)
+    link-other j g = kept_read store 4 (record_at (3 * l.count) 44 j + 24)
+        (record_other (3 * l.count) 44 i (record_at (3 * l.count) 44 i + 24) (record_at (3 * l.count) 44 i + 24 + 4) (omega arith) (omega arith) j 24 4 (λ x. omega arith) (omega arith))
 
 -- ---- the objects of a block that was read
 

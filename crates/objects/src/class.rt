@@ -16,15 +16,15 @@ use table::entries::record_at;
 
 // Whether the path of object i is known, of at most `limit` objects.
 // Kept: a loop beside that of `path_len`: `path_len(w, i, limit).is_some()` asks for a limit below 2^32, since it adds up lengths, and any limit may be given
-// here; with `limit.min(w.len() / 48)` there it would have to be proved that no known path has more objects than there are.
+// here; with `limit.min(w.len() / 56)` there it would have to be proved that no known path has more objects than there are.
 pub fn known(w: &[u8], i: usize, limit: usize) -> bool
-    requires { Linked w.now × (48 * i < length w.now) }
+    requires { Linked w.now × (56 * i < length w.now) }
     ensures { (b : List ℕ) (o : Objects) → ObjectsIn b o w.now → result ≡ is_known (path_no limit o i) }
 {
-    let n = w.len() / 48;
+    let buckets = 3 * (w.len() / 56);
     let mut at = i;
     for _ in 0..limit {
-        match Outer::of(le32_usize(w, record_at(n, 44, at) + 24)) {
+        match Outer::of(le32_usize(w, record_at(buckets, 44, at) + 24)) {
             Outer::Missing => return false,
             Outer::Nothing => return true,
             Outer::Object(k) => at = k,
@@ -35,7 +35,7 @@ pub fn known(w: &[u8], i: usize, limit: usize) -> bool
 
 // Whether the name of object i ends in `Class`: it has no number, and its base does.
 fn ends_in_class(b: &[u8], w: &[u8], i: usize) -> bool
-    requires { LinkedOf b.now w.now × (48 * i < length w.now) }
+    requires { LinkedOf b.now w.now × (56 * i < length w.now) }
     ensures { (o : Objects) → ObjectsIn b.now o w.now → result ≡ ends_with (object_name o (entry_no o i)) class_end }
 {
     let u = object_at(w, i);

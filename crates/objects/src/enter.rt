@@ -56,19 +56,19 @@ fn put_object(names: &NotedNames, w: &mut [u8], at: usize, e: Entry)
 // Enters the objects of the block that the names are of, unless one fails a question: 10, 11 or 12.
 pub fn enter(names: &NotedNames, l: Layout, w: &mut [u8]) -> Result<(), Refusal>
     requires opened { (opened names.now.block.now ≡ Ok l) × (names.now.names ≡ l.names) }
-    requires w_len { (length w.old ≡ 48 * l.count) × (length names.now.block.now < 2 ^ 32) }
+    requires w_len { (length w.old ≡ 56 * l.count) × (length names.now.block.now < 2 ^ 32) }
     ensures fault { fault result ≡ fault_at names.now.block.now l }
     ensures entered { OnOk result (Entered names.now.block.now l l.count w.new) }
 {
-    let n = l.count;
-    clear(w, n);
-    for i in 0..n {
+    let buckets = 3 * l.count;
+    clear(w, buckets);
+    for i in 0..l.count {
         let e = entry_in(names.block, l.entries + 32 * i);
         check_entry(e, l.names.count)?;
-        if add(w, n, 44, i, 0, e.global).is_some() {
+        if add(w, buckets, 44, i, 0, e.global).is_some() {
             return Err(Refusal::RepeatedObject);
         }
-        put_object(names, w, record_at(n, 44, i), e);
+        put_object(names, w, record_at(buckets, 44, i), e);
     }
     Ok(())
 }

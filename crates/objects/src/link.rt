@@ -17,7 +17,7 @@ pub fn find(w: &[u8], index: u64) -> Option<usize>
     requires { Keyed w.now }
     ensures { (b : List ℕ) (o : Objects) → AllIn b o w.now → one_more result ≡ number_of o.entries index }
 {
-    look_up(w, w.len() / 48, 44, 0, index)
+    look_up(w, 3 * (w.len() / 56), 44, 0, index)
 }
 
 // Where an outer leads: 0 to no object, 1 to none at all, else two more than the object's number.
@@ -40,6 +40,6 @@ pub fn link(s: &ScriptBlock, w: &mut [u8])
     let n = s.layout.count;
     for i in 0..n {
         let k = link_of(w, le64(s.bytes, s.layout.entries + 32 * i + 16));
-        set32(w, record_at(n, 44, i) + 24, k);
+        set32(w, record_at(3 * n, 44, i) + 24, k);
     }
 }

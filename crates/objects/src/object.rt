@@ -53,10 +53,10 @@ impl Object {
 
 // Object i.
 pub fn object_at(w: &[u8], i: usize) -> Object
-    requires { Linked w.now × (48 * i < length w.now) }
+    requires { Linked w.now × (56 * i < length w.now) }
     ensures { (b : List ℕ) (o : Objects) → ObjectsIn b o w.now → result ≡ object_no b o i }
 {
-    columns_at(w, record_at(w.len() / 48, 44, i) + 24)
+    columns_at(w, record_at(3 * (w.len() / 56), 44, i) + 24)
 }
 
 // The columns that stand from a place on.

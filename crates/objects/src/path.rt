@@ -26,14 +26,14 @@ pub struct Path {
 // there, as `path_len(&w[..size], i, m.objects as u32)`.
 // The path of object i, of at most `limit` objects, measured; None where it is unknown.
 pub fn path_len(w: &[u8], i: usize, limit: usize) -> Option<Path>
-    requires { Linked w.now × (48 * i < length w.now) × (limit < 2 ^ 32) }
+    requires { Linked w.now × (56 * i < length w.now) × (limit < 2 ^ 32) }
     ensures { (b : List ℕ) (o : Objects) → ObjectsIn b o w.now → result ≡ told (path_no limit o i) }
 {
-    let n = w.len() / 48;
+    let buckets = 3 * (w.len() / 56);
     let mut len: usize = 0;
     let mut at = i;
     for depth in 0..limit {
-        let record = record_at(n, 44, at);
+        let record = record_at(buckets, 44, at);
         len += le32_usize(w, record + 40);
         match Outer::of(le32_usize(w, record + 24)) {
             Outer::Missing => return None,

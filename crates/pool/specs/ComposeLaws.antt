@@ -55,7 +55,7 @@ module _ {b w : List ℕ} {o : Objects} {i : ℕ} {u : Object} (st : Stands b o 
       ∙ ap (λ (k : ℕ). length (utf8 (name_at b (place_at b o.layout.names (entry_no o i).index) k))) (number_no_lem b o i)
       ∙ ap (λ (t : List ℕ). length (utf8 t)) (sym (name_no st.holds.all i st.inside))
 
-  pub above-inside : {j : ℕ} → suc (suc j) ≡ u.outer → 48 * j < length w
+  pub above-inside : {j : ℕ} → suc (suc j) ≡ u.outer → 56 * j < length w
   above-inside {j} up = let k : u.outer - 2 ≡ j = omega arith in rw k at (outer-inside st (λ z. omega arith) (λ z. omega arith))
 
   module _ (ne : limit ≡ 0 → ⊥) {n : ℕ} (q : n ≡ length (utf8 (name_at b (place_of u) u.number))) where
@@ -145,8 +145,8 @@ class_over xs {class} {k} up e h = rw up (text-over (class_no xs k).path e h)
 -- ---- one behind the other
 
 module _ {c b : List ℕ} {n classes : ℕ} (objects : ℕ) {class : ℕ} {w : List ℕ} {u : Object} {s o₁ p : List ℕ} {k m z : ℕ} (e : z ≡ length o₁)
-    (first : (xs : List Class) → ClassesIn c (4 * n) xs (drop (48 * n) w) → class ≤ length xs → Wrote s (class_front xs class) o₁ k)
-    (second : (o : Objects) (i : ℕ) → Stands b o (take (48 * n) w) i u → TextWrote (path_no objects o i) (take (z - k) (drop k o₁)) p m) where
+    (first : (xs : List Class) → ClassesIn c (2 * n) xs (drop (56 * n) w) → class ≤ length xs → Wrote s (class_front xs class) o₁ k)
+    (second : (o : Objects) (i : ℕ) → Stands b o (take (56 * n) w) i u → TextWrote (path_no objects o i) (take (z - k) (drop k o₁)) p m) where
   pub both_texts : class ≤ classes → (o : Objects) (i : ℕ) (xs : List Class) → Leading c b n classes w u o i xs
       → TextsOf xs class (path_no objects o i) (take (k + m) (take k o₁ ++ (p ++ drop (z - k) (drop k o₁))))
   both_texts h o i xs l =

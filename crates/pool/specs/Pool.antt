@@ -50,14 +50,14 @@ pub record TextsOf (xs : List Class) (class : ℕ) (x : Maybe Path) (bytes : Lis
 
 -- the buffer w has classes xs of the corpus c behind n script objects, so many, and the columns u are those of object i of o
 pub record Leading (c b : List ℕ) (n classes : ℕ) (w : List ℕ) (u : Object) (o : Objects) (i : ℕ) (xs : List Class) : Type 0 where
-  pub stands : Stands b o (take (48 * n) w) i u
-  pub holds : ClassesIn c (4 * n) xs (drop (48 * n) w)
+  pub stands : Stands b o (take (56 * n) w) i u
+  pub holds : ClassesIn c (2 * n) xs (drop (56 * n) w)
   pub count : length xs ≡ classes
 
 -- these bytes are the texts of `class` and of each object that has the columns u, or where u is no object's the text of `class` alone
 pub record Texts (c b : List ℕ) (n classes objects : ℕ) (w : List ℕ) (class : ℕ) (u : Object) (bytes : List ℕ) : Type 0 where
   pub both : (u.outer ≡ 0 → ⊥) → (o : Objects) (i : ℕ) (xs : List Class) → Leading c b n classes w u o i xs → TextsOf xs class (path_no objects o i) bytes
-  pub alone : u.outer ≡ 0 → (xs : List Class) → ClassesIn c (4 * n) xs (drop (48 * n) w) → length xs ≡ classes → bytes ≡ class_front xs class
+  pub alone : u.outer ≡ 0 → (xs : List Class) → ClassesIn c (2 * n) xs (drop (56 * n) w) → length xs ≡ classes → bytes ≡ class_front xs class
 
 -- they are the `size` bytes at `text`, between lo and hi
 pub record TextAt (c b : List ℕ) (n classes objects lo hi : ℕ) (w : List ℕ) (class : ℕ) (u : Object) (text size : ℕ) : Type 0 where
@@ -128,7 +128,7 @@ pub record Gap (n classes gap slots rows r free : ℕ) (w : List ℕ) : Type 0 w
 -- so many classes of the corpus are in the table behind n script objects
 pub record Classed (c : List ℕ) (n classes : ℕ) (w : List ℕ) : Type 0 where
   pub table : List Class
-  pub holds : ClassesIn c (4 * n) table (drop (48 * n) w)
+  pub holds : ClassesIn c (2 * n) table (drop (56 * n) w)
   pub count : length table ≡ classes
 
 -- the class with this number, if there is one, is in a table of the corpus, with n buckets
@@ -141,7 +141,7 @@ pub record ClassTable (c : List ℕ) (n class : ℕ) (w : List ℕ) : Type 0 whe
 pub record RowStood (c b : List ℕ) (n classes r : ℕ) (w : List ℕ) : Type 0 where
   pub classed : Classed c n classes w
   pub class-inside : (led_at w (row_at w r)).class ≤ classes
-  pub stood : ((led_at w (row_at w r)).object.outer ≡ 0 → ⊥) → Stood b (take (48 * n) w) (led_at w (row_at w r)).object
+  pub stood : ((led_at w (row_at w r)).object.outer ≡ 0 → ⊥) → Stood b (take (56 * n) w) (led_at w (row_at w r)).object
 
 -- ---- all rows
 

@@ -47,16 +47,16 @@ class_same w w' at e = rw (add-zero at) at (part-read w w' 20 at e 0 (omega arit
 
 -- texts that it doesn't touch
 table_kept : (n : ℕ) {c : List ℕ} {xs : List Class} {w w' : List ℕ} {x y : ℕ} → Kept x y w w' → 64 * (n + length xs) ≤ x
-    → ClassesIn c (4 * n) xs (drop (48 * n) w) → ClassesIn c (4 * n) xs (drop (48 * n) w')
+    → ClassesIn c (2 * n) xs (drop (56 * n) w) → ClassesIn c (2 * n) xs (drop (56 * n) w')
 table_kept n {x = x} {y = y} k h t =
     let g = kept_wider k x (x + y) (omega arith) (omega arith) in
-    classes-kept (x - 48 * n) (x + y - 48 * n) t (kept-drop (48 * n) g (omega arith) (omega arith)) (omega arith)
+    classes-kept (x - 56 * n) (x + y - 56 * n) t (kept-drop (56 * n) g (omega arith) (omega arith)) (omega arith)
 
 -- script objects and classes are as they were
 leading-kept : {c b : List ℕ} {n classes : ℕ} {w w' : List ℕ} {x y : ℕ} {u : Object} {o : Objects} {i : ℕ} {xs : List Class} → Kept x y w w'
     → 64 * (n + classes) ≤ x → Leading c b n classes w' u o i xs → Leading c b n classes w u o i xs
 leading-kept {n = n} {y = y} k h l = record {
-  stands = rw (kept_wider k (48 * n) y (omega arith) (omega arith)).before at l.stands;
+  stands = rw (kept_wider k (56 * n) y (omega arith) (omega arith)).before at l.stands;
   holds = table_kept n (kept_back k) (omega (arith, l.count)) l.holds;
   count = l.count;
 }
@@ -221,7 +221,7 @@ module _ (a r : ℕ) (w : List ℕ) (room : a + 32 * (r + 1) ≤ length w) where
 
 -- a row of a resolved buffer leads to no class or to one of the table, and to no object or to one of the block
 row-stood : {c b : List ℕ} {o : Objects} {n : ℕ} {xs : List Class} {lookups : ℕ} {refs : List Ref} {w : List ℕ} → Resolved c b o n xs lookups refs w
-    → 48 * n + 32 * length refs ≤ length w → (r : ℕ) → r < length refs → RowStood c b n (length xs) r w
+    → 56 * n + 32 * length refs ≤ length w → (r : ℕ) → r < length refs → RowStood c b n (length xs) r w
 row-stood {c} {b} {o} {n} {xs} {lookups} {refs} {w} t room r h =
     record {
       classed = record { table = xs; holds = t.tables.classes; count = refl };
@@ -233,15 +233,15 @@ row-stood {c} {b} {o} {n} {xs} {lookups} {refs} {w} t room r h =
     ref = get_or refs r null
 
     class : (led_at w (row_at w r)).class ≡ class_number xs ref
-    class = ap (λ (l : Led). l.class) (sym (led-behind (48 * n) r w (omega arith))) ∙ (t.targets.targets r h).class
+    class = ap (λ (l : Led). l.class) (sym (led-behind (56 * n) r w (omega arith))) ∙ (t.targets.targets r h).class
 
     object : (led_at w (row_at w r)).object ≡ columns_of b o (object_number lookups xs o ref)
     object =
         let a = t.targets.targets r h in
-        ap (λ (l : Led). l.object) (sym (led-behind (48 * n) r w (omega arith))) ∙ rw (a.outer, a.start, a.size, a.number)
+        ap (λ (l : Led). l.object) (sym (led-behind (56 * n) r w (omega arith))) ∙ rw (a.outer, a.start, a.size, a.number)
 
     go : (k : ℕ) → (led_at w (row_at w r)).object ≡ columns_of b o k → ((led_at w (row_at w r)).object.outer ≡ 0 → ⊥) → k ≤ n
-        → Stood b (take (48 * n) w) (led_at w (row_at w r)).object
+        → Stood b (take (56 * n) w) (led_at w (row_at w r)).object
     go zero e ne l = absurd (ne (ap (λ (u : Object). u.outer) e))
     go (suc i) e ne l = record { objects = o; number = i; stands = record { holds = t.tables.objects; inside = omega (arith, t.tables.count); is = e } }
 
@@ -252,7 +252,7 @@ module _ {c b : List ℕ} {o : Objects} {n : ℕ} {xs : List Class} {lookups : �
     tables : Tables c b o n xs w'
     tables =
         let k = l.kept in
-        let front : take (48 * n) w' ≡ take (48 * n) w = (kept_wider k (48 * n) (length w) (omega arith) (omega arith)).before in
+        let front : take (56 * n) w' ≡ take (56 * n) w = (kept_wider k (56 * n) (length w) (omega arith) (omega arith)).before in
         record {
           bytes = t.tables.bytes;
           count = t.tables.count;
@@ -262,17 +262,17 @@ module _ {c b : List ℕ} {o : Objects} {n : ℕ} {xs : List Class} {lookups : �
         }
 
     -- a row leads where it led
-    target : (r : ℕ) → r < length refs → TargetIn b o xs lookups (drop (48 * n) w') (row_at (drop (48 * n) w') r) (get_or refs r null)
+    target : (r : ℕ) → r < length refs → TargetIn b o xs lookups (drop (56 * n) w') (row_at (drop (56 * n) w') r) (get_or refs r null)
     target r h =
         let a = t.targets.targets r h in
         let f = part-read w w' 20 (row_at w r) (l.columns r (omega arith)) in
         let e : row_at w' r ≡ row_at w r = rw l.kept.size in
-        let old = row-behind (48 * n) r w (omega arith) in
-        let new = row-behind (48 * n) r w' (omega (arith, l.kept.size)) in
-        let g : (c : ℕ) → c + 4 ≤ 20 → le_at 4 (drop (48 * n) w') (row_at (drop (48 * n) w') r + c) ≡ le_at 4 (drop (48 * n) w) (row_at (drop (48 * n) w) r + c) =
+        let old = row-behind (56 * n) r w (omega arith) in
+        let new = row-behind (56 * n) r w' (omega (arith, l.kept.size)) in
+        let g : (c : ℕ) → c + 4 ≤ 20 → le_at 4 (drop (56 * n) w') (row_at (drop (56 * n) w') r + c) ≡ le_at 4 (drop (56 * n) w) (row_at (drop (56 * n) w) r + c) =
         λ c h. new c ∙ rw e (f c h) ∙ sym (old c) in
         record {
-          class = rw (add-zero (row_at (drop (48 * n) w') r), add-zero (row_at (drop (48 * n) w) r)) at (g 0 (omega arith)) ∙ a.class;
+          class = rw (add-zero (row_at (drop (56 * n) w') r), add-zero (row_at (drop (56 * n) w) r)) at (g 0 (omega arith)) ∙ a.class;
           outer = g 4 (omega arith) ∙ a.outer;
           start = g 8 (omega arith) ∙ a.start;
           size = g 12 (omega arith) ∙ a.size;
@@ -280,7 +280,7 @@ module _ {c b : List ℕ} {o : Objects} {n : ℕ} {xs : List Class} {lookups : �
         }
 
     pub left-resolved : Resolved c b o n xs lookups refs w'
-    left-resolved = record { tables = tables; targets = record { room = omega (arith, length-drop (48 * n) w', l.kept.size); targets = target } }
+    left-resolved = record { tables = tables; targets = record { room = omega (arith, length-drop (56 * n) w', l.kept.size); targets = target } }
 
   module _ {classes objects lo hi k : ℕ} {w' : List ℕ} (same : length xs ≡ classes) (z : State c b n classes objects gap rows lo hi k w w') where
     -- so the next row
@@ -315,7 +315,7 @@ shared {c} {b} {n} {classes} {objects} {gap} {rows} {lo} {hi} {r} {v} {w} t {cla
 
 -- ---- marks stay
 
-pub left-marks : (n : ℕ) {gap rows : ℕ} {w w' : List ℕ} → Left gap rows w w' → 48 * n + 32 * rows ≤ length w → MarksKept n rows w w'
+pub left-marks : (n : ℕ) {gap rows : ℕ} {w w' : List ℕ} → Left gap rows w w' → 56 * n + 32 * rows ≤ length w → MarksKept n rows w w'
 left-marks n {gap} {rows} {w} {w'} l room =
     marks-whole n rows w w' room l.kept.size (λ r h. le_at-same 4 w' w (row_at w r + 28) (row_at w r + 28) (l.marks r h))
 
@@ -354,9 +354,9 @@ module _ (free : ℕ) (w : List ℕ) {a p : List ℕ} {k : ℕ} (room : free ≤
 pub slot_kept : (w : List ℕ) (slot x : ℕ) {w₁ : List ℕ} → w₁ ≡ stored 4 w slot x → slot + 4 ≤ length w → Kept slot (slot + 4) w w₁
 slot_kept w slot x e h = rw e (stored-kept 4 w slot x h)
 
-pub stood_still : {b : List ℕ} {u : Object} (n : ℕ) (w : List ℕ) {w₁ : List ℕ} {x y : ℕ} → Kept x y w w₁ → 48 * n ≤ x → Stood b (take (48 * n) w) u
-    → Stood b (take (48 * n) w₁) u
-stood_still n w {w₁} {x} {y} k h s = rw (kept_wider k (48 * n) y h (omega arith)).before s
+pub stood_still : {b : List ℕ} {u : Object} (n : ℕ) (w : List ℕ) {w₁ : List ℕ} {x y : ℕ} → Kept x y w w₁ → 56 * n ≤ x → Stood b (take (56 * n) w) u
+    → Stood b (take (56 * n) w₁) u
+stood_still n w {w₁} {x} {y} k h s = rw (kept_wider k (56 * n) y h (omega arith)).before s
 
 -- and nothing of rows and texts is changed
 pub slot_set : {c b : List ℕ} {n classes objects gap rows lo free r : ℕ} {v w w₁ : List ℕ} {slot : ℕ} → Kept slot (slot + 4) w w₁

@@ -123,11 +123,11 @@ fn compose_both(
     u: Object,
 ) -> Option<usize>
     requires { Classed p.now.corpus.now p.now.n p.now.classes w.now × (class ≤ p.now.classes)
-        × ((u.outer ≡ 0 → ⊥) → Stood p.now.block.now (take (48 * p.now.n) w.now) u) × (48 * p.now.n ≤ length w.now) }
+        × ((u.outer ≡ 0 → ⊥) → Stood p.now.block.now (take (56 * p.now.n) w.now) u) × (56 * p.now.n ≤ length w.now) }
     ensures { TextsPut p.now.corpus.now p.now.block.now p.now.n p.now.classes p.now.limits.objects class u w.now out.new result }
 {
-    let front = 48 * p.n;
-    let k = compose_class(out, p.corpus, &w[front..], 4 * p.n, class)?;
+    let front = 56 * p.n;
+    let k = compose_class(out, p.corpus, &w[front..], 2 * p.n, class)?;
     if u.is_missing() {
         return Some(k);
     }
@@ -138,7 +138,7 @@ fn compose_both(
 // The texts of the class and of the object u from a place on, where they are short and stand before the rows: how many bytes. Else nothing is written.
 fn put_texts(p: &Pooling, w: &mut [u8], free: usize, class: usize, u: Object) -> Option<usize>
     requires { Classed p.now.corpus.now p.now.n p.now.classes w.old × (class ≤ p.now.classes)
-        × ((u.outer ≡ 0 → ⊥) → Stood p.now.block.now (take (48 * p.now.n) w.old) u) × (48 * p.now.n ≤ free) × (free + 32 * p.now.rows ≤ length w.old) }
+        × ((u.outer ≡ 0 → ⊥) → Stood p.now.block.now (take (56 * p.now.n) w.old) u) × (56 * p.now.n ≤ free) × (free + 32 * p.now.rows ≤ length w.old) }
     ensures { TextPut p.now.corpus.now p.now.block.now p.now.n p.now.classes p.now.limits.objects p.now.rows free class u w.old w.new result }
 {
     let room = w.len() - 32 * p.rows - free;

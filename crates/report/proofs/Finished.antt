@@ -79,7 +79,7 @@ module _ {limit : ℕ} {c : List ℕ} {f : Frame} {s : List ℕ} {n : ℕ} {t : 
 
   -- and where all that follows does, they are what the walk found
   pub gathered-marks : {v : List ℕ} → MarksKept n t.rows w v
-      → MarksIn (marks_in c (f.«end» + 4) f.count) (drop (48 * n) v) × (length (marks_in c (f.«end» + 4) f.count) ≡ t.rows)
+      → MarksIn (marks_in c (f.«end» + 4) f.count) (drop (56 * n) v) × (length (marks_in c (f.«end» + 4) f.count) ≡ t.rows)
   gathered-marks k = let e = g.marked.count g.all in (marks-kept n (rw e k) (g.marked.holds g.all), e)
 
   -- no key stands twice, and the work buffer is long enough

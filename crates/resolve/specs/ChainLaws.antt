@@ -234,18 +234,18 @@ super-read {s} t = record {
 }
 
 module _ {s b : List ℕ} {o : Objects} {n : ℕ} {xs : List Class} {w : List ℕ} (t : Tables s b o n xs w) (i : ℕ) (h : i < length xs) where
-  pub class-room : 48 * n + record_at (4 * n) 64 i + 64 ≤ length w
-  class-room = omega (arith, t.classes.keys.room, t.room, length-drop (48 * n) w)
+  pub class-room : 56 * n + record_at (2 * n) 64 i + 64 ≤ length w
+  class-room = omega (arith, t.classes.keys.room, t.room, length-drop (56 * n) w)
 
-  pub super-keeps : {at x y : ℕ} → at ≡ 48 * n + record_at (4 * n) 64 i → x ≡ le_at 8 w (at + 24) → y ≡ le_at 8 w (at + 32)
+  pub super-keeps : {at x y : ℕ} → at ≡ 56 * n + record_at (2 * n) 64 i → x ≡ le_at 8 w (at + 24) → y ≡ le_at 8 w (at + 32)
       → Keeps xs x y (class_no xs i).super
   super-keeps {at} place p q =
-      let a : at + 24 ≡ 48 * n + (record_at (4 * n) 64 i + 24) = omega arith in
-      let d : at + 32 ≡ 48 * n + (record_at (4 * n) 64 i + 32) = omega arith in
+      let a : at + 24 ≡ 56 * n + (record_at (2 * n) 64 i + 24) = omega arith in
+      let d : at + 32 ≡ 56 * n + (record_at (2 * n) 64 i + 32) = omega arith in
       record {
         super = super-same (t.classes.supers i h)
-            (p ∙ rw a (sym (le_at-drop 8 (48 * n) w (record_at (4 * n) 64 i + 24))))
-            (q ∙ rw d (sym (le_at-drop 8 (48 * n) w (record_at (4 * n) 64 i + 32))));
+            (p ∙ rw a (sym (le_at-drop 8 (56 * n) w (record_at (2 * n) 64 i + 24))))
+            (q ∙ rw d (sym (le_at-drop 8 (56 * n) w (record_at (2 * n) 64 i + 32))));
         read = super-read (t.classes.columns i h);
       }
 
@@ -255,7 +255,7 @@ pub seek-le : (xs : List Class) (key : Key) (k : ℕ) → k ≡ seek (λ (c : Cl
 seek-le xs key zero q = omega arith
 seek-le xs key (suc i) q = omega (arith, seek-inside xs key i (sym q ∙ omega arith))
 
-pub classes-room : {n k i : ℕ} {w : List ℕ} → SomeClasses n k w → k ≡ suc i → 48 * n + record_at (4 * n) 64 i + 64 ≤ length w
+pub classes-room : {n k i : ℕ} {w : List ℕ} → SomeClasses n k w → k ≡ suc i → 56 * n + record_at (2 * n) 64 i + 64 ≤ length w
 classes-room {i = i} t found = class-room t.some.holds i (omega (arith, t.inside))
 
 -- ---- a chain on its way: what (x, y) keep, with class k - 1 or none, leads in `left` lookups where r leads in all

@@ -34,7 +34,7 @@ tables-kept t = record {
 }
 
 -- class i's record is inside; so are the records of as many classes as were found
-pub record_room : {n : ℕ} {w : List ℕ} (i : ℕ) → SomeClasses n (i + 1) w → 48 * n + record_at (4 * n) 64 i + 64 ≤ length w
+pub record_room : {n : ℕ} {w : List ℕ} (i : ℕ) → SomeClasses n (i + 1) w → 56 * n + record_at (2 * n) 64 i + 64 ≤ length w
 record_room i t = class-room t.some.holds i (omega (arith, t.inside))
 
 pub found-few : {n k : ℕ} {w : List ℕ} (key : Key) (t : SomeTables n w)
@@ -44,7 +44,7 @@ found-few {n} {k} {w} key t q =
       arith,
       seek-le t.classes key k (q t.corpus t.block t.objects t.classes t.holds),
       t.holds.classes.keys.room,
-      length-drop (48 * n) w,
+      length-drop (56 * n) w,
     )
 
 -- ---- the two numbers stored in a record
@@ -76,7 +76,7 @@ pub only_none : (n i : ℕ) (w : List ℕ) → SuperOnly n i w w
 only_none n i w = record { kept = kept-none (super_at n i) (super_at n i + 16) w }
 
 module _ {s b : List ℕ} {o : Objects} {n : ℕ} {xs : List Class} {w : List ℕ} (t : Tables s b o n xs w) {i at : ℕ} (h : i < length xs)
-    (place : at ≡ 48 * n + record_at (4 * n) 64 i) {lo hi : ℕ} (p : lo ≡ le_at 8 w (at + 24)) (q : hi ≡ le_at 8 w (at + 32)) where
+    (place : at ≡ 56 * n + record_at (2 * n) 64 i) {lo hi : ℕ} (p : lo ≡ le_at 8 w (at + 24)) (q : hi ≡ le_at 8 w (at + 32)) where
   keeps : Keeps xs lo hi (class_no xs i).super
   keeps = super-keeps t i h place p q
 
@@ -104,7 +104,7 @@ module _ {s b : List ℕ} {o : Objects} {n : ℕ} {xs : List Class} {w : List �
 -- ---- class i, linked to class k
 
 module _ {s b : List ℕ} {o : Objects} {n : ℕ} {xs : List Class} {refs : List Ref} {w : List ℕ} (t : KeptRows s b o n xs refs w) {i at : ℕ} (h : i < length xs)
-    (place : at ≡ 48 * n + record_at (4 * n) 64 i) {lo hi k : ℕ} (p : lo ≡ le_at 8 w (at + 24)) (q : hi ≡ le_at 8 w (at + 32)) (hash : 0 < hi)
+    (place : at ≡ 56 * n + record_at (2 * n) 64 i) {lo hi k : ℕ} (p : lo ≡ le_at 8 w (at + 24)) (q : hi ≡ le_at 8 w (at + 32)) (hash : 0 < hi)
     (f : suc k ≡ seek (λ (c : Class). same_key c.key (public lo hi)) xs) (few : 2 ^ 63 + k < 2 ^ 64)
     {w' : List ℕ} (e : w' ≡ linked at (2 ^ 63 + k) w) where
   room : at + 64 ≤ length w
@@ -113,11 +113,11 @@ module _ {s b : List ℕ} {o : Objects} {n : ℕ} {xs : List Class} {refs : List
   change : Kept (at + 24) (at + 40) w w'
   change = rw e (linked-kept at (2 ^ 63 + k) w room)
 
-  behind : Kept (record_at (4 * n) 64 i + 24) (record_at (4 * n) 64 i + 40) (drop (48 * n) w) (drop (48 * n) w')
+  behind : Kept (record_at (2 * n) 64 i + 24) (record_at (2 * n) 64 i + 40) (drop (56 * n) w) (drop (56 * n) w')
   behind =
-      let a : at + 24 - 48 * n ≡ record_at (4 * n) 64 i + 24 = omega arith in
-      let d : at + 40 - 48 * n ≡ record_at (4 * n) 64 i + 40 = omega arith in
-      rw (a, d) at (kept-drop (48 * n) change (omega arith) (omega arith))
+      let a : at + 24 - 56 * n ≡ record_at (2 * n) 64 i + 24 = omega arith in
+      let d : at + 40 - 56 * n ≡ record_at (2 * n) 64 i + 40 = omega arith in
+      rw (a, d) at (kept-drop (56 * n) change (omega arith) (omega arith))
 
   -- its super means that class
   means : meant (class_no xs i).super ≡ some (class_no xs k).key
@@ -128,30 +128,30 @@ module _ {s b : List ℕ} {o : Objects} {n : ℕ} {xs : List Class} {refs : List
   inside : k < length xs
   inside = seek-inside xs (public lo hi) k (sym f ∙ omega arith)
 
-  own : SuperIn xs (class_no xs i).super (le_at 8 (drop (48 * n) w') (record_at (4 * n) 64 i + 24)) (le_at 8 (drop (48 * n) w') (record_at (4 * n) 64 i + 32))
+  own : SuperIn xs (class_no xs i).super (le_at 8 (drop (56 * n) w') (record_at (2 * n) 64 i + 24)) (le_at 8 (drop (56 * n) w') (record_at (2 * n) 64 i + 32))
   own =
-      let a : 48 * n + (record_at (4 * n) 64 i + 24) ≡ at + 24 = omega arith in
-      let d : 48 * n + (record_at (4 * n) 64 i + 32) ≡ at + 32 = omega arith in
+      let a : 56 * n + (record_at (2 * n) 64 i + 24) ≡ at + 24 = omega arith in
+      let d : 56 * n + (record_at (2 * n) 64 i + 32) ≡ at + 32 = omega arith in
       link k inside means
-      (le_at-drop 8 (48 * n) w' (record_at (4 * n) 64 i + 24) ∙ rw (a, e) (linked-lo at (2 ^ 63 + k) w room few))
-      (le_at-drop 8 (48 * n) w' (record_at (4 * n) 64 i + 32) ∙ rw (d, e) (linked-hi at (2 ^ 63 + k) w room))
+      (le_at-drop 8 (56 * n) w' (record_at (2 * n) 64 i + 24) ∙ rw (a, e) (linked-lo at (2 ^ 63 + k) w room few))
+      (le_at-drop 8 (56 * n) w' (record_at (2 * n) 64 i + 32) ∙ rw (d, e) (linked-hi at (2 ^ 63 + k) w room))
 
   -- the other records, and its other columns
-  other : (j m c : ℕ) → c + m ≤ 64 → (i ≡ j → ⊥) → le_at m (drop (48 * n) w') (record_at (4 * n) 64 j + c) ≡ le_at m (drop (48 * n) w) (record_at (4 * n) 64 j + c)
+  other : (j m c : ℕ) → c + m ≤ 64 → (i ≡ j → ⊥) → le_at m (drop (56 * n) w') (record_at (2 * n) 64 j + c) ≡ le_at m (drop (56 * n) w) (record_at (2 * n) 64 j + c)
   other j m c u z =
-      kept_read behind m (record_at (4 * n) 64 j + c)
-      (record_other (4 * n) 64 i (record_at (4 * n) 64 i + 24) (record_at (4 * n) 64 i + 40) (omega arith) (omega arith) j c m z u)
+      kept_read behind m (record_at (2 * n) 64 j + c)
+      (record_other (2 * n) 64 i (record_at (2 * n) 64 i + 24) (record_at (2 * n) 64 i + 40) (omega arith) (omega arith) j c m z u)
 
-  same : (j m c : ℕ) → c + m ≤ 64 → (c + m ≤ 24) ⊎ (40 ≤ c) → le_at m (drop (48 * n) w') (record_at (4 * n) 64 j + c) ≡ le_at m (drop (48 * n) w) (record_at (4 * n) 64 j + c)
+  same : (j m c : ℕ) → c + m ≤ 64 → (c + m ≤ 24) ⊎ (40 ≤ c) → le_at m (drop (56 * n) w') (record_at (2 * n) 64 j + c) ≡ le_at m (drop (56 * n) w) (record_at (2 * n) 64 j + c)
   same j m c u v = go (ℕ_discrete i j) v
     where
-      go : Dec (i ≡ j) → (c + m ≤ 24) ⊎ (40 ≤ c) → le_at m (drop (48 * n) w') (record_at (4 * n) 64 j + c) ≡ le_at m (drop (48 * n) w) (record_at (4 * n) 64 j + c)
-      go (yes z) (inl l) = kept_read behind m (record_at (4 * n) 64 j + c) (inl (omega arith))
-      go (yes z) (inr l) = kept_read behind m (record_at (4 * n) 64 j + c) (inr (omega arith))
+      go : Dec (i ≡ j) → (c + m ≤ 24) ⊎ (40 ≤ c) → le_at m (drop (56 * n) w') (record_at (2 * n) 64 j + c) ≡ le_at m (drop (56 * n) w) (record_at (2 * n) 64 j + c)
+      go (yes z) (inl l) = kept_read behind m (record_at (2 * n) 64 j + c) (inl (omega arith))
+      go (yes z) (inr l) = kept_read behind m (record_at (2 * n) 64 j + c) (inr (omega arith))
       go (no z) l = other j m c u z
 
   supers : (j : ℕ) → j < length xs → Dec (i ≡ j)
-      → SuperIn xs (class_no xs j).super (le_at 8 (drop (48 * n) w') (record_at (4 * n) 64 j + 24)) (le_at 8 (drop (48 * n) w') (record_at (4 * n) 64 j + 32))
+      → SuperIn xs (class_no xs j).super (le_at 8 (drop (56 * n) w') (record_at (2 * n) 64 j + 24)) (le_at 8 (drop (56 * n) w') (record_at (2 * n) 64 j + 32))
   supers j g (yes z) = rw (← z) own
   supers j g (no z) = super-same (t.tables.classes.supers j g) (other j 8 24 (omega arith) z) (other j 8 32 (omega arith) z)
 
@@ -161,7 +161,7 @@ module _ {s b : List ℕ} {o : Objects} {n : ℕ} {xs : List Class} {refs : List
       bytes = t.tables.bytes;
       count = t.tables.count;
       room = rw change.size t.tables.room;
-      objects = rw (kept_wider change (48 * n) (at + 40) (omega arith) (omega arith)).before t.tables.objects;
+      objects = rw (kept_wider change (56 * n) (at + 40) (omega arith) (omega arith)).before t.tables.objects;
       classes = record {
         keys = holds-column t.tables.classes.keys behind i (omega arith) (omega arith);
         columns = λ j g. class_same (t.tables.classes.columns j g) (λ m c l u. same j m c u (inr l));
@@ -171,7 +171,7 @@ module _ {s b : List ℕ} {o : Objects} {n : ℕ} {xs : List Class} {refs : List
     rows = record {
       room = rw behind.size t.rows.room;
       words = λ r g. rw behind.size (words_same
-          (λ m x l u. kept_read behind m x (inr (omega (arith, record_next (4 * n) 64 i (length xs) h, t.apart))))
+          (λ m x l u. kept_read behind m x (inr (omega (arith, record_next (2 * n) 64 i (length xs) h, t.apart))))
           (t.rows.words r g));
       read = t.rows.read;
     };
@@ -234,6 +234,6 @@ module _ {n : ℕ} {xs : List Class} {k : ℕ} {u v w : List ℕ} (t : LinkedTo 
 pub linked-marks : {s b : List ℕ} {o : Objects} {n rows : ℕ} {xs : List Class} {refs : List Ref} {k : ℕ} {w w' : List ℕ} → KeptRows s b o n xs refs w
     → length refs ≡ rows → k ≤ length xs → LinkedTo n xs k w w' → length w' ≡ length w → MarksKept n rows w w'
 linked-marks {n = n} {rows} {xs} {refs} {k} {w} {w'} t count h l size =
-    let d = length-drop (48 * n) w in
+    let d = length-drop (56 * n) w in
     marks-whole n rows w w' (omega (arith, t.apart, t.tables.room, d)) size
-    (λ r g. l.others (row_at w r + 28) 4 (λ i u. inr (omega (arith, record_next (4 * n) 64 i (length xs) (omega arith), t.apart, t.tables.room, d))))
+    (λ r g. l.others (row_at w r + 28) 4 (λ i u. inr (omega (arith, record_next (2 * n) 64 i (length xs) (omega arith), t.apart, t.tables.room, d))))

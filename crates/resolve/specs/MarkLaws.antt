@@ -226,9 +226,9 @@ module _ {s : List ℕ} {at count : ℕ} (sites : Sites s at count) (all : AllRe
 pub marks-none : (w : List ℕ) → MarksIn [] w
 marks-none w = record { room = omega arith; is = λ r h. absurd (omega (arith, h)) }
 
-pub marks-kept : (n : ℕ) {l w w' : List ℕ} → MarksKept n (length l) w w' → MarksIn l (drop (48 * n) w) → MarksIn l (drop (48 * n) w')
+pub marks-kept : (n : ℕ) {l w w' : List ℕ} → MarksKept n (length l) w w' → MarksIn l (drop (56 * n) w) → MarksIn l (drop (56 * n) w')
 marks-kept n {l} {w} {w'} k t = record {
-  room = omega (arith, t.room, length-drop (48 * n) w, length-drop (48 * n) w', k.size);
+  room = omega (arith, t.room, length-drop (56 * n) w, length-drop (56 * n) w', k.size);
   is = λ r h. k.same r h ∙ t.is r h;
 }
 
@@ -245,13 +245,13 @@ row-behind a r w room c =
     le_at-drop 4 a w (row_at (drop a w) r + c) ∙ ap (le_at 4 w) z
 
 -- each mark reads as it did in the whole buffer
-pub marks-whole : (n rows : ℕ) (w w' : List ℕ) → 48 * n + 32 * rows ≤ length w → length w' ≡ length w
+pub marks-whole : (n rows : ℕ) (w w' : List ℕ) → 56 * n + 32 * rows ≤ length w → length w' ≡ length w
     → ((r : ℕ) → r < rows → le_at 4 w' (row_at w r + 28) ≡ le_at 4 w (row_at w r + 28)) → MarksKept n rows w w'
 marks-whole n rows w w' room size same = record {
   size = size;
   same = λ r h.
       let z : row_at w' r ≡ row_at w r = rw size in
-      row-behind (48 * n) r w' (omega arith) 28 ∙ rw z (same r h) ∙ sym (row-behind (48 * n) r w (omega arith) 28);
+      row-behind (56 * n) r w' (omega arith) 28 ∙ rw z (same r h) ∙ sym (row-behind (56 * n) r w (omega arith) 28);
 }
 
 -- row i of some was resolved
@@ -260,8 +260,8 @@ pub part-marks : {lookups : ℕ} {s b : List ℕ} {o : Objects} {n rows : ℕ} {
 part-marks {n = n} {rows} {i = i} {w} {w'} t count h k =
     marks-whole n rows w w' room k.size (λ r g. kept_read k 4 (row_at w r + 28) (apart r g))
   where
-    room : 48 * n + 32 * rows ≤ length w
-    room = omega (arith, t.apart, t.tables.room, length-drop (48 * n) w)
+    room : 56 * n + 32 * rows ≤ length w
+    room = omega (arith, t.apart, t.tables.room, length-drop (56 * n) w)
 
     apart : (r : ℕ) → r < rows → (row_at w r + 28 + 4 ≤ row_at w i) ⊎ (row_at w i + 20 ≤ row_at w r + 28)
     apart r g =

@@ -53,4 +53,4 @@ pub record MarksIn (marks : List ℕ) (w : List ℕ) : Type 0 where
 -- behind n script objects the marks of so many rows are as they were
 pub record MarksKept (n rows : ℕ) (w w' : List ℕ) : Type 0 where
   pub size : length w' ≡ length w
-  pub same : (r : ℕ) → r < rows → le_at 4 (drop (48 * n) w') (row_at (drop (48 * n) w') r + 28) ≡ le_at 4 (drop (48 * n) w) (row_at (drop (48 * n) w) r + 28)
+  pub same : (r : ℕ) → r < rows → le_at 4 (drop (56 * n) w') (row_at (drop (56 * n) w') r + 28) ≡ le_at 4 (drop (56 * n) w) (row_at (drop (56 * n) w) r + 28)

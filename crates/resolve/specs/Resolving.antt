@@ -28,8 +28,8 @@ targeted at class u w =
 -- row r still has the words of the reference ref, apart from the classes
 pub record RowIn (s b : List ℕ) (o : Objects) (n : ℕ) (xs : List Class) (r : ℕ) (ref : Ref) (w : List ℕ) : Type 0 where
   pub tables : Tables s b o n xs w
-  pub apart : record_at (4 * n) 64 (length xs) + 32 * (r + 1) ≤ length (drop (48 * n) w)
-  pub words : WordsIn (drop (48 * n) w) (row_at (drop (48 * n) w) r) ref
+  pub apart : record_at (2 * n) 64 (length xs) + 32 * (r + 1) ≤ length (drop (56 * n) w)
+  pub words : WordsIn (drop (56 * n) w) (row_at (drop (56 * n) w) r) ref
   pub read : Read ref
 
 -- some corpus's
@@ -44,5 +44,5 @@ pub record SomeRow (n r : ℕ) (w : List ℕ) : Type 0 where
 -- it was resolved: only the first 20 of its bytes are written, and its class and native class take `total` bytes
 pub record RowResolved (m : Limits) (b : List ℕ) (o : Objects) (n : ℕ) (xs : List Class) (r : ℕ) (ref : Ref) (w w' : List ℕ) (total : ℕ) : Type 0 where
   pub change : Kept (row_at w r) (row_at w r + 20) w w'
-  pub target : TargetIn b o xs m.lookups (drop (48 * n) w') (row_at (drop (48 * n) w') r) ref
+  pub target : TargetIn b o xs m.lookups (drop (56 * n) w') (row_at (drop (56 * n) w') r) ref
   pub size : total ≡ target_size m xs o ref

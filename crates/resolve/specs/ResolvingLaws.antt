@@ -95,17 +95,17 @@ pub record Small (u : Object) : Type 0 where
 
 module _ {s b : List ℕ} {o : Objects} {n : ℕ} {xs : List Class} {w : List ℕ} (t : Tables s b o n xs w) (bs : Bytes w) where
   pub class-small : (ref : Ref) → class_number xs ref < 2 ^ 32
-  class-small ref = omega (arith, class-inside xs ref, holds-few t.classes.keys (rw (lent-part (48 * n) w) at (bytes-part (length w - 48 * n) (48 * n) w bs)))
+  class-small ref = omega (arith, class-inside xs ref, holds-few t.classes.keys (rw (lent-part (56 * n) w) at (bytes-part (length w - 56 * n) (56 * n) w bs)))
 
   pub object-small : (k : ℕ) → k ≤ n → Small (columns_of b o k)
   unfolding object_no
   object-small zero h = record { outer = omega arith; start = omega arith; size = omega arith; number = omega arith }
   object-small (suc i) h =
-      let v = take (48 * n) w in
-      let z : 48 * i < length v = omega (arith, t.objects.all.entered.size, t.count) in
-      let at = record_at (length v / 48) 44 i in
+      let v = take (56 * n) w in
+      let z : 56 * i < length v = omega (arith, t.objects.all.entered.size, t.count) in
+      let at = record_at (3 * (length v / 56)) 44 i in
       let c = columns-at t.objects i z refl in
-      let vs = bytes-part (48 * n) 0 w bs in
+      let vs = bytes-part (56 * n) 0 w bs in
       record {
         outer = omega (arith, link_at_lem t.objects i z refl refl, le_at-lt 4 v (at + 24) vs);
         start = omega (arith, c.start, le_at-lt 4 v (at + 28) vs);
@@ -173,40 +173,40 @@ kept-drop {b} {e} {w} {w'} a k h g =
 -- ---- one row
 
 module _ {s b : List ℕ} {o : Objects} {n : ℕ} {xs : List Class} {r : ℕ} {ref : Ref} {w : List ℕ} (t : RowIn s b o n xs r ref w) where
-  pub row_room : 48 * n + 32 * (r + 1) ≤ length w
-  row_room = omega (arith, t.apart, t.tables.room, length-drop (48 * n) w)
+  pub row_room : 56 * n + 32 * (r + 1) ≤ length w
+  row_room = omega (arith, t.apart, t.tables.room, length-drop (56 * n) w)
 
   -- its place in the whole buffer
-  row-place : row_at w r ≡ 48 * n + row_at (drop (48 * n) w) r
-  row-place = omega (arith, row_room, length-drop (48 * n) w)
+  row-place : row_at w r ≡ 56 * n + row_at (drop (56 * n) w) r
+  row-place = omega (arith, row_room, length-drop (56 * n) w)
 
   -- what code reads there
   pub row-means : {x y : ℕ} → x ≡ le_at 8 w (row_at w r) → y ≡ le_at 8 w (row_at w r + 8) → Means x y ref
   row-means p q =
-      let z : row_at w r + 8 ≡ 48 * n + (row_at (drop (48 * n) w) r + 8) = omega (arith, row-place) in
+      let z : row_at w r + 8 ≡ 56 * n + (row_at (drop (56 * n) w) r + 8) = omega (arith, row-place) in
       record {
-        lo = p ∙ rw row-place (sym (le_at-drop 8 (48 * n) w (row_at (drop (48 * n) w) r))) ∙ t.words.lo;
-        hi = q ∙ rw z (sym (le_at-drop 8 (48 * n) w (row_at (drop (48 * n) w) r + 8))) ∙ t.words.hi;
+        lo = p ∙ rw row-place (sym (le_at-drop 8 (56 * n) w (row_at (drop (56 * n) w) r))) ∙ t.words.lo;
+        hi = q ∙ rw z (sym (le_at-drop 8 (56 * n) w (row_at (drop (56 * n) w) r + 8))) ∙ t.words.hi;
         read = t.read;
       }
 
   module _ {w' : List ℕ} (k : Kept (row_at w r) (row_at w r + 20) w w') where
-    behind : Kept (row_at (drop (48 * n) w) r) (row_at (drop (48 * n) w) r + 20) (drop (48 * n) w) (drop (48 * n) w')
+    behind : Kept (row_at (drop (56 * n) w) r) (row_at (drop (56 * n) w) r + 20) (drop (56 * n) w) (drop (56 * n) w')
     behind =
-        let p : row_at w r - 48 * n ≡ row_at (drop (48 * n) w) r = omega (arith, row-place) in
-        let q : row_at w r + 20 - 48 * n ≡ row_at (drop (48 * n) w) r + 20 = omega (arith, row-place) in
-        rw (p, q) at (kept-drop (48 * n) k (omega (arith, row-place)) (omega arith))
+        let p : row_at w r - 56 * n ≡ row_at (drop (56 * n) w) r = omega (arith, row-place) in
+        let q : row_at w r + 20 - 56 * n ≡ row_at (drop (56 * n) w) r + 20 = omega (arith, row-place) in
+        rw (p, q) at (kept-drop (56 * n) k (omega (arith, row-place)) (omega arith))
 
     -- the tables stay
     pub row-tables : Tables s b o n xs w'
     row-tables =
-        let f = kept_wider k (48 * n) (row_at w r + 20) (omega (arith, row-place)) (omega arith) in
+        let f = kept_wider k (56 * n) (row_at w r + 20) (omega (arith, row-place)) (omega arith) in
         record {
           bytes = t.tables.bytes;
           count = t.tables.count;
           room = rw k.size t.tables.room;
           objects = rw f.before t.tables.objects;
-          classes = classes-kept (row_at (drop (48 * n) w) r) (row_at (drop (48 * n) w) r + 20) t.tables.classes behind (omega (arith, t.apart));
+          classes = classes-kept (row_at (drop (56 * n) w) r) (row_at (drop (56 * n) w) r + 20) t.tables.classes behind (omega (arith, t.apart));
         }
 
   -- the row is resolved
@@ -223,15 +223,15 @@ module _ {s b : List ℕ} {o : Objects} {n : ℕ} {xs : List Class} {r : ℕ} {r
         (rw i (object-small (row-tables change) bs (object_number m.lookups xs o ref) (object-inside t.tables m.lookups ref))))
 
     -- a column of the row, seen from behind the objects
-    row_same : 48 * n + row_at (drop (48 * n) w') r ≡ row_at w r
-    row_same = omega (arith, row_room, length-drop (48 * n) w', change.size)
+    row_same : 56 * n + row_at (drop (56 * n) w') r ≡ row_at w r
+    row_same = omega (arith, row_room, length-drop (56 * n) w', change.size)
 
-    column : (p q : ℕ) {v : ℕ} → 48 * n + p ≡ q → le_at 4 w' q ≡ v → le_at 4 (drop (48 * n) w') p ≡ v
-    column p q z e = le_at-drop 4 (48 * n) w' p ∙ rw z e
+    column : (p q : ℕ) {v : ℕ} → 56 * n + p ≡ q → le_at 4 w' q ≡ v → le_at 4 (drop (56 * n) w') p ≡ v
+    column p q z e = le_at-drop 4 (56 * n) w' p ∙ rw z e
 
     pub row-resolved : {total : ℕ} → total ≡ target_size m xs o ref → RowResolved m b o n xs r ref w w' total
     row-resolved e =
-        let p = row_at (drop (48 * n) w') r in
+        let p = row_at (drop (56 * n) w') r in
         let a = row_at w r in
         record {
           change = change;
@@ -250,9 +250,9 @@ module _ {s b : List ℕ} {o : Objects} {n : ℕ} {xs : List Class} {r : ℕ} {r
 -- the first i are resolved, the others are as they were kept
 pub record Part (lookups : ℕ) (s b : List ℕ) (o : Objects) (n : ℕ) (xs : List Class) (refs : List Ref) (i : ℕ) (w : List ℕ) : Type 0 where
   pub tables : Tables s b o n xs w
-  pub apart : record_at (4 * n) 64 (length xs) + 32 * length refs ≤ length (drop (48 * n) w)
-  pub done : (r : ℕ) → r < i → TargetIn b o xs lookups (drop (48 * n) w) (row_at (drop (48 * n) w) r) (get_or refs r null)
-  pub left : (r : ℕ) → i ≤ r → r < length refs → WordsIn (drop (48 * n) w) (row_at (drop (48 * n) w) r) (get_or refs r null)
+  pub apart : record_at (2 * n) 64 (length xs) + 32 * length refs ≤ length (drop (56 * n) w)
+  pub done : (r : ℕ) → r < i → TargetIn b o xs lookups (drop (56 * n) w) (row_at (drop (56 * n) w) r) (get_or refs r null)
+  pub left : (r : ℕ) → i ≤ r → r < length refs → WordsIn (drop (56 * n) w) (row_at (drop (56 * n) w) r) (get_or refs r null)
   pub read : (r : ℕ) → r < length refs → Read (get_or refs r null)
 
 -- a row stays where nothing within its bytes changes
@@ -297,13 +297,13 @@ module _ {lookups : ℕ} {s b : List ℕ} {o : Objects} {n : ℕ} {xs : List Cla
       part-row = record { tables = t.tables; apart = omega (arith, t.apart); words = t.left i (omega arith) h; read = t.read i h }
 
       module _ {objects : ℕ} {w' : List ℕ} {x : ℕ} (c : RowResolved (limits_of lookups objects) b o n xs i (get_or refs i null) w w' x) where
-        kept : Kept (row_at (drop (48 * n) w) i) (row_at (drop (48 * n) w) i + 20) (drop (48 * n) w) (drop (48 * n) w')
+        kept : Kept (row_at (drop (56 * n) w) i) (row_at (drop (56 * n) w) i + 20) (drop (56 * n) w) (drop (56 * n) w')
         kept = behind part-row c.change
 
-        other : (r : ℕ) → r < length refs → (r ≡ i → ⊥) → (k p : ℕ) → row_at (drop (48 * n) w) r ≤ p → p + k ≤ row_at (drop (48 * n) w) r + 32
-            → le_at k (drop (48 * n) w') p ≡ le_at k (drop (48 * n) w) p
+        other : (r : ℕ) → r < length refs → (r ≡ i → ⊥) → (k p : ℕ) → row_at (drop (56 * n) w) r ≤ p → p + k ≤ row_at (drop (56 * n) w) r + 32
+            → le_at k (drop (56 * n) w') p ≡ le_at k (drop (56 * n) w) p
         other r g ne k p l u =
-            kept_read kept k p (rows_apart (length (drop (48 * n) w)) i r ne (omega (arith, t.apart)) (omega (arith, t.apart)) k p l u)
+            kept_read kept k p (rows_apart (length (drop (56 * n) w)) i r ne (omega (arith, t.apart)) (omega (arith, t.apart)) k p l u)
 
         pub part-more : Part lookups s b o n xs refs (i + 1) w'
         part-more = record {

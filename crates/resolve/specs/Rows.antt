@@ -108,23 +108,23 @@ pub record TargetsIn (b : List ℕ) (o : Objects) (xs : List Class) (lookups : �
 
 -- ---- the whole work buffer
 
--- the n script objects o of the block b in front, classes xs of the corpus s behind them, in 4 n buckets
+-- the n script objects o of the block b in front, classes xs of the corpus s behind them, in 2 n buckets
 pub record Tables (s b : List ℕ) (o : Objects) (n : ℕ) (xs : List Class) (w : List ℕ) : Type 0 where
   pub bytes : Bytes b
   pub count : n ≡ o.layout.count
-  pub room : 48 * n ≤ length w
-  pub objects : ObjectsIn b o (take (48 * n) w)
-  pub classes : ClassesIn s (4 * n) xs (drop (48 * n) w)
+  pub room : 56 * n ≤ length w
+  pub objects : ObjectsIn b o (take (56 * n) w)
+  pub classes : ClassesIn s (2 * n) xs (drop (56 * n) w)
 
 -- and rows at the end, apart from the classes
 pub record Kept (s b : List ℕ) (o : Objects) (n : ℕ) (xs : List Class) (refs : List Ref) (w : List ℕ) : Type 0 where
   pub tables : Tables s b o n xs w
-  pub rows : RowsIn refs (drop (48 * n) w)
-  pub apart : record_at (4 * n) 64 (length xs) + 32 * length refs ≤ length (drop (48 * n) w)
+  pub rows : RowsIn refs (drop (56 * n) w)
+  pub apart : record_at (2 * n) 64 (length xs) + 32 * length refs ≤ length (drop (56 * n) w)
 
 pub record Resolved (s b : List ℕ) (o : Objects) (n : ℕ) (xs : List Class) (lookups : ℕ) (refs : List Ref) (w : List ℕ) : Type 0 where
   pub tables : Tables s b o n xs w
-  pub targets : TargetsIn b o xs lookups refs (drop (48 * n) w)
+  pub targets : TargetsIn b o xs lookups refs (drop (56 * n) w)
 
 -- some corpus's
 pub record SomeTables (n : ℕ) (w : List ℕ) : Type 0 where
@@ -152,7 +152,7 @@ pub record SomeKept (n rows : ℕ) (w : List ℕ) : Type 0 where
 
 -- where the two numbers are that class i's super is kept in
 abbrev pub super_at : ℕ → ℕ → ℕ
-super_at n i = 48 * n + record_at (4 * n) 64 i + 24
+super_at n i = 56 * n + record_at (2 * n) 64 i + 24
 
 -- a super r that is kept in (x, y) is then kept in (x', y'): as a link to its class, or as it was where it has none
 pub record LinkedAs (xs : List Class) (r : Ref) (x y x' y' : ℕ) : Type 0 where

@@ -37,8 +37,8 @@ pub fn class_at(w: &[u8], n: usize, key: Words) -> Option<usize>
     ensures { (s b : List ℕ) (o : Objects) (xs : List Class) → Tables s b o n xs w.now
         → one_more result ≡ seek (λ (c : Class). same_key c.key (public key.lo key.hi)) xs }
 {
-    let size = 48 * n;
-    look_up(&w[size..], 4 * n, 64, key.lo, key.hi)
+    let size = 56 * n;
+    look_up(&w[size..], 2 * n, 64, key.lo, key.hi)
 }
 
 // The class of what a record keeps: linked, or looked up.
@@ -64,14 +64,14 @@ fn end_of(w: &[u8], n: usize, class: Option<usize>, kept: Words, lookups: usize)
     ensures { (s b : List ℕ) (o : Objects) (xs : List Class) (r : Ref) → Tables s b o n xs w.now → Keeps xs kept.lo kept.hi r
         → one_more class ≡ class_number xs r → one_more result ≡ object_number lookups xs o r }
 {
-    let size = 48 * n;
+    let size = 56 * n;
     let mut next = class;
     let mut m = kept;
     for _ in 0..lookups {
         let Some(k) = next else {
             break;
         };
-        m = words_at(w, size + record_at(4 * n, 64, k) + 24);
+        m = words_at(w, size + record_at(2 * n, 64, k) + 24);
         next = class_of(w, n, m);
     }
     if next.is_some() || m.hi != 0 || m.lo == 0 {

@@ -18,7 +18,7 @@ fn link_class(w: &mut [u8], n: usize, i: usize)
         → ClassLinked n xs i w.old w.new }
     ensures only { SuperOnly n i w.old w.new }
 {
-    let at = 48 * n + record_at(4 * n, 64, i);
+    let at = 56 * n + record_at(2 * n, 64, i);
     let m = words_at(w, at + 24);
     if m.hi == 0 {
         return;

@@ -77,7 +77,7 @@ fn object_of(w: &[u8], n: usize, object: Option<usize>) -> Object
     requires { SomeTables n w.now × (one_more object ≤ n) }
     ensures { (s b : List ℕ) (o : Objects) (xs : List Class) → Tables s b o n xs w.now → result ≡ columns_of b o (one_more object) }
 {
-    let size = 48 * n;
+    let size = 56 * n;
     match object {
         Some(i) => object_at(&w[..size], i),
         None => Object {
@@ -98,7 +98,7 @@ fn object_len(w: &[u8], n: usize, object: Option<usize>, m: Limits) -> usize
     let Some(i) = object else {
         return 1;
     };
-    let size = 48 * n;
+    let size = 56 * n;
     path_len(&w[..size], i, m.objects).map_or(1, |path| path.len)
 }
 
@@ -110,11 +110,11 @@ fn target_len(w: &[u8], n: usize, t: Target, m: Limits) -> usize
         → Leads xs o lookups ref (one_more t.class) (one_more t.object) → result ≡ target_size (limits_of lookups m.objects) xs o ref) × (result ≤ 17041700) }
 {
     let native = object_len(w, n, t.object, m);
-    let size = 48 * n;
-    // Kept: a match: with `t.class.map_or(2 * native, |i| native + class_len(&w[size..], 4 * n, i))` the range, what `class_len` asks and the sum are one goal over
+    let size = 56 * n;
+    // Kept: a match: with `t.class.map_or(2 * native, |i| native + class_len(&w[size..], 2 * n, i))` the range, what `class_len` asks and the sum are one goal over
     // all that the closure takes along, a page long, which neither `search` nor `grind` proved; the match has a short one for each.
     match t.class {
-        Some(i) => native + class_len(&w[size..], 4 * n, i),
+        Some(i) => native + class_len(&w[size..], 2 * n, i),
         None => 2 * native,
     }
 }

@@ -39,10 +39,10 @@ module _ {n : ℕ} {w d : List ℕ} {step first all : ℕ} (t : RowsMarked n w d
   rows_inside = omega (arith, count, t.first-is, t.all-is, length-append t.before (own ++ t.after), length-append own t.after)
 
   -- all are there
-  pub rows-there : 32 * all ≤ length (drop (48 * n) w)
+  pub rows-there : 32 * all ≤ length (drop (56 * n) w)
   rows-there = omega (arith, t.all-is, t.marks.room)
 
-  module _ (k : ℕ) {m : ℕ} (is : m ≡ le_at 4 (drop (48 * n) w) (row_at (drop (48 * n) w) (first + k) + 28)) where
+  module _ (k : ℕ) {m : ℕ} (is : m ≡ le_at 4 (drop (56 * n) w) (row_at (drop (56 * n) w) (first + k) + 28)) where
     marked : first + k < all → m ≡ get_or (own ++ t.after) k 0
     marked h =
         is ∙ (t.marks.is (first + k) (omega (arith, t.all-is))
@@ -111,7 +111,7 @@ marks-next c from i =
     let r = read_in (block_at c at) in
     rw (add-one i) (omega (arith, length-append (marks_in c from i) (marks_at c at), mark-count r (first_step c at) r.exports, refs-count (package_at c at)))
 
-module _ (n : ℕ) (w : List ℕ) {c : List ℕ} {from total all : ℕ} (sites : Sites c from total) (read : AllRead c from total) (marks : MarksIn (marks_in c from total) (drop (48 * n) w))
+module _ (n : ℕ) (w : List ℕ) {c : List ℕ} {from total all : ℕ} (sites : Sites c from total) (read : AllRead c from total) (marks : MarksIn (marks_in c from total) (drop (56 * n) w))
     (size : length (marks_in c from total) ≡ all) (i : ℕ) (inside : i < total) where
   pub rows-marked : {first : ℕ} → first ≡ length (marks_in c from i)
       → RowsMarked n w (block_at c (place_of c from i)) (first_step c (place_of c from i)) first all

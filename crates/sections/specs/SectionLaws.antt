@@ -24,11 +24,11 @@ use Rattle.sections.specs.declared.section.Section.{Section}
 
 -- where a resolved row leads
 pub row_target : {c s : List ℕ} {n : ℕ} {w : List ℕ} {objects r : ℕ} {x : Ref} {h : How} → ResolvedFrom c s n w objects r (x ∷ []) h
-    → Target c s h.objects n h.classes h.lookups objects w x (led_at (drop (48 * n) w) (row_at (drop (48 * n) w) r))
+    → Target c s h.objects n h.classes h.lookups objects w x (led_at (drop (56 * n) w) (row_at (drop (56 * n) w) r))
 row_target {c} {s} {n} {w} {objects} {r} {x} {h} t =
     let a = rw (add-zero r) at (t.targets 0 (omega arith)) in
     let b = rw (add-zero r) at (t.texts 0 (omega arith)) in
-    let e = led-behind (48 * n) r w (omega (arith, t.there, t.tables.room, length-drop (48 * n) w)) in
+    let e = led-behind (56 * n) r w (omega (arith, t.there, t.tables.room, length-drop (56 * n) w)) in
     record {
       tables = t.tables;
       class = a.class;
@@ -74,7 +74,7 @@ module _ {A : Type 0} (f : A → List Ref) (g : A → List ℕ) (l : List A) (i 
     -- how many bytes and rows there are then: not more than the buffers have room for
     pub item-sums : {q : List ℕ} {v : Section} → Filled (f (get_or l i d)) (g (get_or l i d)) (take (length o - z.size) (drop z.size o)) q v
         → (z.size + v.size ≤ length out) × (z.rows + v.rows ≤ length w)
-    item-sums y = ((item-filled y).wrote.fits, omega (arith, y.rows, item_room.resolved.there, length-drop (48 * n) w))
+    item-sums y = ((item-filled y).wrote.fits, omega (arith, y.rows, item_room.resolved.there, length-drop (56 * n) w))
 
 -- all items
 pub filled-all : {A : Type 0} (f : A → List Ref) (g : A → List ℕ) (l : List A) (i : ℕ) {out o : List ℕ} {z : Section} → i ≡ length l

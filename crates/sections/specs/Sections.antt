@@ -74,9 +74,9 @@ refs_in ps = flat refs_of ps
 -- a work buffer whose rows from row r on are resolved, with texts kept: refs are what their class indices mean
 pub record ResolvedFrom (c s : List ℕ) (n : ℕ) (w : List ℕ) (objects r : ℕ) (refs : List Ref) (h : How) : Type 0 where
   pub tables : Tables c s h.objects n h.classes w
-  pub there : 32 * (r + length refs) ≤ length (drop (48 * n) w)
+  pub there : 32 * (r + length refs) ≤ length (drop (56 * n) w)
   pub targets : (k : ℕ) → k < length refs
-      → TargetIn s h.objects h.classes h.lookups (drop (48 * n) w) (row_at (drop (48 * n) w) (r + k)) (get_or refs k null)
+      → TargetIn s h.objects h.classes h.lookups (drop (56 * n) w) (row_at (drop (56 * n) w) (r + k)) (get_or refs k null)
   pub texts : (k : ℕ) → k < length refs → TextIn c s n (length h.classes) objects 0 (length w) w (led_at w (row_at w (r + k)))
 
 -- and room for the bytes
@@ -98,7 +98,7 @@ behind_of n z = record { size = n + z.size; rows = z.rows }
 pub record RowsMarked (n : ℕ) (w d : List ℕ) (step first all : ℕ) : Type 0 where
   pub before : List ℕ
   pub after : List ℕ
-  pub marks : MarksIn (before ++ (marks_from (read_in d) step (read_in d).exports ++ after)) (drop (48 * n) w)
+  pub marks : MarksIn (before ++ (marks_from (read_in d) step (read_in d).exports ++ after)) (drop (56 * n) w)
   pub first-is : length before ≡ first
   pub all-is : length (before ++ (marks_from (read_in d) step (read_in d).exports ++ after)) ≡ all
   pub later : Least (4 * (step + length (read_in d).exports)) after

@@ -57,9 +57,9 @@ pub record BothPut (m : Limits) (xs : List Class) (o : Objects) (r : Ref) (old n
 
 -- class i of the corpus s is entered, and the buffer has room for its text
 pub record ClassRoom (s : List ℕ) (n i : ℕ) (w out : List ℕ) : Type 0 where
-  pub front : 48 * n ≤ length w
+  pub front : 56 * n ≤ length w
   pub classes : List Class
-  pub holds : ClassesIn s (4 * n) classes (drop (48 * n) w)
+  pub holds : ClassesIn s (2 * n) classes (drop (56 * n) w)
   pub inside : i < length classes
   pub room : length (text_bytes (class_no classes i).path) ≤ length out
 

@@ -166,11 +166,11 @@ module _ {c b : List ℕ} {o : Objects} {n : ℕ} {xs : List Class} {lookups obj
       go (suc i) e = ap path_text (lost-path objects b o i e)
 
   -- it leads to object i
-  native-some : (l.object.outer ≡ 0 → ⊥) → (i : ℕ) × (native_text (limits_of lookups objects) xs o r ≡ path_text (path_no objects o i)) × Stands b o (take (48 * n) w) i l.object
+  native-some : (l.object.outer ≡ 0 → ⊥) → (i : ℕ) × (native_text (limits_of lookups objects) xs o r ≡ path_text (path_no objects o i)) × Stands b o (take (56 * n) w) i l.object
   native-some z = go (object_number lookups xs o r) native-path t.object (object-inside t.tables lookups r)
     where
       go : (k : ℕ) → native_text (limits_of lookups objects) xs o r ≡ path_text (path_by objects o k) → l.object ≡ columns_of b o k → k ≤ n
-          → (i : ℕ) × (native_text (limits_of lookups objects) xs o r ≡ path_text (path_no objects o i)) × Stands b o (take (48 * n) w) i l.object
+          → (i : ℕ) × (native_text (limits_of lookups objects) xs o r ≡ path_text (path_no objects o i)) × Stands b o (take (56 * n) w) i l.object
       go zero p e h = absurd (z (ap (λ (u : Object). u.outer) e))
       go (suc i) p e h = (i, p, record { holds = t.tables.objects; inside = omega (arith, t.tables.count); is = e })
 
@@ -181,12 +181,12 @@ module _ {c b : List ℕ} {o : Objects} {n : ℕ} {xs : List Class} {lookups obj
     path_room : length (text_bytes (or_unknown (path_text path_of_lem))) ≤ length s
     path_room = rw (native-some z).1 at room
 
-    pub native_roomy : Roomy b (take (48 * n) w) l.object objects (behind 4 s)
+    pub native_roomy : Roomy b (take (56 * n) w) l.object objects (behind 4 s)
     native_roomy = record { objects = o; number = (native-some z).0; stands = (native-some z).2; room = text_path s path_of_lem path_room }
 
     -- its path, where it is known, was written behind the first four bytes
     module _ {p : List ℕ} {a : Maybe Told}
-        (put : (q : Objects) (j : ℕ) → Stands b q (take (48 * n) w) j l.object → length (path_bytes (path_no objects q j)) ≤ length (behind 4 s)
+        (put : (q : Objects) (j : ℕ) → Stands b q (take (56 * n) w) j l.object → length (path_bytes (path_no objects q j)) ≤ length (behind 4 s)
         → Written (path_no objects q j) (behind 4 s) p a) where
       written : Written path_of_lem (behind 4 s) p a
       written = put o (native-some z).0 (native-some z).2 (text_path s path_of_lem path_room)

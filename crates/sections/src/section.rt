@@ -157,7 +157,7 @@ fn put_sections(out: &mut [u8], src: &Source, notes: &mut PackageNotes) -> usize
     requires sections_room { (h : How)
         × SectionsRoom src.now.packages.corpus.now src.now.script.now src.now.objects src.now.work.now src.now.limit src.now.packages.at src.now.packages.count
         out.old h }
-    requires marks_in { MarksIn (marks_in src.now.packages.corpus.now src.now.packages.at src.now.packages.count) (drop (48 * src.now.objects) src.now.work.now)
+    requires marks_in { MarksIn (marks_in src.now.packages.corpus.now src.now.packages.at src.now.packages.count) (drop (56 * src.now.objects) src.now.work.now)
         × (length (marks_in src.now.packages.corpus.now src.now.packages.at src.now.packages.count) ≡ src.now.rows) }
     ensures { SectionsPut src.now.packages.corpus.now src.now.script.now src.now.objects src.now.work.now src.now.limit src.now.packages.at
         src.now.packages.count out.old out.new result }
@@ -191,7 +191,7 @@ pub fn put_report(out: &mut [u8], src: &Source, notes: &mut PackageNotes) -> usi
     requires read { AllRead src.now.packages.corpus.now src.now.packages.at src.now.packages.count × (src.now.packages.count < 2 ^ 32) }
     requires report_room { ReportRoom src.now.packages.corpus.now src.now.script.now src.now.objects src.now.packages.at src.now.packages.count src.now.limit
         src.now.work.now out.old }
-    requires marks_in { MarksIn (marks_in src.now.packages.corpus.now src.now.packages.at src.now.packages.count) (drop (48 * src.now.objects) src.now.work.now)
+    requires marks_in { MarksIn (marks_in src.now.packages.corpus.now src.now.packages.at src.now.packages.count) (drop (56 * src.now.objects) src.now.work.now)
         × (length (marks_in src.now.packages.corpus.now src.now.packages.at src.now.packages.count) ≡ src.now.rows) }
     ensures { (o : Objects) (lookups : ℕ) → Ready src.now.packages.corpus.now src.now.script.now o src.now.objects src.now.packages.at src.now.packages.count
         lookups src.now.limit src.now.work.now

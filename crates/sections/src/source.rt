@@ -19,17 +19,17 @@ pub struct Source<'a> {
 impl<'a> Source<'a> {
     // The script objects in the front of the work buffer.
     pub fn front(&self) -> &'a [u8]
-        requires { 48 * self.now.objects ≤ length self.now.work.now }
-        ensures { result.now ≡ take (48 * self.now.objects) self.now.work.now }
+        requires { 56 * self.now.objects ≤ length self.now.work.now }
+        ensures { result.now ≡ take (56 * self.now.objects) self.now.work.now }
     {
-        &self.work[..48 * self.objects]
+        &self.work[..56 * self.objects]
     }
 
     // What stands behind them: classes and rows.
     pub fn rest(&self) -> &'a [u8]
-        requires { 48 * self.now.objects ≤ length self.now.work.now }
-        ensures { result.now ≡ drop (48 * self.now.objects) self.now.work.now }
+        requires { 56 * self.now.objects ≤ length self.now.work.now }
+        ensures { result.now ≡ drop (56 * self.now.objects) self.now.work.now }
     {
-        &self.work[48 * self.objects..]
+        &self.work[56 * self.objects..]
     }
 }

@@ -103,14 +103,14 @@ fn put_native(out: &mut [u8], src: &Source, l: Led) -> Told
 // The text of class i of the table behind the script objects.
 fn put_class(out: &mut [u8], src: &Source, i: usize) -> usize
     requires { ClassRoom src.now.packages.corpus.now src.now.objects i src.now.work.now out.old }
-    ensures { (xs : List Class) → ClassesIn src.now.packages.corpus.now (4 * src.now.objects) xs (drop (48 * src.now.objects) src.now.work.now) → i < length xs
+    ensures { (xs : List Class) → ClassesIn src.now.packages.corpus.now (2 * src.now.objects) xs (drop (56 * src.now.objects) src.now.work.now) → i < length xs
         → Wrote out.old (text_bytes (class_no xs i).path) out.new result }
 {
     let k = put_class_path(
         &mut out[4..],
         src.packages.corpus,
         src.rest(),
-        4 * src.objects,
+        2 * src.objects,
         i,
     );
     put_length(out, k) + k

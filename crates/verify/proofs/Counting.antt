@@ -55,7 +55,7 @@ module _ (s : List ℕ) (l : Layout) (a : script_answer (run script 0 s) ≡ Ok 
     counted-all e limit o q hash = let x = objects-facts s l a o q in k.is limit o q hash ∙ (rw e (tally-all x limit))
 
 -- there is a link for each object
-pub linked-inside : (s : List ℕ) (l : Layout) → script_answer (run script 0 s) ≡ Ok l → {w : List ℕ} → LinkedOf s w → {i : ℕ} → i < l.count → 48 * i < length w
+pub linked-inside : (s : List ℕ) (l : Layout) → script_answer (run script 0 s) ≡ Ok l → {w : List ℕ} → LinkedOf s w → {i : ℕ} → i < l.count → 56 * i < length w
 linked-inside s l a {w} b h =
     let x = objects-facts s l a b.objects b.holds.all.read in
     omega (arith, b.holds.all.entered.size, ap (λ (y : Layout). y.count) x.layout)

@@ -28,8 +28,8 @@ use Rattle.verify.specs.StepLaws.{answered-opened}
 use Rattle.verify.specs.declared.counts.Tally.{Tally}
 
 -- the part of the work buffer that the script objects take
-pub front_length : {s : List ℕ} {n : ℕ} {w : List ℕ} → Linked s n w → length (take (48 * n) w) ≡ 48 * n
-front_length {s} {n} {w} k = length-take-le (48 * n) w (omega (arith, k.room))
+pub front_length : {s : List ℕ} {n : ℕ} {w : List ℕ} → Linked s n w → length (take (56 * n) w) ≡ 56 * n
+front_length {s} {n} {w} k = length-take-le (56 * n) w (omega (arith, k.room))
 
 -- ---- each class was compared with all before it: r is the block of the first whose key stands already, if there is one
 pub record Compared (c : List ℕ) (f : Frame) (s : List ℕ) (l : Layout) (t : Tally) (r : Option ℕ) : Type 0 where

@@ -100,7 +100,7 @@ fn with_table(c: &Corpus, layout: Layout, w: &mut [u8], out: &mut [u8]) -> Resul
     let mut notes = Notes::new();
     let names = NotedNames::of(c.script, layout.names, &mut notes);
     let block = enter_script(&names, layout, w).map_err(|why| why.at(1))?;
-    let size = 48 * layout.count;
+    let size = 56 * layout.count;
     let t = count_linked(&block, &w[..size], OBJECTS);
     let s = Script {
         block,

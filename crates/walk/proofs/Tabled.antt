@@ -15,8 +15,8 @@ use Rattle.objects.specs.Work.{Entered, ObjectsIn}
 use Rattle.walk.specs.Found.{Linked}
 
 -- the buffer with another part in its place
-swapped-length : (n : ℕ) (w p : List ℕ) → 64 * n ≤ length w → length p ≡ 48 * n → length (p ++ drop (48 * n) w) ≡ length w
-swapped-length n w p room e = omega (arith, length-append p (drop (48 * n) w), length-drop (48 * n) w)
+swapped-length : (n : ℕ) (w p : List ℕ) → 64 * n ≤ length w → length p ≡ 56 * n → length (p ++ drop (56 * n) w) ≡ length w
+swapped-length n w p room e = omega (arith, length-append p (drop (56 * n) w), length-drop (56 * n) w)
 
 -- the objects of an accepted block came back entered, as p, and are to be linked
 pub record Filled (s : List ℕ) (l : Layout) (w p : List ℕ) : Type 0 where
@@ -26,7 +26,7 @@ pub record Filled (s : List ℕ) (l : Layout) (w p : List ℕ) : Type 0 where
 
 module _ {s : List ℕ} {l : Layout} {w p : List ℕ} (z : Filled s l w p) where
   abbrev size : ℕ
-  size = 48 * l.count
+  size = 56 * l.count
 
   pub filled-front : take size (p ++ drop size w) ≡ p
   filled-front = take_at p (drop size w) size z.entered.size

@@ -63,7 +63,7 @@ pub record Linked (b : List ℕ) (n : ℕ) (w : List ℕ) : Type 0 where
   pub objects : Objects
   pub count : n ≡ objects.layout.count
   pub room : 64 * n ≤ length w
-  pub holds : ObjectsIn b objects (take (48 * n) w)
+  pub holds : ObjectsIn b objects (take (56 * n) w)
 
 -- what is known where so much was found: as long as all is entered, that it is; else that there is no room for it, or which block repeats a key
 pub record State (s b : List ℕ) (o : Objects) (n : ℕ) (f : Found) (t : Census) (w : List ℕ) : Type 0 where

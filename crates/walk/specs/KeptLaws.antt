@@ -112,19 +112,19 @@ back-length a w ys h e = lent_length a w ys h (e ∙ ap length (lent-part a w))
 
 module _ {s b : List ℕ} {o : Objects} {n : ℕ} {xs : List Class} {refs : List Ref} {w : List ℕ} (k : Kept s b o n xs refs w) where
   abbrev back : List ℕ → List ℕ
-  back ys = put (48 * n) (length w - 48 * n) w ys
+  back ys = put (56 * n) (length w - 56 * n) w ys
 
   -- with these classes and rows
-  kept_back : (xs' : List Class) (refs' : List Ref) (ys : List ℕ) → length ys ≡ length (drop (48 * n) w) → ClassesIn s (4 * n) xs' ys → RowsIn refs' ys
-      → record_at (4 * n) 64 (length xs') + 32 * length refs' ≤ length ys → Kept s b o n xs' refs' (back ys)
+  kept_back : (xs' : List Class) (refs' : List Ref) (ys : List ℕ) → length ys ≡ length (drop (56 * n) w) → ClassesIn s (2 * n) xs' ys → RowsIn refs' ys
+      → record_at (2 * n) 64 (length xs') + 32 * length refs' ≤ length ys → Kept s b o n xs' refs' (back ys)
   kept_back xs' refs' ys e c r a =
-      let f = lent-front (48 * n) w ys k.tables.room in
-      let d = lent-rest (48 * n) w ys k.tables.room in
+      let f = lent-front (56 * n) w ys k.tables.room in
+      let d = lent-rest (56 * n) w ys k.tables.room in
       record {
         tables = record {
           bytes = k.tables.bytes;
           count = k.tables.count;
-          room = omega (arith, k.tables.room, lent_length (48 * n) w ys k.tables.room e);
+          room = omega (arith, k.tables.room, lent_length (56 * n) w ys k.tables.room e);
           objects = rw f k.tables.objects;
           classes = rw d c;
         };
@@ -134,13 +134,13 @@ module _ {s b : List ℕ} {o : Objects} {n : ℕ} {xs : List Class} {refs : List
 
   -- a row put
   module _ (room : 64 * (n + (length xs + length refs) + 1) ≤ length w) where
-    size : length (drop (48 * n) w) ≡ length w - 48 * n
-    size = length-drop (48 * n) w
+    size : length (drop (56 * n) w) ≡ length w - 56 * n
+    size = length-drop (56 * n) w
 
     pub kept_row : (ref : Ref) → Read ref → (m : Words) → m ≡ words_of ref → m.lo < 2 ^ 64 → m.hi < 2 ^ 64 → (mark : ℕ)
-        → Kept s b o n xs (refs ++ (ref ∷ [])) (back (worded (row_at (drop (48 * n) w) (length refs)) m mark (drop (48 * n) w)))
+        → Kept s b o n xs (refs ++ (ref ∷ [])) (back (worded (row_at (drop (56 * n) w) (length refs)) m mark (drop (56 * n) w)))
     kept_row ref read m is lo hi mark =
-        let v = drop (48 * n) w in
+        let v = drop (56 * n) w in
         let c = worded-kept (row_at v (length refs)) m mark v (omega (arith, size)) in
         let l = length-append refs (ref ∷ []) in
         kept_back xs (refs ++ (ref ∷ [])) (worded (row_at v (length refs)) m mark v) c.size
@@ -149,9 +149,9 @@ module _ {s b : List ℕ} {o : Objects} {n : ℕ} {xs : List Class} {refs : List
         (omega (arith, size, l, c.size))
 
     -- a class entered
-    pub kept-class : (x : Class) (ys : List ℕ) → Entered s (4 * n) xs x (drop (48 * n) w) ys → Kept s b o n (xs ++ (x ∷ [])) refs (back ys)
+    pub kept-class : (x : Class) (ys : List ℕ) → Entered s (2 * n) xs x (drop (56 * n) w) ys → Kept s b o n (xs ++ (x ∷ [])) refs (back ys)
     kept-class x ys t =
         let l = length-append xs (x ∷ []) in
         kept_back (xs ++ (x ∷ [])) refs ys t.kept.size t.holds
-        (rows-kept 0 (record_at (4 * n) 64 (length xs + 1)) k.rows t.kept (omega (arith, size)))
+        (rows-kept 0 (record_at (2 * n) 64 (length xs + 1)) k.rows t.kept (omega (arith, size)))
         (omega (arith, size, l, t.kept.size))

@@ -59,7 +59,7 @@ marked_closed c = record { count = λ z. absurd (c z); holds = λ z. absurd (c z
 -- at the start
 pub marked-none : (n : ℕ) (s : List ℕ) (at : ℕ) (w : List ℕ) → Marked n (marks_in s at 0) (opened_as 0 0 9) w
 unfolding marks_in
-marked-none n s _ w = record { count = λ z. refl; holds = λ z. marks-none (drop (48 * n) w) }
+marked-none n s _ w = record { count = λ z. refl; holds = λ z. marks-none (drop (56 * n) w) }
 
 module _ {n : ℕ} {l : List ℕ} {t : Census} {w : List ℕ} (k : Marked n l t w) (a : t.state ≡ Open) where
   -- no row more
@@ -68,21 +68,21 @@ module _ {n : ℕ} {l : List ℕ} {t : Census} {w : List ℕ} (k : Marked n l t 
 
   -- the part behind the script objects was lent and came back as ys
   module _ (room : n + t.classes + t.rows < length w / 64) {ys : List ℕ} where
-    rest : drop (48 * n) (put (48 * n) (length w - 48 * n) w ys) ≡ ys
-    rest = lent-rest (48 * n) w ys (omega arith)
+    rest : drop (56 * n) (put (56 * n) (length w - 56 * n) w ys) ≡ ys
+    rest = lent-rest (56 * n) w ys (omega arith)
 
-    pub marked_row : {u : Census} (m : Words) (mark : ℕ) → mark < 2 ^ 32 → ys ≡ worded (row_at (drop (48 * n) w) t.rows) m mark (drop (48 * n) w)
-        → u.rows ≡ t.rows + 1 → Marked n (l ++ (mark ∷ [])) u (put (48 * n) (length w - 48 * n) w ys)
+    pub marked_row : {u : Census} (m : Words) (mark : ℕ) → mark < 2 ^ 32 → ys ≡ worded (row_at (drop (56 * n) w) t.rows) m mark (drop (56 * n) w)
+        → u.rows ≡ t.rows + 1 → Marked n (l ++ (mark ∷ [])) u (put (56 * n) (length w - 56 * n) w ys)
     marked_row m mark small q e = record {
       count = λ z. omega (arith, k.count a, length-append l (mark ∷ []));
-      holds = λ z. rw (rest, q, ← k.count a) (marks-more (k.holds a) (omega (arith, k.count a, length-drop (48 * n) w)) m mark small);
+      holds = λ z. rw (rest, q, ← k.count a) (marks-more (k.holds a) (omega (arith, k.count a, length-drop (56 * n) w)) m mark small);
     }
 
-    pub marked-class : {u : Census} {s : List ℕ} {xs : List Class} {x : Class} → Entered s (4 * n) xs x (drop (48 * n) w) ys → length xs ≡ t.classes
-        → u.rows ≡ t.rows → Marked n l u (put (48 * n) (length w - 48 * n) w ys)
+    pub marked-class : {u : Census} {s : List ℕ} {xs : List Class} {x : Class} → Entered s (2 * n) xs x (drop (56 * n) w) ys → length xs ≡ t.classes
+        → u.rows ≡ t.rows → Marked n l u (put (56 * n) (length w - 56 * n) w ys)
     marked-class {xs = xs} e c q = record {
       count = λ z. omega (arith, k.count a);
-      holds = λ z. rw rest (marks-before 0 (record_at (4 * n) 64 (length xs + 1)) (k.holds a) e.kept (omega (arith, k.count a, length-drop (48 * n) w)));
+      holds = λ z. rw rest (marks-before 0 (record_at (2 * n) 64 (length xs + 1)) (k.holds a) e.kept (omega (arith, k.count a, length-drop (56 * n) w)));
     }
 
 -- one package more

@@ -156,7 +156,7 @@ module _ {s b : List ℕ} {o : Objects} {n : ℕ} {f : Found} {t : Census} {w : 
     pub state-count : length (classes_in f) ≡ t.classes
     state-count = length-map f.placed (λ (x : Placed). x.class) ∙ sym (k.entered a).0
 
-    pub state-classes : Classes (4 * n) t.classes (drop (48 * n) w)
+    pub state-classes : Classes (2 * n) t.classes (drop (56 * n) w)
     state-classes = record { corpus = s; classes = classes_in f; count = state-count; holds = (k.holds a).tables.classes }
 
     -- no room for one more of either
@@ -189,19 +189,19 @@ module _ {s b : List ℕ} {o : Objects} {n : ℕ} {f : Found} {t : Census} {w : 
           rw (row_more p i f c) (state-full (omega (arith, k.entered a, length-append f.refs (class_ref p (get_or p.read.exports i no_export) ∷ []))) refl)
 
       pub state-row : n + t.classes + t.rows < length w / 64 → (m : Words) → m ≡ words_of (class_ref p (get_or p.read.exports i no_export))
-          → m.lo < 2 ^ 64 → m.hi < 2 ^ 64 → (mark : ℕ) → {ys : List ℕ} → ys ≡ worded (row_at (drop (48 * n) w) t.rows) m mark (drop (48 * n) w)
+          → m.lo < 2 ^ 64 → m.hi < 2 ^ 64 → (mark : ℕ) → {ys : List ℕ} → ys ≡ worded (row_at (drop (56 * n) w) t.rows) m mark (drop (56 * n) w)
           → {z : ℕ} → z ≡ t.size + base_size p (get_or p.read.exports i no_export)
-          → State s b o n (with_row p i f) (opened_as t.classes (t.rows + 1) z) (put (48 * n) (length w - 48 * n) w ys)
+          → State s b o n (with_row p i f) (opened_as t.classes (t.rows + 1) z) (put (56 * n) (length w - 56 * n) w ys)
       state-row h m is lo hi mark {ys} q {z} e =
           let x = get_or p.read.exports i no_export in
           let (cs, rs, sz) = k.entered a in
           let l = length-append f.refs (class_ref p x ∷ []) in
           let room : 64 * (n + (length (classes_in f) + length f.refs) + 1) ≤ length w = omega (arith, state-count) in
           let made = kept_row (k.holds a) room (class_ref p x) (record { home = p; index = x.class; is = refl }) m is lo hi mark in
-          let came : Kept s b o n (classes_in f) (f.refs ++ (class_ref p x ∷ [])) (put (48 * n) (length w - 48 * n) w ys) = rw (q, rs) made in
-          let v = drop (48 * n) w in
-          let size : length ys ≡ length v = rw q (worded-kept (row_at v t.rows) m mark v (omega (arith, length-drop (48 * n) w))).size in
-          let whole = lent_length (48 * n) w ys (k.holds a).tables.room size in
+          let came : Kept s b o n (classes_in f) (f.refs ++ (class_ref p x ∷ [])) (put (56 * n) (length w - 56 * n) w ys) = rw (q, rs) made in
+          let v = drop (56 * n) w in
+          let size : length ys ≡ length v = rw q (worded-kept (row_at v t.rows) m mark v (omega (arith, length-drop (56 * n) w))).size in
+          let whole = lent_length (56 * n) w ys (k.holds a).tables.room size in
           rw (row_more p i f c) (record {
             entered = λ y. (cs, omega arith, omega arith);
             room = λ y. omega arith;
@@ -221,15 +221,15 @@ module _ {s b : List ℕ} {o : Objects} {n : ℕ} {f : Found} {t : Census} {w : 
       state-class-full h = state-full (omega (arith, k.entered a, length-append f.placed (own ∷ []))) refl
 
       pub state-class : n + t.classes + t.rows < length w / 64 → {ys : List ℕ}
-          → Entered s (4 * n) (classes_in f) (class_at p i (get_or p.read.exports i no_export)) (drop (48 * n) w) ys
-          → State s b o n (with_own j p i f) (opened_as (t.classes + 1) t.rows t.size) (put (48 * n) (length w - 48 * n) w ys)
+          → Entered s (2 * n) (classes_in f) (class_at p i (get_or p.read.exports i no_export)) (drop (56 * n) w) ys
+          → State s b o n (with_own j p i f) (opened_as (t.classes + 1) t.rows t.size) (put (56 * n) (length w - 56 * n) w ys)
       unfolding with_own
       state-class h {ys} e =
           let (cs, rs, sz) = k.entered a in
           let l = length-append f.placed (own ∷ []) in
           let room : 64 * (n + (length (classes_in f) + length f.refs) + 1) ≤ length w = omega (arith, state-count) in
           let came = kept-class (k.holds a) room (class_at p i (get_or p.read.exports i no_export)) ys e in
-          let whole = lent_length (48 * n) w ys (k.holds a).tables.room e.kept.size in
+          let whole = lent_length (56 * n) w ys (k.holds a).tables.room e.kept.size in
           record {
             entered = λ y. (omega arith, rs, sz);
             room = λ y. omega arith;
@@ -253,17 +253,17 @@ module _ {s b : List ℕ} {o : Objects} {n : ℕ} {f : Found} {t : Census} {w : 
 -- ---- at the start: a table with no class
 
 pub state-none : (limit : ℕ) (s : List ℕ) (at : ℕ) {b : List ℕ} {o : Objects} {n : ℕ} (w : List ℕ) → Bytes b → length b < 2 ^ 32 → n ≡ o.layout.count → 64 * n ≤ length w
-    → ObjectsIn b o (take (48 * n) w) → {ys : List ℕ} → ys ≡ cleared (4 * n) (drop (48 * n) w)
-    → State s b o n (found_in limit o s at 0) (opened_as 0 0 9) (put (48 * n) (length w - 48 * n) w ys)
+    → ObjectsIn b o (take (56 * n) w) → {ys : List ℕ} → ys ≡ cleared (2 * n) (drop (56 * n) w)
+    → State s b o n (found_in limit o s at 0) (opened_as 0 0 9) (put (56 * n) (length w - 56 * n) w ys)
 unfolding found_in
 state-none limit s at {b} {o} {n} w y small e h k {ys} q =
-    let v = drop (48 * n) w in
-    let d = length-drop (48 * n) w in
-    let len : length ys ≡ length v = rw q (cleared-kept (4 * n) v (omega arith)).size in
-    let low : 48 * n ≤ length w = omega arith in
-    let whole = lent_length (48 * n) w ys low len in
-    let rest = lent-rest (48 * n) w ys low in
-    let few : 4 * n < 2 ^ 32 = omega (arith, (parts_of_lem k.all).size) in
+    let v = drop (56 * n) w in
+    let d = length-drop (56 * n) w in
+    let len : length ys ≡ length v = rw q (cleared-kept (2 * n) v (omega arith)).size in
+    let low : 56 * n ≤ length w = omega arith in
+    let whole = lent_length (56 * n) w ys low len in
+    let rest = lent-rest (56 * n) w ys low in
+    let few : 2 * n < 2 ^ 32 = omega (arith, (parts_of_lem k.all).size) in
     record {
       entered = λ z. (refl, refl, refl);
       room = λ z. omega arith;
@@ -272,8 +272,8 @@ state-none limit s at {b} {o} {n} w y small e h k {ys} q =
           bytes = y;
           count = e;
           room = omega arith;
-          objects = rw (lent-front (48 * n) w ys low) k;
-          classes = rw (rest, q) (classes-none s (4 * n) v few (omega arith));
+          objects = rw (lent-front (56 * n) w ys low) k;
+          classes = rw (rest, q) (classes-none s (2 * n) v few (omega arith));
         };
         rows = record { room = omega arith; words = λ r l. absurd (omega arith); read = λ r l. absurd (omega arith) };
         apart = rw rest (omega arith);

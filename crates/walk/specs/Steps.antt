@@ -78,7 +78,7 @@ pub record SomeState (b : List ℕ) (n : ℕ) (v : Visit) (d : List ℕ) (t : Ce
 -- as long as all is entered, the rows have these marks, one each
 pub record Marked (n : ℕ) (marks : List ℕ) (t : Census) (w : List ℕ) : Type 0 where
   pub count : t.state ≡ Open → length marks ≡ t.rows
-  pub holds : t.state ≡ Open → MarksIn marks (drop (48 * n) w)
+  pub holds : t.state ≡ Open → MarksIn marks (drop (56 * n) w)
 
 -- the most that one row takes without its class and native class, and a section without its rows
 abbrev pub row_most : ℕ

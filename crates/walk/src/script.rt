@@ -36,7 +36,7 @@ pub fn enter_script<'a>(
     ensures entered { (s : ScriptBlock) → result ≡ Ok s → (s.bytes ≡ names.now.block) × (s.layout ≡ l) × Linked names.now.block.now l.count w.new
         × (length w.new ≡ length w.old) }
 {
-    let size = 48 * l.count;
+    let size = 56 * l.count;
     enter(names, l, &mut w[..size])?;
     if l.entries + 32 * l.count < names.block.len() {
         return Err(Refusal::EntriesLeft);

@@ -127,7 +127,7 @@ fn keep_row(
     ensures marks { (l : List ℕ) → Marked n l t w.old
         → Marked n (l ++ export_marks (read_in p.now.block.bytes.now) step (export_no p.now.block.bytes.now i)) result w.new }
 {
-    let size = 48 * n;
+    let size = 56 * n;
     let Some(kind) = p.candidate(i) else {
         return t;
     };
@@ -144,7 +144,7 @@ fn keep_row(
 // Enters export i, which is a class, if there is room and no class before it has its key.
 fn keep_class(p: &Package, w: &mut [u8], n: usize, v: Visit, i: usize, t: Census) -> Census
     requires export { (i < p.now.block.parts.count) × ((export_no p.now.block.bytes.now i).hash ≡ 0 → ⊥) }
-    requires open_value { (t.state ≡ Open) × (64 * n ≤ length w.old) × Classes (4 * n) t.classes (drop (48 * n) w.old) × (0 < n)
+    requires open_value { (t.state ≡ Open) × (64 * n ≤ length w.old) × Classes (2 * n) t.classes (drop (56 * n) w.old) × (0 < n)
         × (t.classes + 1 < 2 ^ 32) × (t.rows ≤ 2 ^ 32) }
     ensures state { (c d : List ℕ) (o : Objects) (f : Found) → Visited c v p.now.block.bytes.now → State c d o n f t w.old
         → State c d o n (with_own v.block (package_in v.id p.now.block.bytes.now) i f) result w.new }
@@ -153,11 +153,11 @@ fn keep_class(p: &Package, w: &mut [u8], n: usize, v: Visit, i: usize, t: Census
     ensures marks { (c d : List ℕ) (o : Objects) (f : Found) (l : List ℕ) → Visited c v p.now.block.bytes.now → State c d o n f t w.old → Marked n l t w.old
         → Marked n l result w.new }
 {
-    let size = 48 * n;
+    let size = 56 * n;
     if w.len() / 64 <= n + t.classes + t.rows {
         return closed(t, Entering::Full);
     }
-    if enter_class(p, &mut w[size..], 4 * n, t.classes, v.at, v.id, i) {
+    if enter_class(p, &mut w[size..], 2 * n, t.classes, v.at, v.id, i) {
         return opened(t.classes + 1, t.rows, t.size);
     }
     closed(t, Entering::Repeated(v.block))
@@ -187,7 +187,7 @@ fn scan_export(
     ensures marks { (l : List ℕ) → Marked s.now.count l t w.old
         → Marked s.now.count (l ++ export_marks (read_in p.now.block.bytes.now) step (export_no p.now.block.bytes.now i)) result w.new }
 {
-    let size = 48 * s.count;
+    let size = 56 * s.count;
     let r = keep_row(p, w, s.count, v.id, step, i, t);
     if !r.is_open() {
         return r;
@@ -304,14 +304,14 @@ pub fn scan_packages(
     requires linked { Linked s.now.block.now s.now.count w.old × (length s.now.block.now < 2 ^ 32) }
     ensures refused { (r : Refused) → result ≡ Err r → read_from 2 (parts_at p.now.corpus.now p.now.at p.now.count) ≡ refused_in (number r.why) r.block }
     ensures all { (t : Census) → result ≡ Ok t → AllRead p.now.corpus.now p.now.at p.now.count }
-    ensures state { (t : Census) (o : Objects) → result ≡ Ok t → ObjectsIn s.now.block.now o (take (48 * s.now.count) w.old)
+    ensures state { (t : Census) (o : Objects) → result ≡ Ok t → ObjectsIn s.now.block.now o (take (56 * s.now.count) w.old)
         → State p.now.corpus.now s.now.block.now o s.now.count (found_in s.now.limit o p.now.corpus.now p.now.at p.now.count) t w.new }
     ensures size { length w.new ≡ length w.old }
     ensures few { (t : Census) → result ≡ Ok t → (t.rows < 2 ^ 32) × (t.size < 2 ^ 60) }
     ensures marks { (t : Census) → result ≡ Ok t → Marked s.now.count (marks_in p.now.corpus.now p.now.at p.now.count) t w.new }
 {
-    let size = 48 * s.count;
-    clear(&mut w[size..], 4 * s.count);
+    let size = 56 * s.count;
+    clear(&mut w[size..], 2 * s.count);
     let mut t = opened(0, 0, 9);
     let mut place = p.at;
     for i in 0..p.count {

@@ -2,7 +2,7 @@
 use corpus::census::{Census, census};
 use corpus::decode::{Corpus, decode};
 use corpus::generate::heavy;
-use corpus::generate::hostile::{SHAPES, bucket, object_key};
+use corpus::generate::hostile::{BUCKETS, SHAPES, bucket, object_key};
 use corpus::script_index;
 use std::collections::BTreeSet;
 
@@ -22,7 +22,7 @@ fn one_bucket() {
         assert_eq!(distinct.len(), n as usize);
         assert!(globals.clone().all(|g| g >> 62 == 1));
         let mut keys = globals.map(object_key);
-        assert!(keys.all(|(lo, hi)| bucket(n.into(), lo, hi) == 0));
+        assert!(keys.all(|(lo, hi)| bucket(BUCKETS * u64::from(n), lo, hi) == 0));
         assert_eq!(counted.candidates, u64::from(n));
     }
 }
@@ -61,7 +61,7 @@ fn heavy_shapes() {
     assert_eq!(found, wanted);
     let chains = heavy::SHAPES[0].1(1_000);
     let mut keys = chains.entries.iter().map(|entry| object_key(entry.global));
-    assert!(keys.all(|(lo, hi)| bucket(1_000, lo, hi) == 0));
+    assert!(keys.all(|(lo, hi)| bucket(BUCKETS * 1_000, lo, hi) == 0));
 }
 
 /// From every row's class 64 supers lead to a native class.

@@ -1,5 +1,5 @@
 //! Accepted corpora that are meant to make the check of a build's own hashes slow; `n` says how much of it there is.
-use super::hostile::{LONGEST, Shape, first_bucket};
+use super::hostile::{BUCKETS, LONGEST, Shape, first_bucket};
 use crate::name::id;
 use crate::{Described, NULL, Package, ScriptEntry, Text, script_index};
 
@@ -22,7 +22,7 @@ pub const SHAPES: [Shape; 7] = [
 fn chains(n: u32) -> Described {
     let mut corpus = Described::default();
     let halves = (1_u64 << 30)..(1 << 31);
-    let globals = halves.flat_map(|half| first_bucket(n.into(), half));
+    let globals = halves.flat_map(|half| first_bucket(BUCKETS * u64::from(n), half));
     let mut outer = NULL;
     for (i, global) in (0..n).zip(globals) {
         let outermost = i % DEEPEST == 0;

@@ -95,6 +95,9 @@ pub fn bucket(n: u64, lo: u64, hi: u64) -> u64 {
     ((x >> 32) * n) >> 32
 }
 
+/// How many buckets the table of objects has for each of them (crates/objects/specs/Work.antt).
+pub const BUCKETS: u64 = 3;
+
 /// The two words by which an object is found.
 pub fn object_key(global: u64) -> (u64, u64) {
     (0, global)
@@ -128,7 +131,7 @@ fn one_bucket(n: u32) -> Described {
     let mut corpus = Described::default();
     let mut package = named(&[ROW]);
     let halves = (1_u64 << 30)..(1 << 31);
-    let globals = halves.flat_map(|half| first_bucket(n.into(), half));
+    let globals = halves.flat_map(|half| first_bucket(BUCKETS * u64::from(n), half));
     for (i, global) in (0..n).zip(globals) {
         corpus.add_object(Text::of("O"), i, global, NULL);
         package.exports.push(row(i, global));
@@ -136,7 +139,7 @@ fn one_bucket(n: u32) -> Described {
     of_package(corpus, package)
 }
 
-/// n classes of one package in a table of eight buckets, since there are two objects: of their keys, turn by turn a bit of
+/// n classes of one package in a table of four buckets, since there are two objects: of their keys, turn by turn a bit of
 /// the hash and then of the id, the first 47 turns agree, and 17 are left to tell them apart. A row for each.
 fn alike(n: u32) -> Described {
     let mut package = named(&[ROW, ""]);

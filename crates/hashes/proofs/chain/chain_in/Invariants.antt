@@ -13,5 +13,5 @@ use Rattle.hashes.proofs.chain.chain_in.Given as goal
 abbrev pub invariant-loop-depth : goal.invariant-loop-depth
 invariant-loop-depth l =
     let limit = length l.initial.chain in
-    (48 * l.at < length l.w) × (l.depth ≤ limit) × (length l.chain ≡ limit)
+    (56 * l.at < length l.w) × (l.depth ≤ limit) × (length l.chain ≡ limit)
     × ((b : List ℕ) (o : Objects) → ObjectsIn b o l.w → Bytes b → Reached b o limit l.i l.chain l.depth l.at)

@@ -12,5 +12,5 @@ use Rattle.objects.proofs.class.known.Given as goal
 
 abbrev pub invariant-loop : goal.invariant-loop
 invariant-loop l =
-    (48 * l.at < length l.w)
+    (56 * l.at < length l.w)
     × ((b : List ℕ) (o : Objects) → ObjectsIn b o l.w → is_known (path_no l.limit o l.i) ≡ is_known (path_no (l.limit - l.counter) o l.at))

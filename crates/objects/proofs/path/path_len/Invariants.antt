@@ -13,5 +13,5 @@ use Rattle.objects.proofs.path.path_len.Given as goal
 
 abbrev pub invariant-loop-depth : goal.invariant-loop-depth
 invariant-loop-depth l =
-    (48 * l.at < length l.w) × (l.len ≤ l.depth * 4294967296)
+    (56 * l.at < length l.w) × (l.len ≤ l.depth * 4294967296)
     × ((b : List ℕ) (o : Objects) → ObjectsIn b o l.w → told (path_no l.limit o l.i) ≡ behind l.len l.depth (told (path_no (l.limit - l.depth) o l.at)))

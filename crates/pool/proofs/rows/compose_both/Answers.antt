@@ -12,7 +12,7 @@ pub returns-then-is_missing : goal.returns-then-is_missing
 returns-then-is_missing c =
     let p = c.args.p.now in
     let k = c.in_ok-k.ensures in
-    let is = rw (lent-part (48 * p.n) c.args.w.now) at k.is in (
+    let is = rw (lent-part (56 * p.n) c.args.w.now) at k.is in (
       omega (arith, k.few),
       record {
         both = λ ne. absurd (ne (c.is_missing.ensures.0 c.if-is_missing.true));
@@ -28,7 +28,7 @@ returns c =
     let e : 512 ≡ length c.compose_class.new.out = omega (arith, c.compose_class.auto.out) in (
       omega (arith, k.few, m.few),
       record {
-        both = λ ne. both_texts p.limits.objects e (rw (lent-part (48 * p.n) c.args.w.now) at k.is) m.is c.requires.1;
+        both = λ ne. both_texts p.limits.objects e (rw (lent-part (56 * p.n) c.args.w.now) at k.is) m.is c.requires.1;
         alone = λ z. absurd (c.is_missing.ensures.1 c.if-is_missing.false z);
       },
     )

@@ -48,7 +48,7 @@ put_texts-requires c =
       omega (arith, c.class_in-class.ensures, c.requires.1.class-inside),
       λ ne.
           stood_still p.n c.args.w.now k (omega (arith, g.front))
-          (subst (λ (y : Object). Stood p.block.now (take (48 * p.n) c.args.w.now) y) (sym l.ensures)
+          (subst (λ (y : Object). Stood p.block.now (take (56 * p.n) c.args.w.now) y) (sym l.ensures)
           (c.requires.1.stood (λ z. ne (ap (λ (y : Object). y.outer) l.ensures ∙ z)))),
       omega (arith, g.front, g.texts),
       omega (arith, g.room, k.size),

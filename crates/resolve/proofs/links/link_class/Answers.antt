@@ -21,7 +21,7 @@ overflow_add-k c =
 -- linked
 pub returns-in-Some-clause-kept : goal.returns-in-Some-clause-kept
 returns-in-Some-clause-kept c =
-    let at = 48 * c.args.n + c.record_at.result in
+    let at = 56 * c.args.n + c.record_at.result in
     let few = found-few (public c.words_at-m.result.lo c.words_at-m.result.hi) c.requires.some c.in-Some.ensures in
     let is = c.set64-in-Some.ensures ∙ ap (λ (v : List ℕ). stored 8 v (at + 32) 0) c.set64.ensures in
     λ a b o xs refs t h. class-linked t h (rw c.record_at.ensures) c.words_at-m.ensures.0 (c.words_at-m.ensures.1 ∙ word_behind _ _) (omega arith)
@@ -29,7 +29,7 @@ returns-in-Some-clause-kept c =
 
 pub returns-in-Some-clause-linked : goal.returns-in-Some-clause-linked
 returns-in-Some-clause-linked c =
-    let at = 48 * c.args.n + c.record_at.result in
+    let at = 56 * c.args.n + c.record_at.result in
     let few = found-few (public c.words_at-m.result.lo c.words_at-m.result.hi) c.requires.some c.in-Some.ensures in
     let is = c.set64-in-Some.ensures ∙ ap (λ (v : List ℕ). stored 8 v (at + 32) 0) c.set64.ensures in
     λ a b o xs t h. class_now (tables-kept t) h (rw c.record_at.ensures) c.words_at-m.ensures.0 (c.words_at-m.ensures.1 ∙ word_behind _ _) (omega arith)
@@ -37,7 +37,7 @@ returns-in-Some-clause-linked c =
 
 pub returns-in-Some-clause-only : goal.returns-in-Some-clause-only
 returns-in-Some-clause-only c =
-    let at = 48 * c.args.n + c.record_at.result in
+    let at = 56 * c.args.n + c.record_at.result in
     let few = found-few (public c.words_at-m.result.lo c.words_at-m.result.hi) c.requires.some c.in-Some.ensures in
     let is = c.set64-in-Some.ensures ∙ ap (λ (v : List ℕ). stored 8 v (at + 32) 0) c.set64.ensures in
     let own = c.requires.some in

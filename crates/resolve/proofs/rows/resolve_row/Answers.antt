@@ -19,7 +19,7 @@ pub kept-requires : goal.kept-requires
 kept-requires c =
     let p = c.requires in
     let l = c.target_of-t.ensures p.corpus p.block p.objects p.classes p.ref p.holds.tables (row-means p.holds (rw c.row_at-at.ensures at c.words_at.ensures.0) (rw c.row_at-at.ensures at c.words_at.ensures.1)) in
-    omega (arith, l.class-is, class-inside p.classes p.ref, p.holds.tables.classes.keys.room, length-drop (48 * c.args.n) c.args.w.now)
+    omega (arith, l.class-is, class-inside p.classes p.ref, p.holds.tables.classes.keys.room, length-drop (56 * c.args.n) c.args.w.now)
 
 pub object_of-requires : goal.object_of-requires
 object_of-requires c =

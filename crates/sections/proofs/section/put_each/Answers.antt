@@ -45,8 +45,8 @@ module _ (objects id : ℕ) (b : List ℕ) (size k : ℕ) {c s : List ℕ} {n : 
 
 -- row k behind the first has the mark m
 module _ {n : ℕ} {w b : List ℕ} {p : Parts} {step first all : ℕ} (k : ℕ) {r m : ℕ} (at : r ≡ first + k) (q : PackageIn b p) (t : RowsMarked n w b step first all)
-    (is : m ≡ le_at 4 (drop (48 * n) w) (row_at (drop (48 * n) w) r + 28)) where
-  mark-is : m ≡ le_at 4 (drop (48 * n) w) (row_at (drop (48 * n) w) (first + k) + 28)
+    (is : m ≡ le_at 4 (drop (56 * n) w) (row_at (drop (56 * n) w) r + 28)) where
+  mark-is : m ≡ le_at 4 (drop (56 * n) w) (row_at (drop (56 * n) w) (first + k) + 28)
   mark-is = rw at at is
 
   -- a mark from the end on: no candidate is left

@@ -21,7 +21,7 @@ use Rattle.resolve.specs.declared.rows.Led.{Led}
 use Rattle.sections.proofs.section.put_export.Goals as goal
 
 module _ (objects id : ℕ) (d : List ℕ) (i : ℕ) {c s : List ℕ} {n : ℕ} {w : List ℕ} {r : ℕ} {out : List ℕ} {h : How} (a : ExportRoom c s n w objects r id d i out h) where
-  module _ {l : Led} (q : l ≡ led_at (drop (48 * n) w) (row_at (drop (48 * n) w) r)) where
+  module _ {l : Led} (q : l ≡ led_at (drop (56 * n) w) (row_at (drop (56 * n) w) r)) where
     target : Target c s h.objects n h.classes h.lookups objects w (class_ref (package_in id d) (export_no d i)) l
     target = rw q (row_target a.resolved)
 

@@ -45,8 +45,8 @@ module _ {c s : List ℕ} {n : ℕ} {w : List ℕ} {objects from count : ℕ} {o
       sums = item-sums refs_of (section_of objects h) (packages_at c from count) i (package_at c from) listed a (t.filled h a) item
 
 -- the rows stand in the work buffer
-rows-room : {ms : List ℕ} {all : ℕ} (n : ℕ) (w : List ℕ) → MarksIn ms (drop (48 * n) w) → length ms ≡ all → 32 * all ≤ length w
-rows-room n w m e = omega (arith, m.room, e, length-drop (48 * n) w)
+rows-room : {ms : List ℕ} {all : ℕ} (n : ℕ) (w : List ℕ) → MarksIn ms (drop (56 * n) w) → length ms ≡ all → 32 * all ≤ length w
+rows-room n w m e = omega (arith, m.room, e, length-drop (56 * n) w)
 
 -- what was written fits
 holds-size : (c : At-loop)

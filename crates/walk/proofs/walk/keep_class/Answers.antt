@@ -38,37 +38,37 @@ module _ (n : ℕ) (v : Visit) (d : List ℕ) (i : ℕ) (t : Census) (w : List �
 
   module _ (l : n + t.classes + t.rows < length w / 64) where
     abbrev lent : List ℕ
-    lent = take (length w - 48 * n) (drop (48 * n) w)
+    lent = take (length w - 56 * n) (drop (56 * n) w)
 
     -- what entering it asks
-    asked : Classes (4 * n) t.classes (drop (48 * n) w) → 0 < n
-        → Classes (4 * n) t.classes lent × (0 < 4 * n) × (record_at (4 * n) 64 (t.classes + 1) ≤ length lent)
-    asked k h = (rw (lent-part (48 * n) w) k, omega arith, rw (lent-part (48 * n) w, length-drop (48 * n) w) (omega arith))
+    asked : Classes (2 * n) t.classes (drop (56 * n) w) → 0 < n
+        → Classes (2 * n) t.classes lent × (0 < 2 * n) × (record_at (2 * n) 64 (t.classes + 1) ≤ length lent)
+    asked k h = (rw (lent-part (56 * n) w) k, omega arith, rw (lent-part (56 * n) w, length-drop (56 * n) w) (omega arith))
 
     module _ {r : Bool} {u : Census} where
       module _ {ys : List ℕ} (q : r ≡ true)
-          (new : r ≡ true → (c : List ℕ) (xs : List Class) → Site c v.at d → v.id ≡ be_at 8 c v.at → ClassesIn c (4 * n) xs lent → length xs ≡ t.classes
-          → Entered c (4 * n) xs (class_from c v.at i) lent ys)
+          (new : r ≡ true → (c : List ℕ) (xs : List Class) → Site c v.at d → v.id ≡ be_at 8 c v.at → ClassesIn c (2 * n) xs lent → length xs ≡ t.classes
+          → Entered c (2 * n) xs (class_from c v.at i) lent ys)
           (g : u ≡ opened_as (t.classes + 1) t.rows t.size) where
         came : {c b : List ℕ} {o : Objects} {f : Found} → Visited c v d → State c b o n f t w
-            → Entered c (4 * n) (classes_in f) (class_at (package_in v.id d) i (export_no d i)) (drop (48 * n) w) ys
+            → Entered c (2 * n) (classes_in f) (class_at (package_in v.id d) i (export_no d i)) (drop (56 * n) w) ys
         came {c} {f = f} z k =
-            let x = new q c (classes_in f) z.site z.id (rw (lent-part (48 * n) w) (k.holds going).tables.classes) (state-count k going) in
-            rw (class-here z i, lent-part (48 * n) w) at x
+            let x = new q c (classes_in f) z.site z.id (rw (lent-part (56 * n) w) (k.holds going).tables.classes) (state-count k going) in
+            rw (class-here z i, lent-part (56 * n) w) at x
 
-        entered : Next u (put (48 * n) (length w - 48 * n) w ys)
+        entered : Next u (put (56 * n) (length w - 56 * n) w ys)
         entered c b o f z k = rw g (state-class k going (package_in v.id d) i v.block l (came z k))
 
         marked : (c b : List ℕ) (o : Objects) (f : Found) (m : List ℕ) → Visited c v d → State c b o n f t w → Marked n m t w
-            → Marked n m u (put (48 * n) (length w - 48 * n) w ys)
+            → Marked n m u (put (56 * n) (length w - 56 * n) w ys)
         marked c b o f m z k h = marked-class h going l (came z k) (state-count k going) (ap (λ (x : Census). x.rows) g)
 
       stands : r ≡ false
-          → (r ≡ false → (c : List ℕ) (xs : List Class) → Site c v.at d → v.id ≡ be_at 8 c v.at → ClassesIn c (4 * n) xs lent → length xs ≡ t.classes
+          → (r ≡ false → (c : List ℕ) (xs : List Class) → Site c v.at d → v.id ≡ be_at 8 c v.at → ClassesIn c (2 * n) xs lent → length xs ≡ t.classes
           → Stands xs (class_from c v.at i))
           → u ≡ closed_as t (Repeated v.block) → {w' : List ℕ} → Next u w'
       stands q old g {w'} c b o f z k =
-          let x = old q c (classes_in f) z.site z.id (rw (lent-part (48 * n) w) (k.holds going).tables.classes) (state-count k going) in
+          let x = old q c (classes_in f) z.site z.id (rw (lent-part (56 * n) w) (k.holds going).tables.classes) (state-count k going) in
           rw g (state-twice k going (package_in v.id d) i v.block (rw (class-here z i) at x))
 
 pub returns-then-w-n-clause-state : goal.returns-then-w-n-clause-state

@@ -63,13 +63,13 @@ module _ (n id i : ℕ) (d : List ℕ) (t : Census) (w : List ℕ) (k : Maybe Ca
 
       row_put : n + t.classes + t.rows < length w / 64 → {m : Words} → m ≡ words_of (ref_in (package_in id d) v.class) → m.lo < 2 ^ 64 → m.hi < 2 ^ 64
           → (mark : ℕ) → {ys : List ℕ}
-          → ys ≡ worded (row_at (take (length w - 48 * n) (drop (48 * n) w)) t.rows) m mark (take (length w - 48 * n) (drop (48 * n) w))
+          → ys ≡ worded (row_at (take (length w - 56 * n) (drop (56 * n) w)) t.rows) m mark (take (length w - 56 * n) (drop (56 * n) w))
           → {z : ℕ} → z ≡ 34 + names_size d v + length (ref_bytes d v.class)
-          → {r : Census} → r ≡ opened_as t.classes (t.rows + 1) (t.size + z) → Next r (put (48 * n) (length w - 48 * n) w ys)
+          → {r : Census} → r ≡ opened_as t.classes (t.rows + 1) (t.size + z) → Next r (put (56 * n) (length w - 56 * n) w ys)
       row_put h {m} e lo hi mark {ys} q {z} g x c b o f s =
           rw x (state-row s going (package_in id d) i (candidate-is (read_in d) (export_no d i) (λ x. some (is ∙ x))) h m
           (e ∙ ap (λ (x : ℕ). words_of (ref_in (package_in id d) x)) class-is) lo hi mark
-          (rw (lent-part (48 * n) w) at q)
+          (rw (lent-part (56 * n) w) at q)
           (ap (λ (x : ℕ). t.size + x) (g ∙ (ap (λ (x : Row). 34 + names_size d x + length (ref_bytes d x.class)) row ∙ base_size_lem a y i l k is id))))
 
 -- its mark: it stands in a step
@@ -83,11 +83,11 @@ module _ (n step i : ℕ) (d : List ℕ) (t : Census) (w : List ℕ) (k : Maybe 
 
   mark-put : (candidate_number k ≡ 0 → ⊥) → t.state ≡ Open → n + t.classes + t.rows < length w / 64 → (m : Words) → {mark : ℕ}
       → mark ≡ mark_of step (candidate_number k) → mark < 2 ^ 32
-      → {ys : List ℕ} → ys ≡ worded (row_at (take (length w - 48 * n) (drop (48 * n) w)) t.rows) m mark (take (length w - 48 * n) (drop (48 * n) w))
-      → {z : ℕ} {r : Census} → r ≡ opened_as t.classes (t.rows + 1) z → Marks r (put (48 * n) (length w - 48 * n) w ys)
+      → {ys : List ℕ} → ys ≡ worded (row_at (take (length w - 56 * n) (drop (56 * n) w)) t.rows) m mark (take (length w - 56 * n) (drop (56 * n) w))
+      → {z : ℕ} {r : Census} → r ≡ opened_as t.classes (t.rows + 1) z → Marks r (put (56 * n) (length w - 56 * n) w ys)
   mark-put some going h m {mark} e small q x l s =
       rw (candidate-is (read_in d) (export_no d i) (λ z. some (is ∙ z)), ← (e ∙ ap (λ (n : ℕ). mark_of step n) is))
-      (marked_row s going h m mark small (rw (lent-part (48 * n) w) at q) (ap (λ (c : Census). c.rows) x))
+      (marked_row s going h m mark small (rw (lent-part (56 * n) w) at q) (ap (λ (c : Census). c.rows) x))
 
 pub returns-in_default-clause-state : goal.returns-in_default-clause-state
 returns-in_default-clause-state c =

@@ -46,11 +46,11 @@ module _ (n limit : ℕ) (v : Visit) (i : ℕ) (d b : List ℕ) {t r : Census} {
       holds = row k.corpus b k.objects k.found k.holds;
     }
 
-    linked : SomeState b n v d t w → LinkedOf b (take (48 * n) w₁)
+    linked : SomeState b n v d t w → LinkedOf b (take (56 * n) w₁)
     linked k = record { objects = k.objects; holds = ((some-row k).holds.holds going).tables.objects }
 
     -- whether the export is a class
-    module _ {e : Export} (at : e ≡ export_no d i) {is : Bool} (told : (o : Objects) → ObjectsIn b o (take (48 * n) w₁) → is ≡ is_class limit o e) where
+    module _ {e : Export} (at : e ≡ export_no d i) {is : Bool} (told : (o : Objects) → ObjectsIn b o (take (56 * n) w₁) → is ≡ is_class limit o e) where
       class-is : {c : List ℕ} {o : Objects} {f : Found} → State c b o n f r w₁ → is_class limit o (export_no d i) ≡ is
       class-is {o = o} k = rw (← at) (sym (told o (k.holds going).tables.objects))
 
@@ -69,7 +69,7 @@ module _ (n limit : ℕ) (v : Visit) (i : ℕ) (d b : List ℕ) {t r : Census} {
             (class c b o (with_row (package_in v.id d) i f) z x)
 
         -- what entering it asks
-        asked : SomeState b n v d t w → ((export_no d i).hash ≡ 0 → ⊥) × Classes (4 * n) r.classes (drop (48 * n) w₁) × (0 < n)
+        asked : SomeState b n v d t w → ((export_no d i).hash ≡ 0 → ⊥) × Classes (2 * n) r.classes (drop (56 * n) w₁) × (0 < n)
         asked k =
             let x = (some-row k).holds in
             let c = class-is x ∙ h in (
@@ -88,7 +88,7 @@ module _ (c : After-is_class) where
 
   -- what entering its class asks
   class-asked : c.is_class.result ≡ true → let r = c.keep_row-r in
-      ((export_no c.args.p.now.block.bytes.now c.args.i).hash ≡ 0 → ⊥) × Classes (4 * c.args.s.now.count) r.result.classes (drop (48 * c.args.s.now.count) r.new.w) × (0 < c.args.s.now.count)
+      ((export_no c.args.p.now.block.bytes.now c.args.i).hash ≡ 0 → ⊥) × Classes (2 * c.args.s.now.count) r.result.classes (drop (56 * c.args.s.now.count) r.new.w) × (0 < c.args.s.now.count)
   class-asked h =
       let a = c.args in
       asked a.s.now.count a.s.now.limit a.v a.i a.p.now.block.bytes.now a.s.now.block.now c.keep_row-r.ensures.state open-row export-is c.is_class.ensures h c.requires.open_value.1

@@ -39,31 +39,31 @@ pub record Passed (s : List ℕ) (at : ℕ) (b : List ℕ) (n limit : ℕ) (w₀
   pub small : Small (here - at) t
   pub size : length w ≡ length w₀
   pub objects : Objects
-  pub linked : ObjectsIn b objects (take (48 * n) w₀)
-  pub state : (o : Objects) → ObjectsIn b o (take (48 * n) w₀) → State s b o n (found_in limit o s at i) t w
+  pub linked : ObjectsIn b objects (take (56 * n) w₀)
+  pub state : (o : Objects) → ObjectsIn b o (take (56 * n) w₀) → State s b o n (found_in limit o s at i) t w
   pub marks : Marked n (marks_in s at i) t w
 
 module _ (s : List ℕ) (at : ℕ) (b : List ℕ) (n limit : ℕ) where
   -- at the start: the script objects are linked, and there is a table with no class
   module _ (w : List ℕ) (l : Linked b n w) where
-    low-room : 48 * n ≤ length w
+    low-room : 56 * n ≤ length w
     low-room = omega (arith, l.room)
 
-    pub table-room : 4 * (4 * n) ≤ length (take (length w - 48 * n) (drop (48 * n) w))
-    table-room = rw (lent-part (48 * n) w, length-drop (48 * n) w) (omega (arith, l.room))
+    pub table-room : 4 * (2 * n) ≤ length (take (length w - 56 * n) (drop (56 * n) w))
+    table-room = rw (lent-part (56 * n) w, length-drop (56 * n) w) (omega (arith, l.room))
 
     module _ (ys : List ℕ) where
       abbrev pub w₀ : List ℕ
-      w₀ = put (48 * n) (length w - 48 * n) w ys
+      w₀ = put (56 * n) (length w - 56 * n) w ys
 
       -- the same in front
-      pub front : {o : Objects} → ObjectsIn b o (take (48 * n) w) → ObjectsIn b o (take (48 * n) w₀)
-      front k = rw (lent-front (48 * n) w ys low-room) k
+      pub front : {o : Objects} → ObjectsIn b o (take (56 * n) w) → ObjectsIn b o (take (56 * n) w₀)
+      front k = rw (lent-front (56 * n) w ys low-room) k
 
-      pub begun : Bytes b → length b < 2 ^ 32 → ys ≡ cleared (4 * n) (take (length w - 48 * n) (drop (48 * n) w))
+      pub begun : Bytes b → length b < 2 ^ 32 → ys ≡ cleared (2 * n) (take (length w - 56 * n) (drop (56 * n) w))
           → {t : Census} → t ≡ opened_as 0 0 9 → Passed s at b n limit w₀ 0 at t w₀
       begun y small e q =
-          rw q (let same = lent-front (48 * n) w ys low-room in
+          rw q (let same = lent-front (56 * n) w ys low-room in
           record {
             here-is = sym (place_none s at);
             low = omega arith;
@@ -73,7 +73,7 @@ module _ (s : List ℕ) (at : ℕ) (b : List ℕ) (n limit : ℕ) where
             size = refl;
             objects = l.objects;
             linked = front l.holds;
-            state = λ o k. state-none limit s at w y small (omega (arith, (rw same at k).all.entered.size, length-take-le (48 * n) w low-room)) l.room (rw same at k) (rw (lent-part (48 * n) w) at e);
+            state = λ o k. state-none limit s at w y small (omega (arith, (rw same at k).all.entered.size, length-take-le (56 * n) w low-room)) l.room (rw same at k) (rw (lent-part (56 * n) w) at e);
             marks = marked-none n s at w₀;
           })
 
