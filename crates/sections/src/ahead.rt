@@ -1,5 +1,5 @@
 // Looking ahead. What rows are written from stands far apart: their exports, the texts that they keep, and where they keep none the records of their
-// classes and the blocks of these. A byte of each is read for many rows together before they are written, so that the processor waits for all of them
+// classes and the blocks of these. Of each some bytes are read for many rows together before they are written, so that the processor waits for all of them
 // at once and not for one after the other. Nothing depends on what was read; it is stored where a note may stand, since the compiler drops what is read
 // and not used.
 ghost use Rattle.std.specs.Prelude.{◌+◌, ◌*◌, ◌≤◌, ◌<◌, length};
@@ -17,6 +17,16 @@ const GROUP: usize = 32;
 // Kept: no Option, since nothing depends on what was read.
 fn byte_at(b: &[u8], at: usize) -> u32 {
     b.get(at).copied().map_or(0, u32::from)
+}
+
+// Of so many bytes from a place on: one in each line of the processor's cache, and the last.
+fn see_lines(b: &[u8], from: usize, size: usize) -> u32 {
+    let end = from.saturating_add(size);
+    let mut seen = byte_at(b, end.saturating_sub(1));
+    for at in (from..end).step_by(64) {
+        seen ^= byte_at(b, at);
+    }
+    seen
 }
 
 // Of what the path of a class is written from, whose record is at a place: both ends of its package's fields, and the package's name.
@@ -44,11 +54,11 @@ fn see_row(src: &Source, r: usize) -> u32
     requires { 32 * (r + 1) ≤ length src.now.work.now }
 {
     let l = led_at(src.work, r);
-    let seen = byte_at(src.packages.corpus, 18 * mark_at(src.work, r) + 36);
+    let seen = see_lines(src.packages.corpus, 18 * mark_at(src.work, r), 72);
     if l.size == 0 {
         return seen ^ see_led(src, l);
     }
-    seen ^ byte_at(src.work, l.text)
+    seen ^ see_lines(src.work, l.text, l.size)
 }
 
 // Of what the rows from one up to another are written from.
