@@ -303,19 +303,8 @@ pub meant-next : {s x : List ℕ} {i k : ℕ} → Meant s i k x → k < length x
 meant-next {s} {x} {i} {k} p h =
     record { byte = stored (λ (j : ℕ). picked (get_or s (i + j - 1) 0) (get_or s (i + j) 0) (get_or s (i + j + 1) 0)) x k h p.byte }
 
-pub counted_next : {s y : List ℕ} {i k : ℕ} → Counted s i k y → k < length y → Counted s i (k + 1) (set y k (ran (get_or s (i + 2 * k) 0) (get_or s (i + 2 * k + 1) 0)))
-counted_next {s} {y} {i} {k} p h = record { size = stored (λ (j : ℕ). ran (get_or s (i + 2 * j) 0) (get_or s (i + 2 * j + 1) 0)) y k h p.size }
-
-pub counted-small : {s y : List ℕ} {i m : ℕ} → Counted s i m y → (k : ℕ) → k < m → get_or y k 0 ≤ 2
-unfolding ran
-counted-small {s} {i = i} p k h =
-    rw (p.size k h) (go (ltb (get_or s (i + 2 * k) 0) 0xC0) (ltb (get_or s (i + 2 * k + 1) 0) 0xC0))
-  where
-    go : (t u : Bool) → cond {A = ℕ} t 1 0 + cond {A = ℕ} u 1 0 ≤ 2
-    go true true = omega arith
-    go true false = omega arith
-    go false true = omega arith
-    go false false = omega arith
+pub counted_next : {s y : List ℕ} {i k : ℕ} → Counted s i k y → k < length y → Counted s i (k + 1) (set y k (ran (get_or s (i + k) 0) (get_or s (i + k + 1) 0)))
+counted_next {s} {y} {i} {k} p h = record { size = stored (λ (j : ℕ). ran (get_or s (i + j) 0) (get_or s (i + j + 1) 0)) y k h p.size }
 
 -- how many bytes the text from a place to another has
 pub part_long : (i to : ℕ) (s : List ℕ) → to ≤ length s → (k : ℕ) → i + k < to → k < length (drop i (take to s))
@@ -323,8 +312,8 @@ part_long i to s fits k l = omega (arith, length-drop i (take to s), length-take
 
 -- a pair of bytes of the text from place i of s to another is stored as it was looked up
 pub filling_paired : {old s o x y : List ℕ} {first to i m n : ℕ} (j : ℕ) → Filling old first (drop i (take to s)) o (2 * j) n (get_or s (i + 2 * j - 1) 0)
-    → Meant s i (2 * m) x → Counted s i m y → j < m → i + 2 * j + 2 < to → to ≤ length s
-    → Filling old first (drop i (take to s)) (set (set o n (get_or x (2 * j) 0)) (n + 1) (get_or x (2 * j + 1) 0)) (2 * j + 2) (n + get_or y j 0) (get_or s (i + 2 * j + 1) 0)
+    → Meant s i (2 * m) x → Counted s i (2 * m) y → j < m → i + 2 * j + 2 < to → to ≤ length s
+    → Filling old first (drop i (take to s)) (set (set o n (get_or x (2 * j) 0)) (n + 1) (get_or x (2 * j + 1) 0)) (2 * j + 2) (n + get_or y (2 * j) 0) (get_or s (i + 2 * j + 1) 0)
 filling_paired {s = s} {x = x} {to = to} {i = i} j f p q h l fits =
     let k = i + 2 * j in
     let t = drop i (take to s) in
@@ -339,7 +328,7 @@ filling_paired {s = s} {x = x} {to = to} {i = i} j f p q h l fits =
     rw (a, b) (p.byte (2 * j) (omega arith)) in
     let next-is : get_or x (2 * j + 1) 0 ≡ picked (get_or t (2 * j) 0) (get_or t (2 * j + 1) 0) (get_or t (2 * j + 2) 0) =
     rw (a, b, c) (rw (u, v, w) at (p.byte (2 * j + 1) (omega arith))) in
-    rw (q.size j h) (rw (a, b) at (filling_pair f (part_long i to s fits (2 * j + 2) (omega arith)) _ _ first-is next-is))
+    rw (q.size (2 * j) (omega arith)) (rw (a, b) at (filling_pair f (part_long i to s fits (2 * j + 2) (omega arith)) _ _ first-is next-is))
 
 -- ---- the bytes of a text
 

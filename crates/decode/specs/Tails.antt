@@ -1,6 +1,6 @@
 -- Text that fits Latin-1, by its bytes alone, none decoded: ASCII, and tails after C2 or C3. Each byte below C0 ends a character and is kept; the
 -- others are passed over. What the code writes. Assumes nothing.
-use Rattle.std.specs.Prelude.{◌≡◌, cond, List, [], ◌∷◌, ◌++◌, ℕ, ◌+◌, ◌-◌, ◌*◌, ◌≤◌, ◌<◌, ltb, eqb, length, take, drop, get_or}
+use Rattle.std.specs.Prelude.{◌≡◌, cond, List, [], ◌∷◌, ◌++◌, ℕ, ◌+◌, ◌-◌, ◌≤◌, ◌<◌, ltb, eqb, length, take, drop, get_or}
 use Rattle.std.specs.Int.Bits.{bit_or}
 
 -- U+0080 to U+00BF are C2 80 to C2 BF, U+00C0 to U+00FF are C3 80 to C3 BF
@@ -43,6 +43,6 @@ ran b c = cond (ltb b 0xC0) 1 0 + cond (ltb c 0xC0) 1 0
 pub record Meant (s : List ℕ) (i m : ℕ) (bytes : List ℕ) : Type 0 where
   pub byte : (k : ℕ) → k < m → get_or bytes k 0 ≡ picked (get_or s (i + k - 1) 0) (get_or s (i + k) 0) (get_or s (i + k + 1) 0)
 
--- how many of each of the m pairs of bytes from place i on are kept
+-- how many of each of the m bytes of s from place i on and the byte behind it are kept
 pub record Counted (s : List ℕ) (i m : ℕ) (sizes : List ℕ) : Type 0 where
-  pub size : (k : ℕ) → k < m → get_or sizes k 0 ≡ ran (get_or s (i + 2 * k) 0) (get_or s (i + 2 * k + 1) 0)
+  pub size : (k : ℕ) → k < m → get_or sizes k 0 ≡ ran (get_or s (i + k) 0) (get_or s (i + k + 1) 0)
