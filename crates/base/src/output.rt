@@ -15,14 +15,15 @@ pub fn put_byte(out: &mut [u8], b: u8) -> usize
     1
 }
 
-// Kept: one call of the library and its count: without the function each caller says both, as
-// `out[n..n + src.len()].copy_from_slice(src); n += src.len();`.
 // The bytes of src.
+// Kept: a loop by hand: `copy_from_slice` of a length that isn't known is a call of the C library's memmove, which an archive for C would need from outside.
 pub fn put_bytes(out: &mut [u8], src: &[u8]) -> usize
     requires { length src.now ≤ length out.old }
     ensures { Wrote out.old src.now out.new result }
 {
-    out[..src.len()].copy_from_slice(src);
+    for (i, b) in src.iter().enumerate() {
+        out[i] = *b;
+    }
     src.len()
 }
 

@@ -53,8 +53,19 @@ module _ {s : List ℕ} {n : Names} {notes : List ℕ} {p k : ℕ} (e : Each s n
         noted = one_more (λ j. name_start s n.headers n.strings j - n.strings) notes k p (omega (arith, e.size)) z e.noted;
       }
 
+-- the header of the next is in the block
+pub each-head : {s : List ℕ} {n : Names} {k : ℕ} → Held s n → k < n.count → n.headers + 2 * k + 2 ≤ length s
+each-head d l = omega (arith, d.heads)
+
 step-one : (count : ℕ) → count < note_count → step_of count ≡ 1
 step-one count c = omega arith
+
+-- all of them are noted
+pub each_end : {s : List ℕ} {n : Names} {notes : List ℕ} {p k : ℕ} → Each s n notes p k → n.count < note_count → n.count ≤ k → Noted s n notes
+each_end {s} {n} {notes} {p} {k} e c l = record { at = λ j a b. go j (rw (step-one n.count c) at b) }
+  where
+    go : (j : ℕ) → 1 * j < n.count → get_or notes j 0 ≡ name_start s n.headers n.strings (step_of n.count * j) - n.strings
+    go j b = let q : 1 * j ≡ j = omega arith in rw (step-one n.count c, q) (e.noted j (omega arith))
 
 next-step : (step k : ℕ) → step * (k + 1) ≡ step * k + step
 next-step step k = rw (add-one k) (mul-suc step k)
@@ -100,6 +111,14 @@ module _ {s : List ℕ} {n : Names} {step : ℕ} {notes : List ℕ} {p k : ℕ} 
       go : Dec (k + 1 ≤ j) → j < k + 1
       go (yes y) = absurd (omega (arith, mul-le-mul_left step y, next-step step k, g.few))
       go (no y) = omega arith
+
+-- the step is the notes' own: they are done with the last name, or with the last note
+module _ {s : List ℕ} {n : Names} {notes : List ℕ} {p k : ℕ} (g : Going s n (step_of n.count) notes p k) where
+  pub going_end : k < length notes → n.count - step_of n.count * k < step_of n.count → Noted s n (set notes k (p - n.strings))
+  going_end l i = record { at = λ j a b. going_last g l i j b }
+
+  pub going_full : note_count ≤ k → Noted s n notes
+  going_full l = record { at = λ j a b. g.noted j (omega arith) }
 
 -- ---- a name is reached
 

@@ -20,6 +20,17 @@ pub fn u32_from(s: &[u8], at: usize) -> Option<(u32, usize)>
     Some((base::number::le32(s, at), at + 4))
 }
 
+// The position that a read leaves: behind what it found, or where it was.
+#[tactic(auto, unfolding(crate::specs::Cursor::behind))]
+pub fn pos_behind(w: Option<(u32, usize)>, at: usize) -> usize
+    ensures { result ≡ behind w at }
+{
+    match w {
+        Some((_, next)) => next,
+        None => at,
+    }
+}
+
 impl<'a> Cursor<'a> {
     // A cursor at the start of a block.
     pub fn new(buf: &'a [u8]) -> Cursor<'a>
@@ -37,5 +48,15 @@ impl<'a> Cursor<'a> {
         let (word, next) = u32_from(self.buf, self.pos)?;
         self.pos = next;
         Some(word)
+    }
+
+    // The cursor behind what a read found, and where it was if it found nothing.
+    pub fn next(self, w: Option<(u32, usize)>) -> Cursor<'a>
+        ensures { (result.buf ≡ self.entry.buf) × (result.pos ≡ behind w self.entry.pos) }
+    {
+        Cursor {
+            buf: self.buf,
+            pos: pos_behind(w, self.pos),
+        }
     }
 }

@@ -65,8 +65,8 @@ impl Notes {
         }
     }
 
-    // Notes where the names of a batch start.
-    fn note(&mut self, s: &[u8], n: Names)
+    // Notes where the names of a batch start: public for who keeps the notes, since `NotedNames::of` says it of its value alone.
+    pub fn note(&mut self, s: &[u8], n: Names)
         requires { Held s.now n }
         ensures { Noted s.now n self.new.starts }
     {

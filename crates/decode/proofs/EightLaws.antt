@@ -1,17 +1,20 @@
 -- Laws of bytes of ASCII in a row: in well-formed bytes each is a character, and one unit as UTF-16LE. Assumes nothing.
-use Rattle.std.specs.Prelude.{◌≡◌, true, false, ◌&&◌, List, [], ◌∷◌, ◌++◌, ℕ, zero, suc, ◌+◌, ◌*◌, ◌-◌, ◌/◌, ◌%◌, ◌≤◌, ◌<◌, leb, length, take, drop, get_or}
+use Rattle.std.specs.Prelude.{◌≡◌, true, false, ◌&&◌, List, [], ◌∷◌, ◌++◌, ℕ, zero, suc, ◌+◌, ◌*◌, ◌-◌, ◌/◌, ◌%◌, ◌≤◌, ◌<◌, leb, length, take, drop, get_or, set}
 use Rattle.std.proofs.Common.{sym, ap, ◌∙◌, append_assoc, add-one, arith, le-leb, leb-true, lt-ltb, ltb-true, length-append, length-take, length-drop, take-suc, get_or-drop}
 use Rattle.std.proofs.Math.Bool.{and-eq-true_iff}
 use Rattle.std.proofs.lemmas.Bool.{lt-leb}
-use Rattle.text.specs.UnitBytesLaws.{unit_bytes-length, unit_bytes_append}
+use Rattle.base.specs.Output.{Wrote}
+use Rattle.base.specs.OutputLaws.{wrote_as}
+use Rattle.text.specs.UnitBytesLaws.{unit_bytes-length, unit_bytes_append, wrote-one}
 use Rattle.text.specs.Utf16.{is_well, unit_bytes, utf16le}
 use Rattle.decode.proofs.KnownLaws.{first_1}
 use Rattle.decode.specs.Latin.{every, ascii}
 use Rattle.decode.proofs.LatinLaws.{every-next}
-use Rattle.decode.specs.Eight.{is_few, Few}
+use Rattle.decode.specs.Eight.{is_few, is_eight, Few}
 use Rattle.decode.specs.TurnLaws.{Turn, from, text_from}
 use Rattle.decode.proofs.TurnLaws.{turn, one_unit, well-next}
-use Rattle.decode.proofs.WriteLaws.{utf16le-next}
+use Rattle.decode.specs.WriteLaws.{Partly}
+use Rattle.decode.proofs.WriteLaws.{partly_room, utf16le-next}
 
 -- ---- the test
 
@@ -25,6 +28,16 @@ pub few_is : (k : ℕ) (s : List ℕ) (at : ℕ) → is_few k s at ≡ true → 
 few_is k s at e =
     let p = (and-eq-true_iff (leb (at + k) (length s)) (every ascii (take k (drop at s)))).0 e in
     (leb-true (at + k) (length s) p.0, p.1)
+
+-- the same of eight
+pub eight-short : (s : List ℕ) (at : ℕ) → length s - at < 8 → is_eight s at ≡ false
+eight-short s at h = few-short 8 s at h
+
+pub eight-long : (s : List ℕ) (at : ℕ) → at ≤ length s → 8 ≤ length s - at → every ascii (take 8 (drop at s)) ≡ is_eight s at
+eight-long s at h l = few-long 8 s at h l
+
+pub eight_is : (s : List ℕ) (at : ℕ) → is_eight s at ≡ true → Few 8 s at
+eight_is s at e = few_is 8 s at e
 
 -- one is, by its number
 pub one_is : (s : List ℕ) (at : ℕ) → at < length s → get_or s at 0 < 0x80 → Few 1 s at
@@ -90,7 +103,27 @@ module _ (s : List ℕ) (at : ℕ) (ok : is_well (from s at) ≡ true) where
     few-room room h =
         omega (arith, ap length few-next, length-append (unit_bytes (take k (drop at s))) (utf16le (text_from s (at + k))), unit_bytes-length (take k (drop at s)), length-take k (drop at s), length-drop at s)
 
+  -- and eight of them
+  module _ (is : Few 8 s at) where
+    pub eight-well : is_well (from s (at + 8)) ≡ true
+    eight-well = few-well 8 is
+
+    pub eight-next : utf16le (text_from s at) ≡ unit_bytes (take 8 (drop at s)) ++ utf16le (text_from s (at + 8))
+    eight-next = few-next 8 is
+
+    pub eight-room : {o x now : List ℕ} {n : ℕ} → Partly o x now (utf16le (text_from s at)) n → length x ≤ length o → 16 ≤ length (take (length now - n) (drop n now))
+    eight-room p h =
+        let r = partly_room p (unit_bytes (take 8 (drop at s))) (utf16le (text_from s (at + 8))) eight-next h in
+        omega (arith, is.0, unit_bytes-length (take 8 (drop at s)), length-take 8 (drop at s), length-drop at s)
+
 -- ---- one byte written as a unit
 
 pub units-next : (x : List ℕ) (i v : ℕ) → i < length x → v ≡ get_or x i 0 → unit_bytes (take i x) ++ (v % 256 ∷ v / 256 ∷ []) ≡ unit_bytes (take (i + 1) x)
 units-next x i v h e = sym (rw (add-one i, e) (units-last x i h))
+
+pub units-wrote : {o out : List ℕ} (x : List ℕ) (i v : ℕ) → Wrote o (unit_bytes (take i x)) out (2 * i) → i < length x → 2 * i + 2 ≤ length o → v ≡ get_or x i 0 → v < 256
+    → Wrote o (unit_bytes (take (i + 1) x)) (set (set out (2 * i) v) (2 * i + 1) 0) (2 * (i + 1))
+units-wrote x i v w h l e b =
+    let m : v % 256 ≡ v = omega arith in
+    let d : v / 256 ≡ 0 = omega arith in
+    wrote_as (wrote-one i v w l (rw (m, d))) (units-next x i v h e)

@@ -1,7 +1,7 @@
 -- Laws of tests of many bytes at once, and of the one by which text fits Latin-1: it says of well-formed bytes what decoding says.
 -- Assumes nothing.
-use Rattle.std.specs.Prelude.{◌≡◌, refl, Bool, true, false, ◌&&◌, List, [], ◌∷◌, ◌++◌, ℕ, ◌+◌, ◌-◌, ◌/◌, ◌%◌, ◌≤◌, ◌<◌, ltb, leb, length, take, drop, get_or}
-use Rattle.std.proofs.Common.{sym, ap, ◌∙◌, ⊎_elim, add-one, arith, lt-ltb, le-ltb, ltb-true, leb-true, length-drop, take-append-drop, take-suc, take-add, take_all}
+use Rattle.std.specs.Prelude.{◌≡◌, refl, Bool, true, false, ◌&&◌, List, [], ◌∷◌, ◌++◌, ℕ, suc, ◌+◌, ◌-◌, ◌/◌, ◌%◌, ◌≤◌, ◌<◌, ltb, leb, length, take, drop, get_or}
+use Rattle.std.proofs.Common.{sym, ap, ◌∙◌, ⊎_elim, add-one, arith, lt-ltb, le-ltb, ltb-true, leb-true, length-drop, take-append-drop, take-suc, take-add, take_all, drop-drop, get_or-drop}
 use Rattle.std.proofs.Math.Bool.{and_assoc, and-true, and-false, and-eq-true_iff}
 use Rattle.base.specs.Choose.{lt_or_le}
 use Rattle.text.specs.Utf16.{is_well}
@@ -25,6 +25,30 @@ module _ (p : ℕ → Bool) where
   -- k bytes more
   pub every_more : (k : ℕ) (s : List ℕ) (i : ℕ) → every p (take (i + k) s) ≡ (every p (take i s) && every p (take k (drop i s)))
   every_more k s i = ap (every p) (take-add i k s) ∙ every-both (take i s) (take k (drop i s))
+
+  -- one byte more of those from a place on
+  every-at : (s : List ℕ) (i k : ℕ) → i + k < length s → every p (take (suc k) (drop i s)) ≡ (every p (take k (drop i s)) && p (get_or s (i + k) 0))
+  every-at s i k l =
+      let there : k < length (drop i s) = simp length-drop (omega arith) in
+      rw (← add-one k, every-next (drop i s) k there, get_or-drop i s k 0)
+
+  -- four bytes in a row, and eight
+  pub every-four : (s : List ℕ) (i : ℕ) → i + 4 ≤ length s
+      → (p (get_or s i 0) && p (get_or s (i + 1) 0) && p (get_or s (i + 2) 0) && p (get_or s (i + 3) 0)) ≡ every p (take 4 (drop i s))
+  every-four s i h =
+      let e : i + 0 ≡ i = omega arith in
+      rw (every-at s i 3 (omega arith), every-at s i 2 (omega arith), every-at s i 1 (omega arith), every-at s i 0 (omega arith), e)
+
+  pub every-word : (s : List ℕ) (i : ℕ) → i + 8 ≤ length s
+      → (p (get_or s i 0) && p (get_or s (i + 1) 0) && p (get_or s (i + 2) 0) && p (get_or s (i + 3) 0)
+      && p (get_or s (i + 4) 0) && p (get_or s (i + 5) 0) && p (get_or s (i + 6) 0) && p (get_or s (i + 7) 0)) ≡ every p (take 8 (drop i s))
+  every-word s i h =
+      rw (every-at s i 7 (omega arith), every-at s i 6 (omega arith), every-at s i 5 (omega arith), every-at s i 4 (omega arith))
+      (rw (every-four s i (omega arith)))
+
+  -- sixteen bytes are twice eight
+  pub every-pair : (s : List ℕ) (i : ℕ) → every p (take 16 (drop i s)) ≡ (every p (take 8 (drop i s)) && every p (take 8 (drop (i + 8) s)))
+  every-pair s i = rw (← drop-drop 8 i s) (every_more 8 (drop i s) 8)
 
   -- the first one fails
   pub every-first : (s : List ℕ) → 0 < length s → p (get_or s 0 0) ≡ false → every p s ≡ false

@@ -181,6 +181,14 @@ module _ (s : List ℕ) (at n : ℕ) (fits : at + n ≤ length s) where
       (λ (h : n ≤ i). rw (ex, ee, bit_is (ltb (get_or s (at + i) 0) 0xC0 && on), eo, le-ltb i n h) (far_off f (get_or s (at + i) 0) (front_off i h) (front_off (i + 1) (omega arith))))
       (lt_or_le i n)
 
+  -- the same of a byte that is on
+  pub far-full : (z y i : ℕ) {bad high : Bool} {u : ℕ} → Far z front y (drop i front) bad high u → i < n
+      → (x : Bool) → x ≡ wrong y (get_or s (at + i) 0) → (e : ℕ) → e ≡ cond (ltb (get_or s (at + i) 0) 0xC0) 1 0
+      → Far z front (get_or s (at + i) 0) (drop (i + 1) front) (bad || x) (high || leb 0xC4 (get_or s (at + i) 0)) (u + e)
+  far-full z y i f h x ex e ee =
+      let b = get_or s (at + i) 0 in
+      rw (ex, ee) (rw (and-true (wrong y b), and-true (leb 0xC4 b), and-true (ltb b 0xC0)) at (far-on f (front-on i h)))
+
 -- where all are on, each of them is below n
 pub masked : (all : Bool) (i n : ℕ) → (all ≡ true → i < n) → (all || ltb i n) ≡ ltb i n
 masked true i n h = sym (lt-ltb i n (h refl))

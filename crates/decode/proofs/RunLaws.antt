@@ -1,10 +1,12 @@
 -- Laws of four characters of two bytes or of three in a row: in well-formed bytes each first byte makes the next one a first byte too.
 -- Assumes nothing.
-use Rattle.std.specs.Prelude.{◌≡◌, refl, Bool, true, false, ◌&&◌, List, [], ◌∷◌, ◌++◌, ℕ, ◌+◌, ◌*◌, ◌-◌, ◌/◌, ◌%◌, ◌≤◌, ◌<◌, leb, length, take, drop, get_or, Some}
-use Rattle.std.proofs.Common.{sym, ap, ◌∙◌, ⊎_elim, le-leb, leb-true, length-drop, get_or-drop}
+use Rattle.std.specs.Prelude.{◌≡◌, refl, Bool, true, false, ◌&&◌, List, [], ◌∷◌, ◌++◌, ℕ, ◌+◌, ◌*◌, ◌-◌, ◌/◌, ◌%◌, ◌≤◌, ◌<◌, leb, eqb, length, take, drop, get_or, Some}
+use Rattle.std.proofs.Common.{sym, ap, ◌∙◌, ⊎_elim, le-leb, leb-true, leb-false, eq-eqb, ne_eqb, length-drop, get_or-drop}
 use Rattle.std.proofs.Math.Bool.{and-eq-true_iff}
 use native.Mathlib.Omega.{arith}
 use Rattle.std.proofs.lemmas.Bool.{lt-leb}
+use Rattle.std.specs.Int.Bits.{bit_and}
+use Rattle.std.proofs.lemmas.Nat.Bits.{and_high}
 use Rattle.text.specs.Utf16.{is_well, encode_one, unit_bytes, utf16le}
 use Rattle.decode.specs.Chars.{Range, char_of, a_char}
 use Rattle.decode.proofs.TableLaws.{within-is}
@@ -20,6 +22,18 @@ use Rattle.decode.specs.WriteLaws.{Partly}
 use Rattle.decode.proofs.WriteLaws.{partly_room, utf16le-next, units-one, units-two}
 use Rattle.decode.specs.Run.{leads_two, two_at, leads_three, three_at, four_at, four_led, four_units, is_twos, is_run, twos_bytes, run_bytes}
 pub use Rattle.decode.specs.RunLaws.{Kind, Led, Seconds, Leads}
+
+-- ---- the bits of a byte that leads three
+
+pub lead_bits : (b : ℕ) → b < 256 → eqb (bit_and b 0xF0) 0xE0 ≡ leads_three b
+lead_bits b h = rw (and_high b 4 4) (go (leb 0xE0 b) refl (leb b 0xEF) refl)
+  where
+    go : (x : Bool) → leb 0xE0 b ≡ x → (y : Bool) → leb b 0xEF ≡ y → eqb (b / 16 % 16 * 16) 0xE0 ≡ (x && y)
+    go true p true q = eq-eqb (b / 16 % 16 * 16) 0xE0 (omega (arith, leb-true 0xE0 b p, leb-true b 0xEF q))
+    go true p false q =
+        let k : b / 16 ≡ 15 = omega (arith, leb-false b 0xEF q) in
+        rw k
+    go false p y q = ne_eqb (b / 16 % 16 * 16) 0xE0 (λ (e : b / 16 % 16 * 16 ≡ 0xE0). omega (arith, leb-false 0xE0 b p))
 
 -- ---- one character
 
@@ -45,7 +59,7 @@ module _ (s : List ℕ) (at : ℕ) (h : at < length s) (ok : is_well (from s at)
     pub two-there : at + 2 ≤ length s
     two-there = two-turn.within
 
-    two-small : two_at s at < 0x10000
+    pub two-small : two_at s at < 0x10000
     unfolding two_at
     two-small = let r = two-range in omega arith
 

@@ -17,7 +17,7 @@ use Rattle.decode.specs.Measure.{measured, a_text}
 use Rattle.decode.specs.TurnLaws.{Turn}
 use Rattle.decode.proofs.TurnLaws.{turn, turn-ill, one_unit, two-units, last_turn}
 use Rattle.decode.specs.Latin.{every, ascii}
-use Rattle.decode.proofs.LatinLaws.{every-next}
+use Rattle.decode.proofs.LatinLaws.{every-next, every-four}
 use Rattle.decode.specs.Step.{common_at, is_plane, plane_at, added, Passed}
 
 -- ---- measures of texts that start with some units
@@ -160,6 +160,11 @@ module _ (s : List ℕ) (at : ℕ) where
     few = omega arith;
     is = every-ascii k h e;
   }
+
+  -- four, each tested
+  pub ascii-four-passed : at + 4 ≤ length s → (ascii (get_or s at 0) && ascii (get_or s (at + 1) 0) && ascii (get_or s (at + 2) 0) && ascii (get_or s (at + 3) 0)) ≡ true
+      → Passed s at 4 4 true
+  ascii-four-passed h e = ascii-passed 4 (omega arith) h (sym (every-four ascii s at h) ∙ e)
 
   -- four common characters, two of planes 1 to 3
   pub four-passed : at + 12 ≤ length s → (common_at s at && common_at s (at + 3) && common_at s (at + 6) && common_at s (at + 9)) ≡ true → Passed s at 12 4 false

@@ -117,6 +117,17 @@ module _ {old s o : List ℕ} {first i n before : ℕ} (k : Filling old first s 
         is = rw (behind, append-nil p, w.is, part-is, ← append_assoc, k.is, drop-drop x n o, e, k.rest);
       }
 
+-- from there on as a beginning of its own, and what follows put behind it
+pub filling_here : {old s o : List ℕ} {first i n before : ℕ} → Filling old first s o i n before → Filling o first s o i n before
+filling_here k = record { is = k.is; size = k.size; room = omega (arith, k.room, k.same); same = refl; rest = refl; ends = k.ends }
+
+pub filling_then : {old s o p : List ℕ} {first i n before j m last : ℕ} → Filling old first s o i n before → Filling o first s p j m last → Filling old first s p j m last
+filling_then k l = record { is = l.is; size = l.size; room = k.room; same = l.same ∙ k.same; rest = l.rest ∙ k.rest; ends = l.ends }
+
+pub filling_wrote : {old s o p : List ℕ} {first i n before m : ℕ} → Filling old first s o i n before → Wrote o (kept first s) p m → Wrote old (kept first s) p m
+unfolding over
+filling_wrote k w = record { size = w.size; fits = omega (arith, w.size, k.room); is = w.is ∙ rw k.rest }
+
 pub filling_all : {old s o : List ℕ} {first i n before : ℕ} → Filling old first s o i n before → length s ≤ i → Wrote old (kept first s) o n
 unfolding over
 filling_all {old} {s} {o} {first} {i} {n} k h =
@@ -305,6 +316,16 @@ meant-next {s} {x} {i} {k} p h =
 
 pub counted_next : {s y : List ℕ} {i k : ℕ} → Counted s i k y → k < length y → Counted s i (k + 1) (set y k (ran (get_or s (i + k) 0) (get_or s (i + k + 1) 0)))
 counted_next {s} {y} {i} {k} p h = record { size = stored (λ (j : ℕ). ran (get_or s (i + j) 0) (get_or s (i + j + 1) 0)) y k h p.size }
+
+pub counted-small : {s y : List ℕ} {i m : ℕ} → Counted s i m y → (k : ℕ) → k < m → get_or y k 0 ≤ 2
+unfolding ran
+counted-small {s} {i = i} p k h = rw (p.size k h) (go (ltb (get_or s (i + k) 0) 0xC0) (ltb (get_or s (i + k + 1) 0) 0xC0))
+  where
+    go : (t u : Bool) → cond {A = ℕ} t 1 0 + cond {A = ℕ} u 1 0 ≤ 2
+    go true true = omega arith
+    go true false = omega arith
+    go false true = omega arith
+    go false false = omega arith
 
 -- how many bytes the text from a place to another has
 pub part_long : (i to : ℕ) (s : List ℕ) → to ≤ length s → (k : ℕ) → i + k < to → k < length (drop i (take to s))

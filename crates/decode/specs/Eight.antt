@@ -6,7 +6,11 @@ use Rattle.decode.specs.Latin.{every, ascii}
 abbrev pub is_few : ℕ → List ℕ → ℕ → Bool
 is_few k s at = leb (at + k) (length s) && every ascii (take k (drop at s))
 
--- the same as a fact
+-- eight are
+abbrev pub is_eight : List ℕ → ℕ → Bool
+is_eight s at = is_few 8 s at
+
+-- k are, as a fact
 abbrev pub Few : ℕ → List ℕ → ℕ → Type 0
 Few k s at = (at + k ≤ length s) × (every ascii (take k (drop at s)) ≡ true)
 

@@ -3,7 +3,7 @@ ghost use Rattle.std.specs.Prelude.{◌≡◌, true, ◌+◌, ◌*◌, ◌≤◌
 ghost use Rattle.base.specs.Output.{Wrote};
 ghost use Rattle.text.specs.Utf16.{is_well, unit_bytes, utf16le};
 ghost use Rattle.text.specs.Utf8.{from_utf8};
-ghost use Rattle.decode.specs.Eight.{is_few, few_at, Few};
+ghost use Rattle.decode.specs.Eight.{is_few, is_eight, few_at, Few};
 ghost use Rattle.decode.specs.Measure.{text_of};
 
 use super::latin::all_below;
@@ -18,6 +18,14 @@ fn starts_few<const N: usize>(s: &[u8], at: usize) -> bool
         return false;
     }
     all_below::<N, 0x80>(s, at)
+}
+
+// Whether eight are.
+pub fn starts_eight(s: &[u8], at: usize) -> bool
+    requires { at ≤ length s.now }
+    ensures { result ≡ is_eight s.now at }
+{
+    starts_few::<8>(s, at)
 }
 
 // How many bytes of ASCII are passed at once where one stands: eight, four or one.
@@ -45,6 +53,15 @@ fn put_few<const N: usize>(out: &mut [u8], s: &[u8], at: usize)
     }
 }
 
+// Eight of them. Written out where it is called.
+#[inline(always)]
+pub fn put_eight(out: &mut [u8], s: &[u8], at: usize)
+    requires { (at + 8 ≤ length s.now) × (16 ≤ length out.old) }
+    ensures { Wrote out.old (unit_bytes (take 8 (drop at s.now))) out.new 16 }
+{
+    put_few::<8>(out, s, at);
+}
+
 // What `ascii_at` passes, as UTF-16LE. Returns how many bytes of ASCII they are. Written out where it is called.
 // Kept: the tests of `ascii_at` once more, so that how many are written is known in each branch.
 #[inline(always)]
@@ -55,7 +72,7 @@ pub fn put_ascii(out: &mut [u8], s: &[u8], at: usize) -> usize
     ensures passed { (1 ≤ result) × Few result s.now at × Wrote out.old (unit_bytes (take result (drop at s.now))) out.new (2 * result) }
 {
     if starts_few::<8>(s, at) {
-        put_few::<8>(out, s, at);
+        put_eight(out, s, at);
         return 8;
     }
     if starts_few::<4>(s, at) {

@@ -1,5 +1,5 @@
 // An object and those outside it, the innermost first, by their names in a lent array.
-ghost use Rattle.std.specs.Prelude.{List, ◌≡◌, ℕ, ◌*◌, ◌<◌, length, drop, MatchOption};
+ghost use Rattle.std.specs.Prelude.{List, ◌≡◌, ℕ, ◌*◌, ◌≤◌, ◌<◌, length, take, drop, MatchOption, IfSome};
 ghost use Rattle.std.proofs.Math.Option.{none};
 ghost use Rattle.base.specs.NumberLaws.{Bytes};
 ghost use Rattle.base.specs.Reading.{gives, run};
@@ -30,11 +30,13 @@ pub const NO_NAME: Name = Name {
 // functions to `(Name, Outer)` nearly as long as these bodies; and its contract would say besides where the closure may be called, where an outer that it
 // tells leads, and that it tells object `at`, which rests on the links in the work buffer here and on the block's entries there.
 
-// The chain of object i, of at most as many objects as there is room for, by the links in the work buffer, if its path is known.
-pub fn chain_in<'a>(w: &[u8], i: usize, chain: &'a mut [Name]) -> Option<&'a [Name]>
+// Puts the chain of object i, of at most as many objects as there is room for, in front of the room, by the links in the work buffer: how many objects it
+// has, if its path is known.
+pub fn put_chain(w: &[u8], i: usize, chain: &mut [Name]) -> Option<usize>
     requires { Linked w.now × (56 * i < length w.now) }
-    ensures { (b : List ℕ) (o : Objects) → ObjectsIn b o w.now → Bytes b → MatchOption result (path_no (length chain.old) o i ≡ none)
-        (λ c. Tells b c.now (length chain.old) (path_no (length chain.old) o i)) }
+    ensures inside { IfSome result (λ d. d ≤ length chain.new) }
+    ensures told { (b : List ℕ) (o : Objects) → ObjectsIn b o w.now → Bytes b → MatchOption result (path_no (length chain.old) o i ≡ none)
+        (λ d. Tells b (take d chain.new) (length chain.old) (path_no (length chain.old) o i)) }
 {
     let mut at = i;
     for depth in 0..chain.len() {
@@ -42,18 +44,29 @@ pub fn chain_in<'a>(w: &[u8], i: usize, chain: &'a mut [Name]) -> Option<&'a [Na
         chain[depth] = name_of(u);
         match Outer::of(u.outer) {
             Outer::Missing => return None,
-            Outer::Nothing => return Some(&chain[..depth + 1]),
+            Outer::Nothing => return Some(depth + 1),
             Outer::Object(outer) => at = outer,
         }
     }
     None
 }
 
+// The same, as the part of the room that the chain is.
+pub fn chain_in<'a>(w: &[u8], i: usize, chain: &'a mut [Name]) -> Option<&'a [Name]>
+    requires { Linked w.now × (56 * i < length w.now) }
+    ensures { (b : List ℕ) (o : Objects) → ObjectsIn b o w.now → Bytes b → MatchOption result (path_no (length chain.old) o i ≡ none)
+        (λ c. Tells b c.now (length chain.old) (path_no (length chain.old) o i)) }
+{
+    let depth = put_chain(w, i, chain)?;
+    Some(&chain[..depth])
+}
+
 // The same with no work buffer, by looking in the block. A name's start is counted from where the block's names start.
-pub fn chain_by_scan<'a>(s: &Script, i: usize, chain: &'a mut [Name]) -> Option<&'a [Name]>
+pub fn put_chain_by_scan(s: &Script, i: usize, chain: &mut [Name]) -> Option<usize>
     requires { i < s.now.block.layout.count }
-    ensures { (o : Objects) → run script 0 s.now.block.bytes.now ≡ gives o → MatchOption result (path_no (length chain.old) o i ≡ none)
-        (λ c. Tells (drop s.now.names.names.strings s.now.block.bytes.now) c.now (length chain.old) (path_no (length chain.old) o i)) }
+    ensures inside { IfSome result (λ d. d ≤ length chain.new) }
+    ensures told { (o : Objects) → run script 0 s.now.block.bytes.now ≡ gives o → MatchOption result (path_no (length chain.old) o i ≡ none)
+        (λ d. Tells (drop s.now.names.names.strings s.now.block.bytes.now) (take d chain.new) (length chain.old) (path_no (length chain.old) o i)) }
 {
     let mut at = i;
     for depth in 0..chain.len() {
@@ -68,9 +81,19 @@ pub fn chain_by_scan<'a>(s: &Script, i: usize, chain: &'a mut [Name]) -> Option<
             number: e.number,
         };
         if let Kind::Null = index_kind(e.outer) {
-            return Some(&chain[..depth + 1]);
+            return Some(depth + 1);
         }
         at = s.block.find(e.outer)?;
     }
     None
+}
+
+// The same, as the part of the room that the chain is.
+pub fn chain_by_scan<'a>(s: &Script, i: usize, chain: &'a mut [Name]) -> Option<&'a [Name]>
+    requires { i < s.now.block.layout.count }
+    ensures { (o : Objects) → run script 0 s.now.block.bytes.now ≡ gives o → MatchOption result (path_no (length chain.old) o i ≡ none)
+        (λ c. Tells (drop s.now.names.names.strings s.now.block.bytes.now) c.now (length chain.old) (path_no (length chain.old) o i)) }
+{
+    let depth = put_chain_by_scan(s, i, chain)?;
+    Some(&chain[..depth])
 }

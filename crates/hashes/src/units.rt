@@ -1,12 +1,12 @@
 // The units of the path of a chain, from any place on.
-ghost use Rattle.std.specs.Prelude.{◌≡◌, ◌+◌, ◌*◌, ◌^◌, ◌≤◌, ◌<◌, length, take, drop};
+ghost use Rattle.std.specs.Prelude.{List, ◌≡◌, ℕ, ◌+◌, ◌*◌, ◌^◌, ◌≤◌, ◌<◌, length, take, drop};
 ghost use Rattle.text.specs.Name.{suffix};
 ghost use Rattle.base.specs.NumberLaws.{Bytes};
 ghost use Rattle.base.specs.Output.{Wrote};
 ghost use Rattle.ids.specs.LoweredUnits.{name_units};
 ghost use Rattle.text.specs.Utf16.{unit_bytes};
 ghost use Rattle.batch.specs.Holds.{text_at, Holds};
-ghost use Rattle.hashes.specs.Chain.{piece, pieces, chain_units, piece_count, Named, Sized};
+ghost use Rattle.hashes.specs.Chain.{place_no, piece, pieces, chain_units, piece_count, Named, Sized};
 ghost use Rattle.hashes.specs.Once.{once};
 ghost use Rattle.hashes.specs.Slash.{slash_low, slash_bytes};
 
@@ -17,7 +17,7 @@ use text::name::{put_suffix, suffix_len};
 
 // How many units a name brings, with the `/` before it.
 fn piece_count(u: Name) -> usize
-    requires { u.place.size < 65536 }
+    requires { u.place.size < 2 ^ 31 }
     ensures { (result ≡ piece_count u.place u.number) × (result < 2 ^ 32) }
 {
     let more = 1 + suffix_len(u.number);
@@ -27,10 +27,11 @@ fn piece_count(u: Name) -> usize
     u.place.size + more
 }
 
-// How many units the names of a chain bring, each with the `/` before it.
-fn count_units(names: &[u8], chain: &[Name]) -> usize
-    requires { Named names.now chain.now }
-    ensures { (result ≡ length (pieces names.now chain.now (length chain.now))) × (result ≤ length chain.now * 2 ^ 32) }
+// How many units the names of a chain bring, each with the `/` before it. The bytes that the names stand in don't count.
+pub fn count_units(chain: &[Name]) -> usize
+    requires { (length chain.now ≤ 65) × ((k : ℕ) → k < length chain.now → (place_no chain.now k).size < 2 ^ 31) }
+    ensures { ((b : List ℕ) → Bytes b → Named b chain.now → result ≡ length (pieces b chain.now (length chain.now)))
+        × (result ≤ length chain.now * 2 ^ 32) }
 {
     let mut total: usize = 0;
     for u in chain {
@@ -116,7 +117,7 @@ impl<'a> PathUnits<'a> {
         PathUnits {
             names,
             chain,
-            count: count_units(names, chain) - 1,
+            count: count_units(chain) - 1,
         }
     }
 
@@ -128,6 +129,9 @@ impl<'a> PathUnits<'a> {
         let mut skip = from;
         let mut left = n;
         for u in self.chain.iter().rev() {
+            if left == 0 {
+                break;
+            }
             let count = piece_count(*u);
             let past = skip.min(count);
             let here = left.min(count - past);

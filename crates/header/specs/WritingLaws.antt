@@ -1,7 +1,7 @@
 -- Laws of what is written, in the parts that the code writes. Assumes nothing.
 use Rattle.std.specs.Prelude.{◌≡◌, Bool, true, false, cond, ℕ, zero, suc, ◌+◌, ◌*◌, ◌-◌, ◌/◌, ◌%◌, ◌^◌, ◌≤◌, ◌<◌, replicate}
 use Rattle.std.proofs.Math.Path.{refl, sym, ap}
-use Rattle.std.proofs.Common.{◌∙◌, add-one, arith}
+use Rattle.std.proofs.Common.{◌∙◌, div-one, add-one, arith}
 use mathlib.Core.List.{List, [], ◌∷◌, ◌++◌, append_assoc, append-nil}
 use Rattle.std.proofs.Math.ListN.{length}
 use Rattle.base.specs.Find.{flat}
@@ -42,6 +42,10 @@ pub each_none : {A : Type 0} (f : A → List ℕ) {l : List A} → l ≡ [] → 
 each_none f e = rw e
 
 -- ---- a name's header
+
+two_bytes : (x : ℕ) → be_bytes 2 x ≡ x / 256 % 256 ∷ x % 256 ∷ []
+unfolding be_bytes
+two_bytes x = rw (div-one x)
 
 pub head-is : {u : List ℕ} {n : ℕ} {latin : Bool} → Said u n latin → head_bytes (text_of u) ≡ be_bytes 2 (cond latin 0 0x8000 + n)
 unfolding head_bytes

@@ -11,9 +11,10 @@ use lib.Bits.{bit_or, or_zero_l}
 use lib.Dec.{ltb}
 use lib.ListN.{length, set, get_or, take, drop, get_or-eq_default}
 use lib.Seq.{sets-eq, paste, drop-cons, take_all}
-use Rattle.std.proofs.Common.{ltb-true}
+use Rattle.std.proofs.Common.{lt-ltb, ltb-true}
 use Rattle.lower.specs.Ascii.{lower_ascii}
 use Rattle.lower.specs.Lower.{lowered}
+use Rattle.rules.specs.Caseless.{caseless}
 use Rattle.rules.specs.ScriptLaws.{caseless-script}
 use Rattle.base.specs.NumberLaws.{Bytes}
 use Rattle.text.specs.Affix.{all_ascii}
@@ -23,7 +24,7 @@ use Rattle.text.specs.Utf16Cases.{Words}
 use Rattle.text.specs.Name.{decoded, base}
 use Rattle.text.specs.Units.{units_of}
 use Rattle.text.specs.UnitsLaws.{units_of-words}
-use Rattle.ids.specs.LoweredUnits.{bits_from, name_units}
+use Rattle.ids.specs.LoweredUnits.{all_are, bits_from, name_units}
 use Rattle.ids.proofs.NameUnits.{part_length, place}
 use Rattle.ids.proofs.ShortUnits.{words_append}
 use Rattle.ids.proofs.WideUnits.{bits-ascii, mapped-length, mapped_at, window, lowered-word}
@@ -71,20 +72,30 @@ fours_ascii us n e a b =
     rw (or_ascii (bits_from 0 (take 4 us)) (bits_from 0 (take 4 (drop (n - 4) us))), ascii_bits (take 4 us), ascii_bits (take 4 (drop (n - 4) us)))
     (ascii_cover 4 us 4 (n - 4) (omega arith) (omega arith))
 
+-- so they are caseless
+pub all-caseless : (us : List ℕ) → all_ascii us ≡ true → all_are caseless us ≡ true
+all-caseless us a = (bits-ascii 0 us (ltb-true (bits_from 0 us) 0x80 (ascii_bits us ∙ a))).1
+
+pub fours_ascii-caseless : (us : List ℕ) (n : ℕ) → n ≡ length us → 4 ≤ n → n ≤ 8
+    → bit_or (bits_from 0 (take 4 us)) (bits_from 0 (take 4 (drop (n - 4) us))) < 0x80 → all_are caseless us ≡ true
+fours_ascii-caseless us n e a b h = all-caseless us (sym (fours_ascii us n e a b) ∙ lt-ltb _ 0x80 h)
+
 module _ (part : List ℕ) (b : Bytes part) (w : is_well (decoded true part) ≡ true) where
-  -- then they are the text's with A to Z lowered
-  ascii-units : all_ascii (units_of true part) ≡ true → map lower_ascii (units_of true part) ≡ encode16 (lowered (base true part))
-  ascii-units a =
+  -- caseless units are the text's with A to Z lowered
+  caseless-units : all_are caseless (units_of true part) ≡ true → map lower_ascii (units_of true part) ≡ encode16 (lowered (base true part))
+  caseless-units a =
       let us : List ℕ = units_of true part in
       let vs : List ℕ = encode16 (lowered (base true part)) in
       sym (take_all (length us) (map lower_ascii us) (omega (arith, mapped-length lower_ascii us)))
-      ∙ window caseless-script part b w 0 (length us)
-      (rw (take_all (length us) us (omega arith)) (bits-ascii 0 us (ltb-true (bits_from 0 us) 0x80 (ascii_bits us ∙ a))).1)
+      ∙ window caseless-script part b w 0 (length us) (rw (take_all (length us) us (omega arith)) a)
       ∙ take_all (length us) vs (omega (arith, part_length true part b w))
 
-  pub ascii-name : all_ascii (units_of true part) ≡ true → (suffix : List ℕ) → map lower_ascii (units_of true part) ++ suffix ≡ name_units (base true part) suffix
+  pub ascii-name-caseless : all_are caseless (units_of true part) ≡ true → (suffix : List ℕ) → map lower_ascii (units_of true part) ++ suffix ≡ name_units (base true part) suffix
   unfolding name_units
-  ascii-name a suffix = ap (λ (s : List ℕ). s ++ suffix) (ascii-units a)
+  ascii-name-caseless a suffix = ap (λ (s : List ℕ). s ++ suffix) (caseless-units a)
+
+  pub ascii-name : all_ascii (units_of true part) ≡ true → (suffix : List ℕ) → map lower_ascii (units_of true part) ++ suffix ≡ name_units (base true part) suffix
+  ascii-name a suffix = ascii-name-caseless (all-caseless (units_of true part) a) suffix
 
   -- each unit of a lowered name has 16 bits
   pub wide-words : (suffix : List ℕ) → Bytes suffix → Words (name_units (base true part) suffix)

@@ -1,19 +1,20 @@
 -- Lemmas for the id of a name: its units one by one, their bytes as they are written, and the turns of the hash over them. Assumes nothing.
 use mathlib.Core.Path.{◌≡◌, refl, sym, ◌∙◌, ap}
-use mathlib.Core.Bool.{Bool, true, false}
-use mathlib.Core.List.{List, [], ◌∷◌, ◌++◌, append_assoc, append-nil}
-use mathlib.Core.Logic.{by_cases}
+use mathlib.Core.Bool.{Bool, true, false, not, ◌&&◌, and-eq-true_iff}
+use mathlib.Core.List.{List, [], ◌∷◌, ◌++◌, append-nil}
+use mathlib.Core.Logic.{◌⊎◌, inl, inr, by_cases}
 use Prim.Native.Nat.{ℕ, ◌+◌, ◌*◌, ◌-◌, ◌/◌, ◌%◌, ◌≤◌, ◌<◌}
 use native.Mathlib.Numerals.{add-one}
 use native.Mathlib.Decide.{dec_lt}
 use native.Mathlib.Omega.{arith}
-use lib.Dec.{lit≤}
+use borrow.Author.Tests.{leb-true, not-true}
+use lib.Dec.{lit≤, leb, ltb}
 use lib.ListN.{length, set, get_or, take, drop, length-append, length-take, length-drop, drop_of_length-le}
 use lib.Seq.{take-suc, take_all, take-add, take-append-le, take-append-add, drop-drop, drop-append-le, drop-append-add, get_or-drop}
 use Rattle.base.specs.Number.{le_at}
 use Rattle.base.specs.NumberLaws.{Bytes, le_at-part}
 use Rattle.base.specs.Output.{over, Wrote}
-use Rattle.base.specs.OutputLaws.{wrote-byte, wrote_as, wrote_count, wrote-taken, wrote-rest}
+use Rattle.base.specs.OutputLaws.{wrote_as, wrote-taken, wrote-rest}
 use Rattle.text.specs.Utf16.{is_well, encode16, unit_bytes}
 use Rattle.text.specs.Utf16Cases.{High, Low}
 use Rattle.text.specs.Name.{decoded, base, rendered}
@@ -72,6 +73,17 @@ one_name {wide} {number} w z part b l =
     ap (λ (s : List ℕ). city_hash64 (unit_bytes s))
     (name_units_lem (base wide part) number ∙ ap (name_units (base wide part)) (suffix-none z) ∙ narrow-name w part b [] ∙ e)
 
+-- what the test says that text is one-byte, and n up to 64 and more than count
+pub middle-is : (wide : Bool) (count n : ℕ) → (not wide && (leb n 64 && ltb count n)) ≡ true → (wide ≡ false) × (n ≤ 64)
+middle-is wide count n e =
+    let p = (and-eq-true_iff (not wide) (leb n 64 && ltb count n)).0 e in
+    (not-true wide p.0, leb-true n 64 ((and-eq-true_iff (leb n 64) (ltb count n)).0 p.1).0)
+
+-- the other of two numbers that it may be
+pub other : {r n m : ℕ} → (r ≡ n) ⊎ (r ≡ m) → r < n → r ≡ m
+other (inl e) h = absurd (omega arith)
+other (inr e) h = e
+
 -- ---- windows
 
 -- units of the first of two lists, which are units of both
@@ -126,6 +138,15 @@ wrote-unit {s} {o} {at} us from i {u} e w h l =
     let k : i < length (drop from us) = simp length-drop (omega arith) in
     let is = e ∙ sym (get_or-drop from us i 0) in
     wrote_as (wrote-behind u w l) (rw (add-one, take-suc (drop from us) i 0 k, unit_bytes_append, ← is) refl)
+
+-- the same, where it is a byte
+pub wrote-narrow : {s o : List ℕ} {at : ℕ} (us : List ℕ) (from i : ℕ) {u : ℕ} → u ≡ get_or us (from + i) 0 → u < 256
+    → Wrote s (unit_bytes (take i (drop from us))) o at → from + i < length us → at + 2 ≤ length s
+    → Wrote s (unit_bytes (take (i + 1) (drop from us))) (set (set o at u) (at + 1) 0) (at + 2)
+wrote-narrow {s} {o} {at} us from i {u} e k w h l =
+    let a : u % 256 ≡ u = omega arith in
+    let b : u / 256 ≡ 0 = omega arith in
+    rw (a, b) at (wrote-unit us from i e w h l)
 
 -- two pieces, one behind the other
 pub wrote-two : {s o p : List ℕ} {r m : ℕ} (us vs ws : List ℕ) → Wrote s (unit_bytes us) o r → Wrote (take (length o - r) (drop r o)) (unit_bytes vs) p m

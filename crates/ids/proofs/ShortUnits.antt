@@ -5,10 +5,10 @@ use Prim.Native.Nat.{ℕ, zero, suc, ◌+◌, ◌*◌, ◌-◌, ◌/◌, ◌%◌
 use native.Mathlib.Nat.{zero-add}
 use native.Mathlib.Numerals.{add-one}
 use native.Mathlib.Omega.{arith}
-use lib.ListN.{length, set, get_or, take, drop, length-append, length-take, length-drop, take-append-drop, get_or-append}
-use lib.Seq.{length-take-le, get_or-append-add}
+use lib.ListN.{length, set, get_or, take, drop, replicate, length-append, length-take, length-drop, take-append-drop, get_or-append}
+use lib.Seq.{length-take-le, get_or-append-add, get_or-take, get_or-drop}
 use Rattle.base.specs.Number.{le_at}
-use Rattle.base.specs.NumberLaws.{Bytes, le_at-add}
+use Rattle.base.specs.NumberLaws.{Bytes, le_at-part, le_at-add}
 use Rattle.base.specs.Output.{over, Wrote}
 use Rattle.base.specs.OutputLaws.{wrote_as, wrote_count}
 use Rattle.text.specs.Utf16.{unit_bytes}
@@ -18,7 +18,7 @@ use Rattle.lower.proofs.LowerLaws.{lower-single}
 use Rattle.city.specs.City.{k2, hash_bytes, hash_halves, hash_two, hash_four, city_hash64}
 use Rattle.city.specs.CityLaws.{none_is, bytes-is, halves-is, two_is, four_is}
 use Rattle.ids.specs.LowerLaws.{lowered-at, lowered-length}
-use Rattle.text.specs.UnitBytesLaws.{twice, unit_bytes-length}
+use Rattle.text.specs.UnitBytesLaws.{twice, unit_bytes-length, unit_bytes-take}
 use Rattle.ids.proofs.NameUnits.{wrote-unit}
 
 -- ---- units of one-byte text
@@ -67,6 +67,16 @@ lowered-words (c ∷ part) b (suc i) = lowered-words part (λ j. b (suc j)) i
 pub name-words : (part suffix : List ℕ) → Bytes part → Bytes suffix → Words (lowered part ++ suffix)
 name-words part suffix a b = words_append (lowered part) suffix (lowered-words part a) (λ i. omega (arith, b i))
 
+pub zeros-words : (n : ℕ) → Words (replicate n 0)
+zeros-words zero i = omega arith
+zeros-words (suc n) zero = omega arith
+zeros-words (suc n) (suc i) = zeros-words n i
+
+-- where they were written over others
+pub over-words : {s a o : List ℕ} {n : ℕ} → Wrote s a o n → Words s → Words a → Words o
+unfolding over
+over-words {s} {a} w h k = rw w.is (words_append a (drop (length a) s) k (λ i. rw (get_or-drop (length a) s i 0) (h (length a + i))))
+
 -- ---- words of units
 
 -- the unit at i, and what stands behind it
@@ -92,6 +102,14 @@ module _ (us : List ℕ) (i : ℕ) where
   word-halves h =
       let d : 2 * (i + 2) ≡ 2 * i + 4 = omega arith in
       rw d (omega (arith, le_at-add 4 4 (unit_bytes us) (2 * i) (omega (arith, unit_bytes-length us))))
+
+module _ (us : List ℕ) (i : ℕ) where
+  -- and four units
+  pub word_of : i + 4 ≤ length us
+      → le_at 8 (unit_bytes us) (2 * i) ≡ get_or us i 0 + get_or us (i + 1) 0 * 2 ^ 16 + get_or us (i + 2) 0 * 2 ^ 32 + get_or us (i + 3) 0 * 2 ^ 48
+  word_of h =
+      let e : i + 2 + 1 ≡ i + 3 = omega arith in
+      omega (arith, word-halves us i h, pair_of us i (omega arith), rw e at (pair_of us (i + 2) (omega arith)))
 
 -- ---- the hash of n units
 
@@ -129,6 +147,37 @@ module _ (us : List ℕ) (n : ℕ) (h : n ≡ length us) where
       let e : 2 * n - 8 ≡ 2 * (n - 4) = omega arith in
       let f : 2 * n - 16 ≡ 2 * (n - 8) = omega arith in
       four_is (unit_bytes us) (2 * n) size (omega arith) (omega arith) ∙ rw (e, f)
+
+-- ---- the hash of the first n of some units
+
+module _ (us : List ℕ) (n : ℕ) (h : n ≤ length us) where
+  size-first : n ≡ length (take n us)
+  size-first = sym (length-take-le n us h)
+
+  -- a number that stands in their bytes
+  front : (k i : ℕ) → 2 * i + k ≤ 2 * n → le_at k (unit_bytes (take n us)) (2 * i) ≡ le_at k (unit_bytes us) (2 * i)
+  front k i l = rw (unit_bytes-take n us) (le_at-part k 0 (2 * n) (unit_bytes us) (2 * i) l ∙ ap (le_at k (unit_bytes us)) (zero-add (2 * i)))
+
+  pub first-none : n ≡ 0 → city_hash64 (unit_bytes (take n us)) ≡ k2
+  first-none e = units-none (take n us) n size-first e
+
+  pub first_one : n ≡ 1 → city_hash64 (unit_bytes (take n us)) ≡ hash_bytes 2 (get_or us 0 0 % 256) (get_or us 0 0 / 256) (get_or us 0 0 / 256)
+  first_one e = units-one (take n us) n size-first e ∙ rw (get_or-take n us 0 0 (omega arith))
+
+  pub first_halves : 2 ≤ n → n < 4
+      → city_hash64 (unit_bytes (take n us)) ≡ hash_halves (2 * n) (le_at 4 (unit_bytes us) 0) (le_at 4 (unit_bytes us) (2 * (n - 2)))
+  first_halves a b = units-halves (take n us) n size-first a b ∙ rw (front 4 0 (omega arith), front 4 (n - 2) (omega arith))
+
+  pub first_two : 4 ≤ n → n ≤ 8
+      → city_hash64 (unit_bytes (take n us)) ≡ hash_two (2 * n) (le_at 8 (unit_bytes us) 0) (le_at 8 (unit_bytes us) (2 * (n - 4)))
+  first_two a b = units-two (take n us) n size-first a b ∙ rw (front 8 0 (omega arith), front 8 (n - 4) (omega arith))
+
+  pub units-four-first : 8 < n → n ≤ 16
+      → city_hash64 (unit_bytes (take n us))
+      ≡ hash_four (2 * n) (le_at 8 (unit_bytes us) 0) (le_at 8 (unit_bytes us) 8) (le_at 8 (unit_bytes us) (2 * (n - 4))) (le_at 8 (unit_bytes us) (2 * (n - 8)))
+  units-four-first a b =
+      units-four (take n us) n size-first a b
+      ∙ rw (front 8 0 (omega arith), front 8 4 (omega arith), front 8 (n - 4) (omega arith), front 8 (n - 8) (omega arith))
 
 -- ---- bytes lowered one by one
 

@@ -1,6 +1,6 @@
 -- Lemmas for wide text lowered by script: that its units are those of the lowered text where they pass the test of the script. Assumes nothing.
 use mathlib.Core.Path.{◌≡◌, refl, sym, ◌∙◌, ap}
-use mathlib.Core.Bool.{Bool, true, false, cond, and-eq-true_iff}
+use mathlib.Core.Bool.{Bool, true, false, cond, ◌&&◌, and-eq-true_iff, and-true, and_assoc}
 use mathlib.Core.List.{List, [], ◌∷◌, ◌++◌, map}
 use mathlib.Core.Logic.{inr, by_cases}
 use Prim.Native.Nat.{ℕ, zero, suc, ◌+◌, ◌*◌, ◌≤◌, ◌<◌}
@@ -67,6 +67,11 @@ each t [] i h e = absurd (omega arith)
 each t (u ∷ us) zero h e = ((and-eq-true_iff (t u) (all_are t us)).0 e).0
 each t (u ∷ us) (suc i) h e = each t us i (omega arith) ((and-eq-true_iff (t u) (all_are t us)).0 e).1
 
+-- of one unit more
+last : (t : ℕ → Bool) (us : List ℕ) (u : ℕ) → all_are t (us ++ u ∷ []) ≡ (all_are t us && t u)
+last t [] u = and-true (t u)
+last t (v ∷ us) u = rw (last t us u) (sym (and_assoc (t v) (all_are t us) (t u)))
+
 -- ---- the bits of units
 
 pub bits-last : (b : ℕ) (us : List ℕ) (u : ℕ) → bits_from b (us ++ u ∷ []) ≡ bit_or (bits_from b us) u
@@ -90,6 +95,9 @@ module _ (us : List ℕ) (from i : ℕ) (h : from + i < length us) where
   more =
       let k : i < length (drop from us) = simp length-drop (omega arith) in
       rw (add-one i, take-suc (drop from us) i 0 k, get_or-drop from us i 0)
+
+  pub are-next : (t : ℕ → Bool) (all : Bool) → all ≡ all_are t (take i (drop from us)) → (all && t (get_or us (from + i) 0)) ≡ all_are t (take (i + 1) (drop from us))
+  are-next t all e = rw (more, last t (take i (drop from us)) (get_or us (from + i) 0), e)
 
   pub bits-next : (bits : ℕ) → bits ≡ bits_from 0 (take i (drop from us)) → bit_or bits (get_or us (from + i) 0) ≡ bits_from 0 (take (i + 1) (drop from us))
   bits-next bits e = rw (more, bits-last 0 (take i (drop from us)) (get_or us (from + i) 0), e)
@@ -125,6 +133,17 @@ module _ {t : ℕ → Bool} {f : ℕ → ℕ} (s : LowersBy t f) where
         → Wrote s x q (2 * n) → Wrote q (unit_bytes (take m (drop from (map f (units_of true part))))) o (2 * m)
         → (m ≤ n) × (take (2 * m) o ≡ unit_bytes (take m (drop from (encode16 (lowered (base true part)))))) × Wrote s (take (2 * n) o) o (2 * n)
     turned from m h a v u = (h, wrote-taken u ∙ ap unit_bytes (window from m (sym a)), wrote-within v u (omega arith))
+
+    -- the same whatever the test says: else none counts
+    pub turned-any : (from m n : ℕ) {all : Bool} {r : ℕ} {s x q o : List ℕ} → m ≤ n → all ≡ all_are t (take m (drop from (units_of true part))) → r ≡ cond all m 0
+        → Wrote s x q (2 * n) → Wrote q (unit_bytes (take m (drop from (map f (units_of true part))))) o (2 * m)
+        → (r ≤ n) × (take (2 * r) o ≡ unit_bytes (take r (drop from (encode16 (lowered (base true part)))))) × Wrote s (take (2 * n) o) o (2 * n)
+    turned-any from m n {all} {r} {s} {x} {q} {o} h a e v u = go all a e
+      where
+        go : (b : Bool) → b ≡ all_are t (take m (drop from (units_of true part))) → r ≡ cond b m 0
+            → (r ≤ n) × (take (2 * r) o ≡ unit_bytes (take r (drop from (encode16 (lowered (base true part)))))) × Wrote s (take (2 * n) o) o (2 * n)
+        go true d z = rw z (turned from m h d v u)
+        go false d z = (omega arith, rw z, wrote-within v u (omega arith))
 
 -- units whose bits are those of ASCII
 pub ascii-taken : (part : List ℕ) (b : Bytes part) (w : is_well (decoded true part) ≡ true) (from n : ℕ) {r : ℕ} {s o : List ℕ} {k : ℕ}

@@ -100,6 +100,16 @@ fn word<U: Units>(name: U, i: usize) -> u64
     u64::from(pair(name, i)) + (u64::from(pair(name, i + 2)) << 32)
 }
 
+// The same in an array of any length.
+pub fn word_in(units: &[u32], i: usize) -> u64
+    requires { (i + 4 ≤ length units.now) × Words units.now }
+    ensures { result ≡ le_at 8 (unit_bytes units.now) (2 * i) }
+{
+    let low = units[i] + (units[i + 1] << 16);
+    let high = units[i + 2] + (units[i + 3] << 16);
+    u64::from(low) + (u64::from(high) << 32)
+}
+
 // CityHash64 of up to three units.
 fn tiny_hash<U: Units>(name: U) -> u64
     requires { length (U.units name) < 4 }

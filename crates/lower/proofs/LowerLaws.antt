@@ -1,12 +1,12 @@
 -- Laws of lowering. Assumes nothing.
-use Rattle.std.specs.Prelude.{◌≡◌, refl, Bool, true, false, not, ◌&&◌, ◌||◌, List, [], ◌∷◌, ◌⊎◌, ℕ, ◌-◌, ◌/◌, ◌≤◌, ◌<◌, eqb, leb, ltb, length}
-use Rattle.std.proofs.Common.{sym, ap, inl, inr, arith, lt-ltb, le-ltb, ltb-true, leb-true, eqb-true, eq-eqb, ne_eqb}
+use Rattle.std.specs.Prelude.{◌≡◌, refl, Bool, true, false, not, ◌&&◌, ◌||◌, List, [], ◌∷◌, ◌⊎◌, ℕ, ◌*◌, ◌-◌, ◌/◌, ◌≤◌, ◌<◌, eqb, leb, ltb, length}
+use Rattle.std.proofs.Common.{sym, ap, ◌∙◌, inl, inr, arith, lt-ltb, le-ltb, ltb-true, leb-true, eqb-true, eq-eqb, ne_eqb}
 use Rattle.std.proofs.Math.Bool.{and-eq-true_iff}
 use Rattle.std.proofs.Math.Logic.{by_cases}
 use Rattle.std.proofs.Math.Decide.{dec_lt}
 use Rattle.lower.specs.Table.{pairs}
-use Rattle.lower.specs.Lower.{second_of, lower}
-use Rattle.lower.specs.SearchLaws.{second-every}
+use Rattle.lower.specs.Lower.{second_of, lower, flat}
+use Rattle.lower.specs.SearchLaws.{second-every, flat-length}
 use Rattle.lower.specs.TableLaws.{count, no_first, is_first, no_second-first, alike, pairs-alike}
 pub use Rattle.lower.specs.LowerLaws.{Alike}
 
@@ -17,6 +17,10 @@ lower-is c = refl
 -- the table as the code has it
 pub table-length : length pairs ≡ 1487
 table-length = count
+
+-- the same laid flat
+pub flat-table-length : length (flat pairs) ≡ 2974
+flat-table-length = flat-length pairs ∙ ap (λ (n : ℕ). 2 * n) table-length
 
 -- ---- once is enough
 

@@ -16,3 +16,8 @@ lower c = second_of c pairs
 abbrev pub lowered : List ℕ → List ℕ
 lowered [] = []
 lowered (c ∷ t) = lower c ∷ lowered t
+
+-- pairs laid flat: first, second, first, second, ..
+unfoldable pub flat : List (ℕ × ℕ) → List ℕ
+flat [] = []
+flat (p ∷ ps) = p.0 ∷ p.1 ∷ flat ps

@@ -1,10 +1,10 @@
 -- Laws of the search for a pair, in any list of pairs that rises. Assumes nothing.
-use Rattle.std.specs.Prelude.{◌≡◌, refl, Bool, true, ◌&&◌, List, [], ◌∷◌, ◌⊎◌, ℕ, zero, suc, ◌<◌, ltb, length, get_or}
+use Rattle.std.specs.Prelude.{◌≡◌, refl, Bool, true, ◌&&◌, List, [], ◌∷◌, ◌⊎◌, ℕ, zero, suc, ◌+◌, ◌*◌, ◌<◌, ltb, length, get_or}
 use Rattle.std.proofs.Common.{inl, inr, arith, lt-ltb, le-ltb, ltb-true}
 use Rattle.std.proofs.Math.Bool.{and-eq-true_iff}
 use Rattle.std.proofs.Math.Logic.{by_cases}
 use Rattle.std.proofs.Math.Decide.{dec_lt}
-use Rattle.lower.specs.Lower.{second_of}
+use Rattle.lower.specs.Lower.{second_of, flat}
 
 -- ---- tests over a whole list
 
@@ -37,6 +37,36 @@ first_at ps i = (get_or ps i (0, 0)).0
 
 abbrev pub second_at : List (ℕ × ℕ) → ℕ → ℕ
 second_at ps i = (get_or ps i (0, 0)).1
+
+pub flat-length : (ps : List (ℕ × ℕ)) → length (flat ps) ≡ 2 * length ps
+unfolding flat
+flat-length [] = refl
+flat-length (p ∷ ps) = let e = flat-length ps in omega arith
+
+twice : (i : ℕ) → 2 * suc i ≡ suc (suc (2 * i))
+twice i = omega arith
+
+twice-one : (i : ℕ) → 2 * suc i + 1 ≡ suc (suc (2 * i + 1))
+twice-one i = omega arith
+
+first_next : (p : ℕ × ℕ) (ps : List (ℕ × ℕ)) (i : ℕ) → first_at (p ∷ ps) (suc i) ≡ first_at ps i
+first_next p ps i = refl
+
+second-next : (p : ℕ × ℕ) (ps : List (ℕ × ℕ)) (i : ℕ) → second_at (p ∷ ps) (suc i) ≡ second_at ps i
+second-next p ps i = refl
+
+-- the same by their places in the flat list
+pub first-flat : (ps : List (ℕ × ℕ)) (i : ℕ) → get_or (flat ps) (2 * i) 0 ≡ first_at ps i
+unfolding flat
+first-flat [] i = refl
+first-flat (p ∷ ps) zero = refl
+first-flat (p ∷ ps) (suc i) = rw (twice i, first_next p ps i) (first-flat ps i)
+
+pub second-flat : (ps : List (ℕ × ℕ)) (i : ℕ) → get_or (flat ps) (2 * i + 1) 0 ≡ second_at ps i
+unfolding flat
+second-flat [] i = refl
+second-flat (p ∷ ps) zero = refl
+second-flat (p ∷ ps) (suc i) = rw (twice-one i, second-next p ps i) (second-flat ps i)
 
 -- each first is above what the list is above
 pub first_above : (a : ℕ) (ps : List (ℕ × ℕ)) → rising a ps ≡ true → (i : ℕ) → i < length ps → a < first_at ps i

@@ -36,7 +36,7 @@ impl<'a> Block<'a> {
             place: self.place_from(e.index, own),
             number: e.number,
         };
-        // Kept: a match: of what the closure of `local(e.outer).map(|k| { .. })` returns the check knew nothing, as in `Package::row`.
+        // Kept: a match: of what the closure of `local(e.outer).map(|k| { .. })` returns the check knew nothing, as in `row_noted`.
         let above = match self.parts.local(e.outer) {
             Some(k) => {
                 let u = self.export(k);

@@ -13,6 +13,7 @@ ghost use Rattle.packages.specs.Meaning.{keyed, words_of};
 use super::block::{Block, Package};
 use super::package::ClassKind;
 use base::index::{import_hash, import_name};
+use batch::notes::NotedNames;
 use batch::places::{Name, Place};
 use batch::reader::u30_le;
 use zen::id::place_id;
@@ -64,6 +65,80 @@ impl<'a> Block<'a> {
     {
         base::number::le32(self.bytes, self.parts.imported.end + 4 * i)
     }
+
+    // Kept: a block and one list of its names, noted, are two parameters, and that they are of that block is a `requires`, here and in rows.rt: a struct of
+    // both would be made anew for each call of `Package`, which has its block beside both lists, as `Own { block: &self.block, names: &self.names }.name(i)`.
+
+    // Where name i is, by the noted names.
+    pub fn name_noted(&self, names: &NotedNames, i: usize) -> Place
+        requires { (names.now.block.now ≡ self.now.bytes.now) × (names.now.names ≡ self.now.parts.names) × (i < self.now.parts.names.count) }
+        ensures { (result ≡ place_at self.now.bytes.now self.now.parts.names i)
+            × Holds self.now.bytes.now result (get_or (read_in self.now.bytes.now).names i []) }
+    {
+        names.place(i)
+    }
+
+    // Imported name i, by the noted imported ones.
+    pub fn imported_noted(&self, imported: &NotedNames, i: usize) -> Name
+        requires { (imported.now.block.now ≡ self.now.bytes.now) × (imported.now.names ≡ self.now.parts.imported)
+            × (i < self.now.parts.imported.count) }
+        ensures { (result.place ≡ place_at self.now.bytes.now self.now.parts.imported i)
+            × Holds self.now.bytes.now result.place (get_or (read_in self.now.bytes.now).imported i [])
+            × (result.number ≡ get_or (read_in self.now.bytes.now).numbers i 0) }
+    {
+        Name {
+            place: imported.place(i),
+            number: self.imported_number(i),
+        }
+    }
+
+    // The name of an export, by the noted names.
+    pub fn name_of_noted(&self, names: &NotedNames, e: Export) -> Name
+        requires { (names.now.block.now ≡ self.now.bytes.now) × (names.now.names ≡ self.now.parts.names) × (e.index < self.now.parts.names.count) }
+        ensures { (result ≡ name_in self.now.bytes.now self.now.parts e)
+            × Holds self.now.bytes.now result.place (get_or (read_in self.now.bytes.now).names e.index []) }
+    {
+        Name {
+            place: self.name_noted(names, e.index),
+            number: e.number,
+        }
+    }
+
+    // The key that a package import means.
+    fn import_key(&self, imported: &NotedNames, index: u64) -> Words
+        requires { (imported.now.block.now ≡ self.now.bytes.now) × (imported.now.names ≡ self.now.parts.imported)
+            × (import_name index < self.now.parts.imported.count) × (import_hash index < self.now.parts.publics) }
+        ensures { result ≡ keyed (id_of (imported_name (read_in self.now.bytes.now) (import_name index)))
+            (get_or (read_in self.now.bytes.now).hashes (import_hash index) 0) }
+    {
+        let i = import_name(index) as usize;
+        let id = place_id(self.bytes, self.imported_noted(imported, i));
+        keyed(id, self.hash(import_hash(index) as usize))
+    }
+
+    // What an index means in the package, whose id is `id`, by the noted imported names.
+    pub fn meaning_noted(&self, imported: &NotedNames, id: u64, index: u64) -> Words
+        requires { (imported.now.block.now ≡ self.now.bytes.now) × (imported.now.names ≡ self.now.parts.imported) }
+        ensures { result ≡ words_of (ref_in (package_in id self.now.bytes.now) index) }
+    {
+        match self.parts.kind_of(index) {
+            ClassKind::Script => Words { lo: index, hi: 0 },
+            ClassKind::Export => keyed(id, self.export(index as usize).hash),
+            ClassKind::Import => self.import_key(imported, index),
+            ClassKind::Null | ClassKind::Bad => Words { lo: 0, hi: 0 },
+        }
+    }
+
+    // Where the package's name is, by the noted names, and its number.
+    pub fn home_noted(&self, names: &NotedNames) -> Name
+        requires { (names.now.block.now ≡ self.now.bytes.now) × (names.now.names ≡ self.now.parts.names) }
+        ensures { result ≡ home_in self.now.bytes.now self.now.parts }
+    {
+        Name {
+            place: names.place(u30_le(self.bytes, 8)),
+            number: base::number::le32(self.bytes, 12),
+        }
+    }
 }
 
 impl<'a> Package<'a> {
@@ -73,7 +148,7 @@ impl<'a> Package<'a> {
         ensures { (result ≡ place_at self.now.block.bytes.now self.now.block.parts.names i)
             × Holds self.now.block.bytes.now result (get_or (read_in self.now.block.bytes.now).names i []) }
     {
-        self.names.place(i)
+        self.block.name_noted(&self.names, i)
     }
 
     // Imported name i.
@@ -83,10 +158,7 @@ impl<'a> Package<'a> {
             × Holds self.now.block.bytes.now result.place (get_or (read_in self.now.block.bytes.now).imported i [])
             × (result.number ≡ get_or (read_in self.now.block.bytes.now).numbers i 0) }
     {
-        Name {
-            place: self.imported.place(i),
-            number: self.block.imported_number(i),
-        }
+        self.block.imported_noted(&self.imported, i)
     }
 
     // The name of an export.
@@ -95,42 +167,20 @@ impl<'a> Package<'a> {
         ensures { (result ≡ name_in self.now.block.bytes.now self.now.block.parts e)
             × Holds self.now.block.bytes.now result.place (get_or (read_in self.now.block.bytes.now).names e.index []) }
     {
-        Name {
-            place: self.name(e.index),
-            number: e.number,
-        }
-    }
-
-    // The key that a package import means.
-    fn import_key(&self, index: u64) -> Words
-        requires { (import_name index < self.now.block.parts.imported.count) × (import_hash index < self.now.block.parts.publics) }
-        ensures { result ≡ keyed (id_of (imported_name (read_in self.now.block.bytes.now) (import_name index)))
-            (get_or (read_in self.now.block.bytes.now).hashes (import_hash index) 0) }
-    {
-        let i = import_name(index) as usize;
-        let id = place_id(self.block.bytes, self.imported_name(i));
-        keyed(id, self.block.hash(import_hash(index) as usize))
+        self.block.name_of_noted(&self.names, e)
     }
 
     // What an index means in the package, whose id is `id`.
     pub fn meaning(&self, id: u64, index: u64) -> Words
         ensures { result ≡ words_of (ref_in (package_in id self.now.block.bytes.now) index) }
     {
-        match self.block.parts.kind_of(index) {
-            ClassKind::Script => Words { lo: index, hi: 0 },
-            ClassKind::Export => keyed(id, self.block.export(index as usize).hash),
-            ClassKind::Import => self.import_key(index),
-            ClassKind::Null | ClassKind::Bad => Words { lo: 0, hi: 0 },
-        }
+        self.block.meaning_noted(&self.imported, id, index)
     }
 
     // Where the package's name is, and its number.
     pub fn home(&self) -> Name
         ensures { result ≡ home_in self.now.block.bytes.now self.now.block.parts }
     {
-        Name {
-            place: self.names.place(u30_le(self.block.bytes, 8)),
-            number: base::number::le32(self.block.bytes, 12),
-        }
+        self.block.home_noted(&self.names)
     }
 }

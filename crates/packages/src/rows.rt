@@ -9,8 +9,9 @@ ghost use Rattle.packages.specs.Kinds.{candidate_number, candidate_of, is_variab
 ghost use Rattle.packages.specs.Package.{read_in};
 ghost use Rattle.packages.specs.Row.{export_no, row_in, instance_place, outer_at, names_at, names_size, RowHolds};
 
-use super::block::Package;
+use super::block::{Block, Package};
 use base::output::put_be32;
+use batch::notes::NotedNames;
 use batch::places::Name;
 use batch::texts::{place_ends_with, place_len, place_starts_with, place_without, put_place_text};
 
@@ -62,34 +63,38 @@ impl Row {
     }
 }
 
-impl<'a> Package<'a> {
-    // The kind of candidate that export i is, if it is one.
-    pub fn candidate(&self, i: usize) -> Option<Candidate>
-        requires { i < self.now.block.parts.count }
-        ensures { candidate_number result ≡ candidate_kind (read_in self.now.block.bytes.now) (export_no self.now.block.bytes.now i) }
+impl<'a> Block<'a> {
+    // The kind of candidate that export i is, if it is one, by the noted names.
+    pub fn candidate_noted(&self, names: &NotedNames, i: usize) -> Option<Candidate>
+        requires { (names.now.block.now ≡ self.now.bytes.now) × (names.now.names ≡ self.now.parts.names) × (i < self.now.parts.count) }
+        ensures { candidate_number result ≡ candidate_kind (read_in self.now.bytes.now) (export_no self.now.bytes.now i) }
     {
-        let e = self.block.export(i);
-        if place_ends_with(self.block.bytes, self.name(e.index), b"_GEN_VARIABLE") {
+        let e = self.export(i);
+        if place_ends_with(
+            self.bytes,
+            self.name_noted(names, e.index),
+            b"_GEN_VARIABLE",
+        ) {
             return Some(Candidate::Variable);
         }
-        let u = self.block.export(self.block.parts.local(e.outer)?);
-        if place_starts_with(self.block.bytes, self.name(u.index), b"Default__") {
+        let u = self.export(self.parts.local(e.outer)?);
+        if place_starts_with(self.bytes, self.name_noted(names, u.index), b"Default__") {
             return Some(Candidate::Subobject);
         }
         None
     }
 
-    // Export i as a candidate of a kind.
-    pub fn row(&self, i: usize, kind: Option<Candidate>) -> Row
-        requires { i < self.now.block.parts.count }
-        ensures { result ≡ row_in self.now.block.bytes.now self.now.block.parts kind i }
+    // Export i as a candidate of a kind, by the noted names.
+    pub fn row_noted(&self, names: &NotedNames, i: usize, kind: Option<Candidate>) -> Row
+        requires { (names.now.block.now ≡ self.now.bytes.now) × (names.now.names ≡ self.now.parts.names) × (i < self.now.parts.count) }
+        ensures { result ≡ row_in self.now.bytes.now self.now.parts kind i }
     {
-        let e = self.block.export(i);
-        let own = self.name_of(e);
-        // Kept: a match: of what the closure of `local(e.outer).map(|k| self.name_of(self.block.export(k)))` returns the check knew nothing, so that it
-        // found no proof that the row is `row_in b p kind i`.
-        let outer = match self.block.parts.local(e.outer) {
-            Some(k) => Some(self.name_of(self.block.export(k))),
+        let e = self.export(i);
+        let own = self.name_of_noted(names, e);
+        // Kept: a match: of what the closure of `local(e.outer).map(|k| self.name_of_noted(names, self.export(k)))` returns the check knew nothing, so
+        // that it found no proof that the row is `row_in b p kind i`.
+        let outer = match self.parts.local(e.outer) {
+            Some(k) => Some(self.name_of_noted(names, self.export(k))),
             None => None,
         };
         Row {
@@ -98,6 +103,24 @@ impl<'a> Package<'a> {
             outer,
             class: e.class,
         }
+    }
+}
+
+impl<'a> Package<'a> {
+    // The kind of candidate that export i is, if it is one.
+    pub fn candidate(&self, i: usize) -> Option<Candidate>
+        requires { i < self.now.block.parts.count }
+        ensures { candidate_number result ≡ candidate_kind (read_in self.now.block.bytes.now) (export_no self.now.block.bytes.now i) }
+    {
+        self.block.candidate_noted(&self.names, i)
+    }
+
+    // Export i as a candidate of a kind.
+    pub fn row(&self, i: usize, kind: Option<Candidate>) -> Row
+        requires { i < self.now.block.parts.count }
+        ensures { result ≡ row_in self.now.block.bytes.now self.now.block.parts kind i }
+    {
+        self.block.row_noted(&self.names, i, kind)
     }
 }
 

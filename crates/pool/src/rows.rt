@@ -10,12 +10,12 @@ ghost use Rattle.pool.specs.Pool.{Stood, Left, State, Before, noted, TextPut, Te
 
 use super::compose::{compose, compose_class};
 use base::number::le32_usize;
-use base::output::put_bytes;
 use objects::object::Object;
 use resolve::limits::Limits;
 use resolve::rows::{led_at, object_in, row_at};
 use table::entries::clear;
 use table::words::set32;
+use text::plain::put_plain;
 
 // How many slots there are: one for each row, but not more than twice as many as script objects and classes, and one.
 fn slots_of(n: usize, rows: usize) -> usize
@@ -136,6 +136,8 @@ fn compose_both(
 }
 
 // The texts of the class and of the object u from a place on, where they are short and stand before the rows: how many bytes. Else nothing is written.
+// Kept: `put_plain`, whether or not they are ASCII: of what is written out here the compiler sees that `texts` lies apart, and makes of its loops calls of the
+// C library's memcpy, which an archive for C would need from outside.
 fn put_texts(p: &Pooling, w: &mut [u8], free: usize, class: usize, u: Object) -> Option<usize>
     requires { Classed p.now.corpus.now p.now.n p.now.classes w.old × (class ≤ p.now.classes)
         × ((u.outer ≡ 0 → ⊥) → Stood p.now.block.now (take (56 * p.now.n) w.old) u) × (56 * p.now.n ≤ free) × (free + 32 * p.now.rows ≤ length w.old) }
@@ -147,7 +149,7 @@ fn put_texts(p: &Pooling, w: &mut [u8], free: usize, class: usize, u: Object) ->
     if room < k || free > u32::MAX as usize {
         return None;
     }
-    put_bytes(&mut w[free..], &texts[..k]);
+    put_plain(&mut w[free..], &texts[..k]);
     Some(k)
 }
 

@@ -47,7 +47,8 @@ pub struct Told {
     pub differ: u64,
 }
 
-// Replays a list, with as much of the work buffer as each case wants. A case that is cut short differs, and there are none behind it.
+// Replays a list, with as much of the work buffer as each case wants. A case that is cut short before its report differs, one whose report is cut short is
+// replayed against an empty report, and there are none behind either.
 pub fn replay(rt: &HostRuntime, list: &[u8], work: &mut [u8]) -> io::Result<Told> {
     let mut differ: u64 = 0;
     if list.len() < 4 {

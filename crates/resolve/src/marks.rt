@@ -36,9 +36,16 @@ pub fn mark_at(w: &[u8], r: usize) -> usize
     le32_usize(w, row_at(w, r) + 28)
 }
 
+// The kind that a mark tells, as a number.
+pub fn kind_in(mark: usize) -> u8
+    ensures { result ≡ mark % 4 }
+{
+    (mark % 4) as u8
+}
+
 // The kind of candidate that a mark tells.
 pub fn candidate_in(mark: usize) -> Option<Candidate>
     ensures { result ≡ candidate_of (mark % 4) }
 {
-    Candidate::of(mark % 4)
+    Candidate::of(usize::from(kind_in(mark)))
 }

@@ -4,7 +4,7 @@ ghost use Rattle.text.specs.Affix.{ends_with};
 ghost use Rattle.base.specs.Reading.{gives, run};
 ghost use Rattle.scriptblock.specs.Script.{Objects, script, object_name};
 ghost use Rattle.scriptblock.specs.ScriptAnswers.{no_entry};
-ghost use Rattle.meaning.specs.ClassTest.{is_known};
+ghost use Rattle.meaning.specs.ClassTest.{is_known, names_class};
 ghost use Rattle.meaning.specs.Path.{path_of};
 ghost use Rattle.meaning.specs.Scan.{class_end, is_class};
 
@@ -44,7 +44,19 @@ impl<'a> Script<'a> {
         place_ends_with(self.block.bytes, self.names.place(e.index), b"Class")
     }
 
-    // Whether an export is a class.
+    // Whether the path of the object with a global index is known and names a class.
+    fn names_class(&self, index: u64) -> bool
+        ensures { (o : Objects) → run script 0 self.now.block.bytes.now ≡ gives o → result ≡ names_class (path_of self.now.limit o index) }
+    {
+        let Some(k) = self.block.find(index) else {
+            return false;
+        };
+        self.ends_in_class(k) && self.known(index)
+    }
+
+    // Whether an export is a class. Written out where it is called: else each export is put into memory for the call, whatever its hash, and question 24 takes
+    // three times as long.
+    #[inline(always)]
     pub fn is_class(&self, e: Export) -> bool
         ensures { (o : Objects) → run script 0 self.now.block.bytes.now ≡ gives o → result ≡ is_class self.now.limit o e }
     {
@@ -57,9 +69,6 @@ impl<'a> Script<'a> {
         if let Kind::Null = index_kind(e.parent) {
             return false;
         }
-        let Some(k) = self.block.find(e.class) else {
-            return false;
-        };
-        self.ends_in_class(k) && self.known(e.class)
+        self.names_class(e.class)
     }
 }

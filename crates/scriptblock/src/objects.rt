@@ -2,6 +2,7 @@
 ghost use Rattle.std.specs.Prelude.{◌≡◌};
 ghost use Rattle.base.specs.OneMore.{one_more};
 ghost use Rattle.base.specs.Reading.{run};
+ghost use Rattle.batch.specs.Notes.{Noted};
 ghost use Rattle.scriptblock.specs.Script.{script};
 ghost use Rattle.scriptblock.specs.ScriptAnswers.{entries_of};
 ghost use Rattle.scriptblock.specs.Objects.{entry_number};
@@ -17,6 +18,13 @@ impl<'a> ScriptBlock<'a> {
     {
         (0..self.layout.count).find(|i| le64(self.bytes, self.layout.entries + 32 * *i + 8)
             == global)
+    }
+
+    // Notes where its names start, for who keeps the notes.
+    pub fn note_object_names(&self, notes: &mut Notes)
+        ensures { Noted self.now.bytes.now self.now.layout.names notes.new.starts }
+    {
+        notes.note(self.bytes, self.layout.names);
     }
 
     // Its names, noted in the room that is lent: an object's is that of its entry's index.

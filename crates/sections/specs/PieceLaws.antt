@@ -91,6 +91,14 @@ front-size v kind t = simp length-append (omega (arith, length-be_bytes 4 (6 + t
 
 -- what a candidate's row says of its export
 module _ (b : List ℕ) (p : Parts) (k : Maybe Candidate) (i : ℕ) where
+  row-kind : (row_in b p k i).kind ≡ k
+  unfolding row_in
+  row-kind = go (outer_of (read_in b) (export_no b i))
+    where
+      go : (u : Option Export) → (row_with b p k (export_no b i) u).kind ≡ k
+      go none = refl
+      go (some u) = refl
+
   row_number : (row_in b p k i).own.number ≡ (export_no b i).number
   unfolding row_in
   row_number = go (outer_of (read_in b) (export_no b i))

@@ -28,7 +28,7 @@ use Rattle.objects.specs.declared.object.Object.{Object}
 use Rattle.objects.specs.declared.path.Path.{Path as Told}
 use Rattle.table.specs.Words.{mid}
 use Rattle.table.specs.WordLaws.{mid-length}
-use Rattle.pool.specs.Pool.{class_front, TextsOf}
+use Rattle.pool.specs.Pool.{class_front, TextsOf, TextAt}
 use Rattle.resolve.specs.Classes.{class_no}
 use Rattle.resolve.specs.Lent.{lent-part, lent_length}
 use Rattle.resolve.specs.Rows.{object_number, columns_of, path_by, limits_of}
@@ -223,8 +223,11 @@ module _ {c b : List ℕ} {o : Objects} {n : ℕ} {xs : List Class} {lookups obj
 
 module _ {c b : List ℕ} {o : Objects} {n : ℕ} {xs : List Class} {lookups objects : ℕ} {w : List ℕ} {r : Ref} {l : Led} (t : Target c b o n xs lookups objects w r l)
     (z : l.size ≡ 0 → ⊥) where
+  text_at_lem : TextAt c b n (length xs) objects 0 (length w) w l.class l.object l.text l.size
+  text_at_lem = t.text.kept z
+
   pub kept-inside : l.text + l.size ≤ length w
-  kept-inside = (t.text.kept z).before
+  kept-inside = text_at_lem.before
 
   kept-length : length (mid l.text l.size w) ≡ l.size
   kept-length = mid-length l.text l.size w kept-inside
@@ -233,7 +236,7 @@ module _ {c b : List ℕ} {o : Objects} {n : ℕ} {xs : List Class} {lookups obj
   module _ (y : l.object.outer ≡ 0 → ⊥) where
     texts_of_lem : TextsOf xs l.class (path_no objects o (native-some t y).0) (mid l.text l.size w)
     texts_of_lem =
-        (t.text.kept z).is.both y o (native-some t y).0 xs (record { stands = (native-some t y).2; holds = t.tables.classes; count = refl })
+        text_at_lem.is.both y o (native-some t y).0 xs (record { stands = (native-some t y).2; holds = t.tables.classes; count = refl })
 
     native-is : native_text (limits_of lookups objects) xs o r ≡ some texts_of_lem.path.text
     native-is = (native-some t y).1 ∙ ap path_text texts_of_lem.known
@@ -243,7 +246,7 @@ module _ {c b : List ℕ} {o : Objects} {n : ℕ} {xs : List Class} {lookups obj
 
   -- without one: the class's alone
   class-alone : l.object.outer ≡ 0 → mid l.text l.size w ≡ class_front xs l.class
-  class-alone e = (t.text.kept z).is.alone e xs t.tables.classes refl
+  class-alone e = text_at_lem.is.alone e xs t.tables.classes refl
 
   -- without a class of the table there is an object
   module _ (q : l.class ≡ 0) where

@@ -11,7 +11,7 @@ use lib.ListN.{length}
 use Rattle.base.specs.Number.{le_at}
 use Rattle.table.specs.Entries.{key_is}
 use Rattle.table.specs.Tree.{turn, Place, head, below, bucket, stops, walk, spot, At}
-use Rattle.table.specs.TreeLaws.{at_in, stops-none, walk-stop, walk_turn, at-start, at-few, at_next, at-full}
+use Rattle.table.specs.TreeLaws.{bucket-lt, at_in, stops-none, walk-stop, walk_turn, at-start, at-few, at_next, at-full}
 use Rattle.table.specs.Table.{record_at, place_at, link_at, Holds, Ended}
 use Rattle.table.specs.TableLaws.{record_next, place-before}
 
@@ -31,6 +31,10 @@ module _ {n stride k : ℕ} {lo hi : ℕ → ℕ} {w : List ℕ} (t : Holds n st
         at = e;
         same = refl;
       }
+
+  -- the head can be read
+  pub head-room : (r : ℕ) → 0 < n → r ≡ bucket n a b → 4 * r + 4 ≤ length w
+  head-room r h e = let o = t.room in omega (arith, bucket-lt n a b h)
 
   module _ {place d : ℕ} (s : Search n stride k lo hi w t a b place d) where
     -- the link there can be read

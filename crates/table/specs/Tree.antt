@@ -1,6 +1,6 @@
 -- A bucket of the table is a digital search tree: its entries are the nodes, and a search goes left or right by the next bit of its
 -- key, so that none takes more than 128 turns, whatever the keys. Assumes nothing.
-use Rattle.std.specs.Prelude.{◌≡◌, Bool, true, cond, ℕ, zero, suc, ◌+◌, ◌-◌, ◌*◌, ◌/◌, ◌%◌, ◌^◌, ◌≤◌, ◌<◌, ltb}
+use Rattle.std.specs.Prelude.{◌≡◌, Bool, true, cond, ℕ, zero, suc, ◌+◌, ◌-◌, ◌*◌, ◌/◌, ◌%◌, ◌^◌, ◌≤◌, ◌<◌, eqb, ltb}
 use Rattle.std.specs.Int.Bits.{bit_xor}
 use Rattle.city.specs.Word.{mulw}
 use Rattle.table.specs.Entries.{key_is}
@@ -16,6 +16,10 @@ halved (suc d) u = halved d u / 2
 unfoldable pub rest : ℕ → ℕ → ℕ → ℕ
 unfolding halved
 rest d a b = cond (ltb d 64) (halved d b) (halved (d - 64) a)
+
+-- the same from what was left a turn before
+unfoldable pub next_rest : ℕ → ℕ → ℕ → ℕ
+next_rest x d a = cond (eqb d 64) a (x / 2)
 
 -- the side to go to after d turns: 0 left, 1 right
 unfoldable pub turn : ℕ → ℕ → ℕ → ℕ

@@ -1,10 +1,34 @@
 -- Laws of turns: what is left of a key, and that 128 turns tell two keys apart. Assumes nothing.
-use Rattle.std.specs.Prelude.{◌≡◌, ℕ, zero, suc, ◌+◌, ◌-◌, ◌*◌, ◌/◌, ◌%◌, ◌^◌, ◌≤◌, ◌<◌}
-use Rattle.std.proofs.Common.{sym, ◌∙◌, pow-suc, div-one, mul_comm, mod-lt, zero-lt-suc, arith, lt-ltb, le-ltb}
+use Rattle.std.specs.Prelude.{◌≡◌, refl, cond, ◌⊎◌, ℕ, zero, suc, ◌+◌, ◌-◌, ◌*◌, ◌/◌, ◌%◌, ◌^◌, ◌≤◌, ◌<◌, eqb, ltb}
+use Rattle.std.proofs.Common.{sym, ◌∙◌, inl, inr, pow-suc, div-one, mul_comm, mod-lt, zero-lt-suc, add-one, arith, lt-ltb, le-ltb, eq-eqb, ne_eqb}
 use Rattle.std.proofs.Math.Logic.{by_cases}
 use Rattle.std.proofs.Math.Nat.{div-div-eq-div-mul}
 use Rattle.std.proofs.Math.Decide.{ℕ_discrete}
-use Rattle.table.specs.Tree.{halved, rest, turn, Agree}
+use Rattle.base.specs.Choose.{lt_or_le}
+use Rattle.table.specs.Tree.{halved, rest, next_rest, turn, Agree}
+
+pub rest-first : (a b : ℕ) → rest 0 a b ≡ b
+unfolding rest halved
+rest-first a b = refl
+
+pub rest-next : (d a b : ℕ) → next_rest (rest d a b) (d + 1) a ≡ rest (d + 1) a b
+unfolding rest halved next_rest
+rest-next d a b = go (lt_or_le d 63) (lt_or_le d 64)
+  where
+    go : (d < 63) ⊎ (63 ≤ d) → (d < 64) ⊎ (64 ≤ d) → cond (eqb (d + 1) 64) a (cond (ltb d 64) (halved d b) (halved (d - 64) a) / 2)
+        ≡ cond (ltb (d + 1) 64) (halved (d + 1) b) (halved (d + 1 - 64) a)
+    go (inl h) _ = rw (ne_eqb (d + 1) 64 (λ e. omega arith), lt-ltb d 64 (omega arith), lt-ltb (d + 1) 64 (omega arith), add-one d)
+    go (inr h) (inl k) =
+        let e : d + 1 ≡ 64 = omega arith in
+        let z : d + 1 - 64 ≡ 0 = omega arith in
+        rw (eq-eqb (d + 1) 64 e, le-ltb (d + 1) 64 (omega arith), z)
+    go (inr h) (inr k) =
+        let s : d + 1 - 64 ≡ suc (d - 64) = omega arith in
+        rw (ne_eqb (d + 1) 64 (λ e. omega arith), le-ltb d 64 k, le-ltb (d + 1) 64 (omega arith), s)
+
+pub turn_is : (d a b : ℕ) → rest d a b % 2 ≡ turn d a b
+unfolding turn
+turn_is d a b = refl
 
 pub turn-lt : (d a b : ℕ) → turn d a b < 2
 unfolding turn

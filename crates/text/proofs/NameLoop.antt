@@ -148,10 +148,14 @@ module _ (us : List ℕ) (i : ℕ) {c : Scalar} (e : scalar_of (drop i us) ≡ S
   end_next true h = refl
   end_next false h = rw (first-beyond.1 (h refl), drop-drop c.units i us) (omega arith)
 
-pub end_last : (all : Bool) (us : List ℕ) (i : ℕ) → i ≤ length us → length us ≤ i → end_of all us i ≡ i
+-- behind the last unit; of those beyond ASCII no place is too far
+pub end_last-beyond : (us : List ℕ) (i : ℕ) → length us ≤ i → end_of false us i ≡ i
 unfolding beyond_front
+end_last-beyond us i h = rw (drop_of_length-le us h) (omega arith)
+
+pub end_last : (all : Bool) (us : List ℕ) (i : ℕ) → i ≤ length us → length us ≤ i → end_of all us i ≡ i
 end_last true us i l h = omega arith
-end_last false us i l h = rw (drop_of_length-le us h) (omega arith)
+end_last false us i l h = end_last-beyond us i h
 
 -- the walk moves where it starts beyond ASCII
 beyond-moves : (us : List ℕ) → 0 < length us → 128 ≤ get_or us 0 0 → 0 < beyond_front us

@@ -1,6 +1,6 @@
 -- Laws of one-byte text that is ASCII: the test by bits, byte by byte, and what is written for it. Assumes nothing.
 use Rattle.std.specs.Prelude.{◌≡◌, refl, Bool, true, false, ◌&&◌, List, [], ◌∷◌, ◌++◌, ℕ, zero, suc, ◌+◌, ◌*◌, ◌-◌, ◌/◌, ◌^◌, ◌≤◌, ◌<◌, eqb, ltb, length, take, drop, get_or}
-use Rattle.std.proofs.Common.{sym, ◌∙◌, ap, arith, lt-ltb, le-ltb, ltb-true, ltb-false, ne_eqb, eqb-true, length-append, length-drop, take-append-drop, take-add, take_all, drop-drop, length-take-le}
+use Rattle.std.proofs.Common.{sym, ◌∙◌, ap, add-one, arith, lt-ltb, le-ltb, ltb-true, ltb-false, ne_eqb, eqb-true, length-append, length-drop, take-append-drop, take-suc, take-add, take_all, drop-drop, length-take-le}
 use Rattle.std.proofs.Math.Seq.{paste, take-take, take-length}
 use Rattle.base.specs.NumberLaws.{drop-take}
 use Rattle.std.proofs.lemmas.Bool.{eqb-false}
@@ -45,6 +45,13 @@ ascii-both (c ∷ s) t = rw (ascii-both s t) (go (ltb c 128) (all_ascii s) (all_
 and-true : (b : Bool) → (b && true) ≡ b
 and-true true = refl
 and-true false = refl
+
+ascii-last : (s : List ℕ) (x : ℕ) → all_ascii (s ++ x ∷ []) ≡ (all_ascii s && ltb x 128)
+ascii-last s x = ascii-both s (x ∷ []) ∙ rw (and-true (ltb x 128))
+
+-- one byte more, or one unit
+pub ascii-next : (s : List ℕ) (i all : ℕ) → i < length s → ltb all 128 ≡ all_ascii (take i s) → ltb (bit_or all (get_or s i 0)) 128 ≡ all_ascii (take (i + 1) s)
+ascii-next s i all h e = or_ascii all (get_or s i 0) ∙ rw (add-one i, take-suc s i 0 h, ascii-last (take i s) (get_or s i 0), e)
 
 -- of the bits of all bytes together
 pub fold-ascii : (s : List ℕ) (a : ℕ) → ltb (fold bit_or a s) 128 ≡ (ltb a 128 && all_ascii s)
@@ -112,6 +119,12 @@ ascii_more k s i = ap all_ascii (take-add i k s) ∙ ascii-both (take i s) (take
 pub ascii-pair : (s : List ℕ) (i : ℕ) → all_ascii (take 16 (drop i s)) ≡ (all_ascii (take 8 (drop i s)) && all_ascii (take 8 (drop (i + 8) s)))
 ascii-pair s i = rw (← drop-drop 8 i s) (ascii_more 8 (drop i s) 8)
 
+-- k bytes that are not
+pub ascii-not : (k : ℕ) (s : List ℕ) (i : ℕ) → all_ascii (take k (drop i s)) ≡ false → all_ascii s ≡ false
+ascii-not k s i f =
+    rw (← take-append-drop i s, ascii-both (take i s) (drop i s), ← take-append-drop k (drop i s), ascii-both (take k (drop i s)) (drop k (drop i s)), f)
+    (and-false (all_ascii (take i s)))
+
 -- the last k, some of which may be among those before
 pub ascii_cover : (k : ℕ) (s : List ℕ) (i last : ℕ) → last + k ≡ length s → last ≤ i → (all_ascii (take i s) && all_ascii (take k (drop last s))) ≡ all_ascii s
 ascii_cover k s i last e h =
@@ -129,6 +142,10 @@ ascii_cover k s i last e h =
     go true true d = refl
     go true false d = refl
     go false b d = refl
+
+-- where those before are
+pub ascii_end : (k : ℕ) (s : List ℕ) (i last : ℕ) → last + k ≡ length s → last ≤ i → all_ascii (take i s) ≡ true → all_ascii (take k (drop last s)) ≡ all_ascii s
+ascii_end k s i last e h f = rw f at (ascii_cover k s i last e h)
 
 -- k more, some of which may be among those before
 ascii_join : (k : ℕ) (s : List ℕ) (i at : ℕ) → at ≤ i → i ≤ at + k → at + k ≤ length s

@@ -12,7 +12,7 @@ use super::name;
 use super::name::{put_suffix, suffix_len};
 use super::text::{Part, Text};
 use base::number::{le32, le64};
-use base::output::{put_be32, put_bytes};
+use base::output::put_be32;
 
 // Whether the eight bytes from a place on are ASCII: none of them has its highest bit set.
 fn is_word(part: &[u8], i: usize) -> bool
@@ -174,7 +174,21 @@ fn put_long(out: &mut [u8], part: &[u8])
     put_sixteen(out, part, last);
 }
 
-// Bytes: up to 64 by hand, since the library's copy is a call, which takes longer than they do. Written out where it is called, as `is_plain`.
+// Sixteen bytes and more, sixteen a turn; the last sixteen may have some of those before them.
+// Kept: a loop by hand: the library copies a length that isn't known by a call of the C library's memmove, which an archive for C would need from outside;
+// and sixteen a turn, since a turn of one byte is made that call too, where the compiler sees that part and buffer have no byte in common.
+fn put_turns(out: &mut [u8], part: &[u8])
+    requires { (16 ≤ length part.now) × (length part.now ≤ length out.old) }
+    ensures { Wrote out.old part.now out.new (length part.now) }
+{
+    let n = part.len();
+    for turn in 0..n / 16 {
+        put_sixteen(out, part, 16 * turn);
+    }
+    put_sixteen(out, part, n - 16);
+}
+
+// Bytes: up to 64 by pieces at fixed places, from there on by turns, with no call of the library's copy. Written out where it is called, as `is_plain`.
 #[inline(always)]
 pub fn put_pieces(out: &mut [u8], part: &[u8])
     requires { length part.now ≤ length out.old }
@@ -188,13 +202,13 @@ pub fn put_pieces(out: &mut [u8], part: &[u8])
     } else if n <= 64 {
         put_long(out, part);
     } else {
-        put_bytes(out, part);
+        put_turns(out, part);
     }
 }
 
 // Bytes, and whether they are all ASCII. A function of its own: where the compiler writes it out in each that writes a name, reports take 1.03 of the time.
 #[inline(never)]
-fn put_plain(out: &mut [u8], part: &[u8]) -> bool
+pub fn put_plain(out: &mut [u8], part: &[u8]) -> bool
     requires { length part.now ≤ length out.old }
     ensures { (result ≡ all_ascii part.now) × Wrote out.old part.now out.new (length part.now) }
 {

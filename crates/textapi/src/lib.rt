@@ -38,14 +38,24 @@ pub extern "C" fn text_lower(c: u32) -> u32
     lower_in(c)
 }
 
-// A part as a text that the functions below take: one of fewer than 2^32 bytes; none where it is no such text.
+// Whether a part is a text that the functions below take: one of fewer than 2^32 bytes.
+// Kept: apart from `fine_text`, and over bytes and a flag: the compiler then finds where the bytes are before it branches; behind a branch it does so by way of
+// the register that holds the last result, so that each call waits for the one before.
+fn is_fine(bytes: &[u8], wide: bool) -> bool
+    ensures { result ≡ fine wide bytes.now }
+{
+    bytes.len() < 0x1_0000_0000 && is_text(Part { bytes, wide })
+}
+
+// The same as a text; none where it is no such text.
 fn fine_text<'a>(bytes: &'a [u8], wide: bool) -> Option<Text<'a>>
     ensures { MatchOption result (fine wide bytes.now ≡ false)
         (λ t. (fine wide bytes.now ≡ true) × (t.part.wide ≡ wide) × (t.part.bytes.now ≡ bytes.now)) }
 {
-    let part = Part { bytes, wide };
-    if bytes.len() < 0x1_0000_0000 && is_text(part) {
-        return Some(Text { part });
+    if is_fine(bytes, wide) {
+        return Some(Text {
+            part: Part { bytes, wide },
+        });
     }
     None
 }

@@ -1,6 +1,6 @@
 -- What the loop over the objects knows: an entry is there, the counts fit, and one object more. Assumes nothing.
 use Rattle.std.specs.Prelude.{Ok, Option}
-use mathlib.Core.Path.{◌≡◌, refl, ◌∙◌, ap}
+use mathlib.Core.Path.{◌≡◌, refl, sym, ◌∙◌, ap}
 use mathlib.Core.List.{List}
 use Prim.Native.Nat.{ℕ, ◌+◌, ◌*◌, ◌^◌, ◌≤◌, ◌<◌}
 use native.Mathlib.Omega.{arith}
@@ -12,7 +12,7 @@ use Rattle.scriptblock.proofs.ScriptFacts.{script-facts, objects-facts}
 use Rattle.scriptblock.specs.declared.script.Entry.{Entry}
 use Rattle.scriptblock.specs.declared.script.Layout.{Layout}
 use Rattle.objects.specs.Numbers.{path_no}
-use Rattle.objects.specs.Work.{LinkedOf}
+use Rattle.objects.specs.Work.{ObjectsIn, LinkedOf}
 use Rattle.hashes.specs.Hashed.{hashed_as}
 use Rattle.verify.specs.Tallies.{tallied, tally_to, tally_of}
 use Rattle.verify.specs.TallyLaws.{tallied-few, tally-more, tally-all}
@@ -59,3 +59,10 @@ pub linked-inside : (s : List ℕ) (l : Layout) → script_answer (run script 0 
 linked-inside s l a {w} b h =
     let x = objects-facts s l a b.objects b.holds.all.read in
     omega (arith, b.holds.all.entered.size, ap (λ (y : Layout). y.count) x.layout)
+
+-- the links are those of the objects that were read
+pub linked-all : {s w : List ℕ} → LinkedOf s w → (o : Objects) → run script 0 s ≡ gives o → ObjectsIn s o w
+linked-all k o q =
+    let z : gives k.objects ≡ gives o = sym k.holds.all.read ∙ q in
+    let e : k.objects ≡ o = cc in
+    rw e at k.holds

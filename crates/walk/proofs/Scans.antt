@@ -1,15 +1,34 @@
--- What the proofs of the walk's functions share: what an answer is, a package's end. Assumes nothing.
+-- What the proofs of the walk's functions share: a test turned round, what an answer is, a package's end. Assumes nothing.
 use Rattle.std.specs.Prelude.{Result, Ok, Err}
 use Rattle.std.specs.Result.{IsErrAnd}
 use Rattle.std.proofs.lemmas.Result.{err_from_is_err_and}
-use mathlib.Core.Path.{◌≡◌, sym, ◌∙◌}
+use mathlib.Core.Path.{◌≡◌, refl, sym, ◌∙◌}
+use mathlib.Core.Bool.{Bool, true, false, not}
 use mathlib.Core.List.{List}
 use Prim.Native.Nat.{ℕ, ◌+◌}
 use native.Mathlib.Omega.{arith}
 use lib.ListN.{length}
+use Rattle.base.specs.Never.{never}
+use Rattle.base.specs.declared.refusal.Refused.{Refused}
 use Rattle.packages.specs.Framing.{next_at}
 use Rattle.packages.specs.Walk.{Site}
 use Rattle.packages.specs.WalkLaws.{site-length}
+use Rattle.walk.specs.declared.walk.Census.{Census}
+
+pub not-true : (x : Bool) → not x ≡ true → x ≡ false
+not-true true h = never (cc)
+not-true false h = refl
+
+pub not-false : (x : Bool) → not x ≡ false → x ≡ true
+not-false true h = refl
+not-false false h = never (cc)
+
+-- a census is no refusal
+pub not-refused : {A : Type 0} {t : Census} {r : Refused} → ◌≡◌ {A = Result Census Refused} (Ok t) (Err r) → A
+not-refused e = never (cc)
+
+pub not-all : {A : Type 0} {t : Census} {r : Refused} → ◌≡◌ {A = Result Census Refused} (Err r) (Ok t) → A
+not-all e = never (cc)
 
 pub ok_same : {A E : Type 0} {x y : A} → ◌≡◌ {A = Result A E} (Ok x) (Ok y) → x ≡ y
 ok_same e = cc

@@ -5,7 +5,7 @@ use mathlib.Core.List.{List, ◌++◌}
 use Prim.Native.Nat.{ℕ, ◌*◌, ◌≤◌}
 use native.Mathlib.Omega.{arith}
 use lib.ListN.{length, take, drop, length-append, length-drop}
-use lib.Seq.{take_at}
+use lib.Seq.{take_at, length-take-le}
 use Rattle.base.specs.Reading.{gives, run}
 use Rattle.scriptblock.specs.Script.{Objects, script}
 use Rattle.scriptblock.specs.ScriptAnswers.{script_answer}
@@ -13,6 +13,10 @@ use Rattle.scriptblock.proofs.ScriptFacts.{script-facts}
 use Rattle.scriptblock.specs.declared.script.Layout.{Layout}
 use Rattle.objects.specs.Work.{Entered, ObjectsIn}
 use Rattle.walk.specs.Found.{Linked}
+
+-- the part that is lent
+pub front_length : (n : ℕ) (w : List ℕ) → 64 * n ≤ length w → length (take (56 * n) w) ≡ 56 * n
+front_length n w room = length-take-le (56 * n) w (omega arith)
 
 -- the buffer with another part in its place
 swapped-length : (n : ℕ) (w p : List ℕ) → 64 * n ≤ length w → length p ≡ 56 * n → length (p ++ drop (56 * n) w) ≡ length w

@@ -5,6 +5,7 @@ ghost use Rattle.base.specs.NumberLaws.{Bytes};
 ghost use Rattle.base.specs.Refusal.{number};
 ghost use Rattle.ids.specs.Id.{id_of};
 ghost use Rattle.batch.specs.Places.{place_at};
+ghost use Rattle.batch.specs.Notes.{Noted};
 ghost use Rattle.zen.specs.Zen.{no_export, package_block};
 ghost use Rattle.zen.specs.Answers.{answer, exports_of, hashes_of, numbers_of, imported_name_of, export_count, hash_count};
 ghost use Rattle.zen.specs.Lists.{names_in};
@@ -78,6 +79,20 @@ impl<'a> Package<'a> {
         ensures { result ≡ get_or (numbers_of (run_block package_block self.entry.block.now)) i 0 }
     {
         base::number::le32(self.block, self.layout.imported.end + 4 * i)
+    }
+
+    // Notes where its own names start, for who keeps the notes.
+    pub fn note_package_names(self, notes: &mut Notes)
+        ensures { Noted (take self.entry.layout.size self.entry.block.now) self.entry.layout.names notes.new.starts }
+    {
+        notes.note(self.header(), self.layout.names);
+    }
+
+    // Notes where the imported names start.
+    pub fn note_imported_names(self, notes: &mut Notes)
+        ensures { Noted (take self.entry.layout.size self.entry.block.now) self.entry.layout.imported notes.new.starts }
+    {
+        notes.note(self.header(), self.layout.imported);
     }
 
     // With one of its lists of names, which are noted in the room that is lent.

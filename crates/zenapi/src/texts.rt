@@ -12,7 +12,8 @@ use batch::texts::{place_len, put_place};
 use zen::access::Package;
 use zen::zen::NameList;
 
-// Where name i of a list is, if it has so many.
+// Where name i of a list is, if it has so many. Written out where it is called: else the package is copied to it, by a call of the C library's memcpy.
+#[inline(always)]
 fn find_name(p: Package, list: NameList, i: usize) -> Option<Place>
     ensures { MatchOption result ((names_in p.entry.layout list).count ≤ i)
         (λ q. (i < (names_in p.entry.layout list).count) × (q ≡ place_at (take p.entry.layout.size p.entry.block.now) (names_in p.entry.layout list) i)) }

@@ -12,14 +12,14 @@ eight c = few_is 8 _ _ (sym c.starts_few.ensures ∙ c.if-starts_few.true)
 four : (c : Then-starts_few-2) → Few 4 c.args.s.now c.args.at
 four c = few_is 4 _ _ (sym c.starts_few-2.ensures ∙ c.if-starts_few-2.true)
 
-pub put_few-requires : goal.put_few-requires
-put_few-requires c =
-    let f = eight (goal.at.put_few-requires c).Then-starts_few in
+pub put_eight-requires : goal.put_eight-requires
+put_eight-requires c =
+    let f = eight (goal.at.put_eight-requires c).Then-starts_few in
     (f.0, few-room c.args.s.now c.args.at c.requires.2 8 f (length c.args.out.now) c.requires.3)
 
-pub put_few-requires-then-starts_few-2 : goal.put_few-requires-then-starts_few-2
-put_few-requires-then-starts_few-2 c =
-    let f = four (goal.at.put_few-requires-then-starts_few-2 c).Then-starts_few-2 in
+pub put_few-requires : goal.put_few-requires
+put_few-requires c =
+    let f = four (goal.at.put_few-requires c).Then-starts_few-2 in
     (f.0, few-room c.args.s.now c.args.at c.requires.2 4 f (length c.args.out.now) c.requires.3)
 
 pub put_few-requires-2 : goal.put_few-requires-2

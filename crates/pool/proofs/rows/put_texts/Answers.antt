@@ -1,5 +1,5 @@
 -- `rows::put_texts` meets its contract. Assumes nothing.
-use mathlib.Core.Path.{◌≡◌, ◌∙◌}
+use mathlib.Core.Path.{◌≡◌}
 use Prim.Native.Nat.{◌≤◌}
 use native.Mathlib.Omega.{arith}
 use lib.ListN.{length, take}
@@ -14,7 +14,7 @@ returns c =
     let k = c.in_ok-k in
     let (few, is) = k.ensures in
     let e : length (take k.k c.compose_both.new.out) ≡ k.k = length-take-le k.k c.compose_both.new.out (omega (arith, few)) in
-    let v = wrote_count c.put_bytes.ensures (c.put_bytes.ensures.size ∙ e) in
+    let v = wrote_count c.put_plain.ensures.1 e in
     let h : a.free ≤ length a.w.now = omega arith in
     record {
       kept = put-kept-only a.free a.w.now h v;

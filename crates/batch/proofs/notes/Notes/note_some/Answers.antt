@@ -1,6 +1,6 @@
 -- `note_some` meets its contract: each turn notes where a name starts and goes on to the next to note.
 use native.Mathlib.Omega.{arith}
-use Rattle.batch.proofs.Noting.{going_first, going_next, going_last, going_inside, going_step}
+use Rattle.batch.proofs.Noting.{going_first, going_next, going_end, going_inside, going_step}
 use Rattle.batch.proofs.notes.Notes.note_some.Goals as goal
 
 pub loop-k-init : goal.loop-k-init
@@ -17,7 +17,7 @@ overflow_cast-self c =
 pub returns-then-n-before : goal.returns-then-n-before
 returns-then-n-before c =
     let g = rw c.step_of-step.ensures at c.loop-k.invariant in
-    record { at = λ j a b. going_last g (omega (arith, c.loop-k.self.full)) (rw c.step_of-step.ensures at c.if-n-before.true) j b }
+    going_end g (omega (arith, c.loop-k.self.full)) (rw c.step_of-step.ensures at c.if-n-before.true)
 
 pub name_start-p-requires : goal.name_start-p-requires
 name_start-p-requires c =

@@ -14,7 +14,7 @@ use Rattle.text.specs.Utf16.{unit_bytes}
 use Rattle.hashes.specs.Chain.{no_name, pieces}
 use Rattle.hashes.specs.PieceLaws.{pieces_none, Part, own-holds, own-fits, own-after, own-size, filled_none, filled-all, part_room, part_filled}
 use Rattle.batch.specs.declared.places.Name.{Name}
-use Rattle.hashes.proofs.units.PathUnits.put_pieces.Goals.{In-Some, After-min-here, After-put_piece}
+use Rattle.hashes.proofs.units.PathUnits.put_pieces.Goals.{In-Some, After-min-here, After-put_piece, in-None, in-Some+then-left-eq0}
 use Rattle.hashes.proofs.units.PathUnits.put_pieces.Goals as goal
 
 -- the last of the first objects of a chain, and those before it
@@ -79,7 +79,8 @@ pub piece_count-count-requires : goal.piece_count-count-requires
 piece_count-count-requires c =
     let d = (goal.at.piece_count-count-requires c).In-Some in
     let k = length c.next.new.self.iter.rest.now in
-    rw (object d) (c.args.self.now.sized.named.holds k (omega (arith, count d, c.loop-u.invariant.0))).small
+    let small = (c.args.self.now.sized.named.holds k (omega (arith, count d, c.loop-u.invariant.0))).small in
+    rw (object d) (omega (arith, small))
 
 pub put_piece-requires : goal.put_piece-requires
 put_piece-requires c =
@@ -111,8 +112,12 @@ pub returns : goal.returns
 returns c =
     let s = c.args.self.now in
     let l = c.loop-u in
-    let k : length l.u-iterator.iter.rest.now ≡ 0 = c.in-None.ensures.steps.0 in
-    let i = rw k at l.invariant in
-    let e : l.left ≡ 0 = omega (arith, i.3, ap length (pieces_none s.names.now s.chain.now)) in
+    let k = length l.u-iterator.iter.rest.now in
+    let e : l.left ≡ 0 = elim c.match-next.branch [
+      | in-None w ↦
+          let i = rw w.in-None.ensures.steps.0 at l.invariant in
+          omega (arith, i.3, ap length (pieces_none s.names.now s.chain.now))
+      | in-Some+then-left-eq0 w ↦ w.if-left-eq0.true
+    ] in
     let z : 2 * (c.args.n - l.left) ≡ 2 * c.args.n = omega arith in
-    rw z at (filled-all i.4 (ap (λ (n : ℕ). unit_bytes (take n (drop l.skip (pieces s.names.now s.chain.now 0)))) e))
+    rw z at (filled-all l.invariant.4 (ap (λ (n : ℕ). unit_bytes (take n (drop l.skip (pieces s.names.now s.chain.now k)))) e))

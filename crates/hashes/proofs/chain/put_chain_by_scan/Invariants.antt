@@ -1,4 +1,4 @@
--- `chain::chain_by_scan` meets its contract. The loop's invariant: the objects so far are in the chain, and the path is theirs behind that of the
+-- `chain::put_chain_by_scan` meets its contract. The loop's invariant: the objects so far are in the chain, and the path is theirs behind that of the
 -- object at hand. Assumes nothing.
 use mathlib.Core.Path.{◌≡◌}
 use Prim.Native.Nat.{◌≤◌, ◌<◌}
@@ -6,7 +6,7 @@ use lib.ListN.{length, drop}
 use Rattle.base.specs.Reading.{gives, run}
 use Rattle.scriptblock.specs.Script.{Objects, script}
 use Rattle.hashes.specs.ChainLaws.{Reached}
-use Rattle.hashes.proofs.chain.chain_by_scan.Given as goal
+use Rattle.hashes.proofs.chain.put_chain_by_scan.Given as goal
 
 abbrev pub invariant-loop-depth : goal.invariant-loop-depth
 invariant-loop-depth l =

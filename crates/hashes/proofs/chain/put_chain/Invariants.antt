@@ -1,4 +1,4 @@
--- `chain::chain_in` meets its contract. The loop's invariant: the objects so far are in the chain, and the path is theirs behind that of the object
+-- `chain::put_chain` meets its contract. The loop's invariant: the objects so far are in the chain, and the path is theirs behind that of the object
 -- at hand. Assumes nothing.
 use mathlib.Core.Path.{◌≡◌}
 use mathlib.Core.List.{List}
@@ -8,7 +8,7 @@ use Rattle.base.specs.NumberLaws.{Bytes}
 use Rattle.scriptblock.specs.Script.{Objects}
 use Rattle.objects.specs.Work.{ObjectsIn}
 use Rattle.hashes.specs.ChainLaws.{Reached}
-use Rattle.hashes.proofs.chain.chain_in.Given as goal
+use Rattle.hashes.proofs.chain.put_chain.Given as goal
 
 abbrev pub invariant-loop-depth : goal.invariant-loop-depth
 invariant-loop-depth l =

@@ -1,4 +1,4 @@
--- `packages::block::Package::meaning` meets its contract, kind by kind. Assumes nothing.
+-- `packages::block::Block::meaning_noted` meets its contract, kind by kind. Assumes nothing.
 use mathlib.Core.Path.{◌≡◌, sym, ◌∙◌, ap}
 use Rattle.std.specs.Prelude.{◌⊎◌}
 use Rattle.std.proofs.Common.{inl, inr}
@@ -19,7 +19,7 @@ use Rattle.packages.specs.declared.package.ClassKind.{ClassKind}
 use Rattle.packages.specs.declared.package.ClassKind.TheVariants.{Null, Bad}
 use Rattle.packages.specs.declared.package.Parts.{Parts}
 use Rattle.packages.specs.declared.entries.Words.{Words}
-use Rattle.packages.proofs.block.Package.meaning.Goals as goal
+use Rattle.packages.proofs.block.Block.meaning_noted.Goals as goal
 
 module _ (b : List ℕ) (p : Parts) (id x : ℕ) (a : PackageIn b p) where
   scripts : 0 ≡ kind_by p x → ◌≡◌ {A = Words} (record { lo = x; hi = 0 }) (words_of (ref_in (package_in id b) x))
@@ -50,20 +50,21 @@ module _ (b : List ℕ) (p : Parts) (id x : ℕ) (a : PackageIn b p) where
       go (no e) = sym (ap words_of (in_bad_export a id x (sym q ∙ ap class_code n) e))
 
 pub returns-in-Script : goal.returns-in-Script
-returns-in-Script c = scripts _ _ _ _ c.args.self.now.block.accepted c.in-Script.ensures
+returns-in-Script c = scripts _ _ _ _ c.args.self.now.accepted c.in-Script.ensures
 
 pub export-requires : goal.export-requires
-export-requires c = exported _ _ 0 _ c.args.self.now.block.accepted c.in-Export.ensures
+export-requires c = exported _ _ 0 _ c.args.self.now.accepted c.in-Export.ensures
 
 pub returns-in-Export : goal.returns-in-Export
-returns-in-Export c = exports _ _ _ _ c.args.self.now.block.accepted _ _ c.in-Export.ensures c.export.ensures c.keyed.ensures
+returns-in-Export c = exports _ _ _ _ c.args.self.now.accepted _ _ c.in-Export.ensures c.export.ensures c.keyed.ensures
 
 pub import_key-requires : goal.import_key-requires
 import_key-requires c =
-    imported _ _ c.args.id _ c.args.self.now.block.accepted c.in-Import.ensures
+    let (name, hash) = imported _ _ c.args.id _ c.args.self.now.accepted c.in-Import.ensures in
+    (c.requires.0, c.requires.1, name, hash)
 
 pub returns-in-Import : goal.returns-in-Import
-returns-in-Import c = imports _ _ _ _ c.args.self.now.block.accepted _ c.in-Import.ensures c.import_key.ensures
+returns-in-Import c = imports _ _ _ _ c.args.self.now.accepted _ c.in-Import.ensures c.import_key.ensures
 
 pub returns-in-Null : goal.returns-in-Null
-returns-in-Null c = others _ _ _ _ c.args.self.now.block.accepted _ c.kind_of.ensures c.in-Null.is
+returns-in-Null c = others _ _ _ _ c.args.self.now.accepted _ c.kind_of.ensures c.in-Null.is
