@@ -1,7 +1,8 @@
 -- The kinds of candidates and of class references by their numbers in a report (document 01: "kind 1", "kind 2"; "class kinds 0 to 7: script found,
 -- script unresolved, import found, import unresolved, export found, export unresolved, null, bad"). Assumes nothing.
 use Rattle.std.specs.Prelude.{◌≡◌, refl, cond, eqb, Bool, true, false, ℕ, zero, suc, ◌≤◌, Option, Some, None}
-use Rattle.std.proofs.Common.{arith}
+use Rattle.std.proofs.Common.{sym, ◌∙◌, ap, arith}
+use borrow.Author.Tests.{eqb-true}
 use Rattle.packages.specs.declared.package.ClassKind.{ClassKind}
 use Rattle.packages.specs.declared.package.ClassKind.TheVariants.{Script, Import, Export, Null, Bad}
 use Rattle.packages.specs.declared.rows.Candidate.{Candidate}
@@ -43,3 +44,18 @@ number-of zero l = refl
 number-of (suc zero) l = refl
 number-of (suc (suc zero)) l = refl
 number-of (suc (suc (suc n))) l = absurd (omega (arith, l))
+
+-- number 1, and no other, is that of kind 1
+pub variable-number : (n : ℕ) → is_variable (candidate_of n) ≡ eqb n 1
+variable-number n = go (eqb n 1) (eqb n 2)
+  where
+    go : (s t : Bool) → is_variable (cond s (Some Variable) (cond t (Some Subobject) None)) ≡ s
+    go true t = refl
+    go false true = refl
+    go false false = refl
+
+pub one-number : (n : ℕ) → candidate_of n ≡ Some Variable → n ≡ 1
+one-number n e = eqb-true n 1 (sym (variable-number n) ∙ ap is_variable e)
+
+pub number-one : (n : ℕ) → n ≡ 1 → candidate_of n ≡ Some Variable
+number-one n e = rw e

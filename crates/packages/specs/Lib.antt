@@ -7,6 +7,7 @@ pub mod Package
 pub mod Meaning
 pub mod RefBytes
 pub mod Row
+pub mod Numbered
 pub mod Walk
 -- ==== Laws
 pub mod FramingLaws
@@ -17,3 +18,4 @@ pub mod MeaningLaws
 pub mod RefBytesLaws
 pub mod RowLaws
 pub mod ClassPath
+pub mod NumberedLaws

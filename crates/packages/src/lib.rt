@@ -11,4 +11,5 @@ pub mod names; // names behind a text
 pub mod reference; // the text of a reference
 pub mod rows; // candidates, and the names of their rows
 pub mod class_path; // the path of a class
+pub mod numbered; // rows that say their kind by a number
 pub mod described; // a package and its exports from where their names start

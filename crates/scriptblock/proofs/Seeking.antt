@@ -7,6 +7,7 @@ use Rattle.std.proofs.lemmas.List.FromFn.{length-range_with_len, get_or-range_wi
 use mathlib.Core.Path.{◌≡◌, sym, ◌∙◌}
 use mathlib.Core.List.{List}
 use Prim.Native.Nat.{ℕ, ◌+◌, ◌*◌, ◌≤◌, ◌<◌}
+use Rattle.std.proofs.Math.Decide.{ℕ_discrete}
 use native.Mathlib.Numerals.{add-one}
 use native.Mathlib.Omega.{arith}
 use lib.ListN.{length, get_or}
@@ -33,6 +34,14 @@ all_in_range n false Yes No h =
     let l : h.0 < n = omega (arith, length-range_with_len 0 n, h.1) in
     let e : get_or (range_with_len 0 n) h.0 0 ≡ h.0 = omega (arith, get_or-range_with_len 0 n h.0 0 l) in
     (h.0, l, rw e at (h.2 0))
+
+-- what holds of each number below i, and of i, holds of each below the next
+pub one_more_asked : (Yes : ℕ → Type 0) (i : ℕ) → ((k : ℕ) → k < i → Yes k) → Yes i → (k : ℕ) → k < i + 1 → Yes k
+one_more_asked Yes i below here k h = go (ℕ_discrete k i)
+  where
+    go : Dec (k ≡ i) → Yes k
+    go (yes e) = rw e here
+    go (no n) = below k (omega (arith, h, n))
 
 module _ (b : List ℕ) (g : ℕ) where
   -- whether an entry's global index is another

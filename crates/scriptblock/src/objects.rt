@@ -16,8 +16,12 @@ impl<'a> ScriptBlock<'a> {
     pub fn find(&self, global: u64) -> Option<usize>
         ensures { one_more result ≡ entry_number global (entries_of (run script 0 self.now.bytes.now)) }
     {
-        (0..self.layout.count).find(|i| le64(self.bytes, self.layout.entries + 32 * *i + 8)
-            == global)
+        for i in 0..self.layout.count {
+            if le64(self.bytes, self.layout.entries + 32 * i + 8) == global {
+                return Some(i);
+            }
+        }
+        None
     }
 
     // Notes where its names start, for who keeps the notes.

@@ -41,16 +41,12 @@ fn put_pair(out: &mut [u8], u: u32, v: u32)
     out[..6].copy_from_slice(&bytes[..6]);
 }
 
-// Whether the two units from a place on are such. The second is asked only where the first is: most of what is beyond ASCII in Europe's scripts takes two
-// bytes, and one test tells that.
+// Whether the two units from a place on are such.
 fn starts_three(part: Part, i: usize) -> bool
     requires { i ≤ length (units_in part) }
     ensures { result ≡ starts_three (drop i (units_in part.entry)) }
 {
-    if part.count() - i < 2 {
-        return false;
-    }
-    is_three(part.unit(i)) && is_three(part.unit(i + 1))
+    2 <= part.count() - i && is_three(part.unit(i)) & is_three(part.unit(i + 1))
 }
 
 // The bytes of the units from a place on as long as two of them are such. One-byte text has none.

@@ -1,18 +1,15 @@
 -- `section::put_each` meets its contract. The loop's invariant: the rows of the first candidates are written. Assumes nothing.
 use mathlib.Core.Path.{◌≡◌, refl, ◌∙◌}
-use mathlib.Core.Bool.{Bool, true, false, cond}
 use mathlib.Core.List.{List, ◌++◌}
 use Prim.Native.Nat.{ℕ, ◌+◌, ◌*◌, ◌-◌, ◌/◌, ◌≤◌, ◌<◌}
 use native.Mathlib.Omega.{arith}
 use lib.ListN.{length, take, drop, get_or}
 use Rattle.base.specs.Number.{le_at}
 use Rattle.base.specs.Output.{Wrote}
-use Rattle.text.specs.Affix.{starts_with, ends_with}
-use Rattle.base.specs.Find.{option}
-use Rattle.zen.specs.Zen.{Read, no_export, base_of}
-use Rattle.zen.specs.declared.tables.Export.{Export}
-use Rattle.meaning.specs.Scan.{candidates, candidate_kind, outer_of, gen_variable, default_start}
+use Rattle.zen.specs.Zen.{no_export}
+use Rattle.meaning.specs.Scan.{candidates}
 use Rattle.packages.specs.Kinds.{number-of}
+use Rattle.packages.specs.NumberedLaws.{candidate-small}
 use Rattle.packages.specs.Package.{read_in, package_in, PackageIn}
 use Rattle.packages.specs.declared.package.Parts.{Parts}
 use Rattle.packages.specs.PackageLaws.{export_count_lem}
@@ -70,16 +67,6 @@ holds-size c = let (id, h, a) = c.requires.by_index in filled-inside (c.loop-r.i
 behind : (first r : ℕ) → first ≤ r → r ≡ first + (r - first)
 behind first r h = omega arith
 
--- candidates are of kind 1 and 2
-kind-small : (r : Read) (e : Export) → candidate_kind r e ≤ 2
-unfolding candidate_kind
-kind-small r e = go (ends_with (base_of r e) gen_variable) (option false (λ (u : Export). starts_with (base_of r u) default_start) (outer_of r e))
-  where
-    go : (s t : Bool) → cond s 1 (cond t 2 0) ≤ 2
-    go true t = omega arith
-    go false true = omega arith
-    go false false = omega arith
-
 found : (c : Else-end-mark) → RowTold c.args.p.now.block.bytes.now c.args.step (c.loop-r.r - c.args.first) c.mark_at-mark.result
 found c = told (c.loop-r.r - c.args.first) (behind c.args.first c.loop-r.r c.loop-r.auto.r) c.args.p.now.block.accepted c.requires.rows_marked.0 (rw c.rest.ensures at c.mark_at-mark.ensures.0) c.if-end-mark.false c.loop-r-test.true
 
@@ -131,7 +118,7 @@ put_export-size-requires c =
     let (id, h, a) = c.requires.by_index in
     record {
       inside = omega (arith, t.inside, export_count_lem c.args.p.now.block.accepted);
-      kind_value = rw c.candidate_in.ensures (number-of _ (rw t.kind (kind-small (read_in c.args.p.now.block.bytes.now) _)) ∙ t.kind);
+      kind_value = rw c.candidate_in.ensures (number-of _ (rw t.kind (candidate-small (read_in c.args.p.now.block.bytes.now) _)) ∙ t.kind);
       by_index = (id, h, lent p id h a);
     }
 
